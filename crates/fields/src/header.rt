@@ -1,0 +1,38 @@
+// The header of a field: a one-byte tag and a two-byte length before the payload.
+ghost use mathlib.Core.Path.{_≡_};
+ghost use Prim.Native.Nat.{_≤_};
+ghost use lib.ListN.{length};
+ghost use Rattle.fields.specs.Header.{headerAt, Inside};
+
+// What stands where a field is expected.
+pub enum Header {
+    // Fewer than three bytes are left, or the length passes the end.
+    Cut,
+    // The payload is the bytes from start up to end.
+    Field { tag: u8, start: usize, end: usize },
+}
+
+impl Header {
+    // The bytes of a header.
+    pub const SIZE: usize = 3;
+}
+
+// The field expected at a place inside an enclosing end.
+pub fn read_header(b: &[u8], at: usize, end: usize) -> Header
+    requires { ⌜ (at ≤ end) × (end ≤ length (now b)) ⌝ }
+    ensures { λ r. ⌜ (r ≡ headerAt (now (b .entry)) at end) × Inside at end r ⌝ }
+{
+    if end - at < Header::SIZE {
+        return Header::Cut;
+    }
+    let start = at + Header::SIZE;
+    let size = crate::number::two_bytes(b, at + 1);
+    if end - start < size {
+        return Header::Cut;
+    }
+    Header::Field {
+        tag: b[at],
+        start,
+        end: start + size,
+    }
+}

@@ -1,0 +1,37 @@
+// Unsigned numbers in bytes, the most significant byte first.
+ghost use mathlib.Core.Path.{_≡_};
+ghost use Prim.Native.Nat.{_+_, _≤_, _<_};
+ghost use lib.ListN.{length};
+ghost use Rattle.fields.specs.Numbers.{numberAt};
+
+// A byte at the width of an index.
+pub fn widen(x: u8) -> usize
+    ensures { λ r. ⌜ (r ≡ x) × (r < 256) ⌝ }
+{
+    x as usize
+}
+
+fn widen32(x: u8) -> u32
+    ensures { λ r. ⌜ (r ≡ x) × (r < 256) ⌝ }
+{
+    x as u32
+}
+
+// The number of two bytes at a place.
+pub fn two_bytes(b: &[u8], at: usize) -> usize
+    requires { ⌜ at + 2 ≤ length (now b) ⌝ }
+    ensures { λ r. ⌜ (r ≡ numberAt (now (b .entry)) at 2) × (r < 65536) ⌝ }
+{
+    widen(b[at]) * 256 + widen(b[at + 1])
+}
+
+// The number of four bytes at a place.
+pub fn four_bytes(b: &[u8], at: usize) -> u32
+    requires { ⌜ at + 4 ≤ length (now b) ⌝ }
+    ensures { λ r. ⌜ r ≡ numberAt (now (b .entry)) at 4 ⌝ }
+{
+    widen32(b[at]) * 16777216
+        + widen32(b[at + 1]) * 65536
+        + widen32(b[at + 2]) * 256
+        + widen32(b[at + 3])
+}
