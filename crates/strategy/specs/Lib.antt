@@ -1,0 +1,10 @@
+pub mod Bools
+pub mod Assignment
+pub mod AssignmentLaws
+pub mod Due
+pub mod DueLaws
+pub mod Strategy
+pub mod Turns
+pub mod Optimality
+pub mod Ours
+pub mod OursLaws
