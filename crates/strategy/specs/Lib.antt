@@ -8,3 +8,7 @@ pub mod Turns
 pub mod Optimality
 pub mod Ours
 pub mod OursLaws
+pub mod Tree
+pub mod TreeLaws
+pub mod Alone
+pub mod AloneLaws
