@@ -12,3 +12,7 @@ pub mod Tree
 pub mod TreeLaws
 pub mod Alone
 pub mod AloneLaws
+pub mod PartialLaws
+pub mod Live
+pub mod LiveLaws
+pub mod SettleLaws
