@@ -1,0 +1,80 @@
+-- The check of a payload, path by path, and what a valid payload gives.
+use Prim.Native.Nat.{ℕ, zero, suc, _-_, _≤_, _<_}
+use native.Mathlib.Omega.{arith}
+use mathlib.Core.Path.{_≡_, refl, sym, ap, _∙_}
+use mathlib.Core.Bool.{Bool, true, false, _&&_}
+use mathlib.Core.List.{List, [], _∷_}
+use lib.ListN.{length, getD, take, drop, length-drop}
+use lib.Seq.{take-all}
+use lib.Dec.{ltb, leb, eqb}
+use borrow.Author.Tests.{lt-ltb, le-leb, le-ltb, lt-leb, eq-eqb, ltb-true, leb-true, eqb-true}
+use Rattle.catalogue.specs.Catalogue.{Catalogue, Column}
+use Rattle.predicate.specs.Meaning.{plainKind}
+use Rattle.predicate.specs.Outcome.{HasRange}
+use Rattle.predicate.specs.Payload.{tagOf, tagsIn, tagsOf, columnByte, kindByte, operandOf, kindFits, rangeFits, operandFits, validPayload}
+use Rattle.predicate.proofs.Tests.{and-left, and-right}
+
+module _ (tags payload : List ℕ) where
+  pub payload-short : length payload < 2 → false ≡ validPayload tags payload
+  unfolding validPayload
+  payload-short h = rw (lt-leb 2 (length payload) h)
+
+  module _ (two : 2 ≤ length payload) (column : ℕ) (column-is : column ≡ columnByte payload) where
+    pub payload-no-column : length tags ≤ column → false ≡ validPayload tags payload
+    unfolding validPayload
+    payload-no-column h = rw (le-leb 2 (length payload) two, ← column-is, le-ltb column (length tags) h)
+
+    module _ (inside : column < length tags) (kind : ℕ) (kind-is : kind ≡ plainKind (kindByte payload))
+        (fits : Bool) (fits-is : fits ≡ kindFits (getD tags column 0) kind) where
+      pub payload-no-kind : fits ≡ false → false ≡ validPayload tags payload
+      unfolding validPayload
+      payload-no-kind h =
+          rw (le-leb 2 (length payload) two, ← column-is, lt-ltb column (length tags) inside, ← kind-is, ← fits-is, h)
+
+      -- the operand is handed on as a part, up to the payload's end
+      pub payload-operand : fits ≡ true → (r : Bool) → r ≡ operandFits kind (take (length payload - 2) (drop 2 payload)) →
+          r ≡ validPayload tags payload
+      unfolding validPayload
+      payload-operand h r r-is =
+          let whole : take (length payload - 2) (drop 2 payload) ≡ drop 2 payload =
+          take-all (length payload - 2) (drop 2 payload) (rw length-drop (omega arith)) in
+          rw (le-leb 2 (length payload) two, ← column-is, lt-ltb column (length tags) inside, ← kind-is, ← fits-is, h)
+          (rw whole at r-is)
+
+-- what a valid payload gives to the outcome
+pub record Valid (tags payload : List ℕ) : Type 0 where
+  pub head : 2 ≤ length payload
+  pub column : columnByte payload < length tags
+  pub kind : kindFits (getD tags (columnByte payload) 0) (plainKind (kindByte payload)) ≡ true
+  pub range : HasRange (plainKind (kindByte payload)) (operandOf payload)
+
+range-size : (kind : ℕ) (o : List ℕ) → operandFits kind o ≡ true → HasRange kind o
+unfolding operandFits rangeFits
+range-size kind o h e =
+    let size : length o ≡ 8 = eqb-true _ _ (and-left _ _ (rw (eq-eqb kind 0 e) at h)) in omega arith
+
+pub valid-payload : (tags payload : List ℕ) → validPayload tags payload ≡ true → Valid tags payload
+unfolding validPayload
+valid-payload tags payload h =
+    let after-head = and-right (leb 2 (length payload)) _ h in
+    let after-column = and-right (ltb (columnByte payload) (length tags)) _ after-head in
+    let after-kind = and-right (kindFits (getD tags (columnByte payload) 0) (plainKind (kindByte payload))) _ after-column in
+    record {
+      head = leb-true 2 (length payload) (and-left _ _ h);
+      column = ltb-true _ _ (and-left _ _ after-head);
+      kind = and-left _ _ after-column;
+      range = range-size (plainKind (kindByte payload)) (operandOf payload) after-kind;
+    }
+
+-- the tags of a catalogue's columns, column by column
+
+pub tags-length : (cs : List Column) → length (tagsIn cs) ≡ length cs
+unfolding tagsIn
+tags-length [] = refl
+tags-length (c ∷ cs) = ap suc (tags-length cs)
+
+pub tags-at : (cs : List Column) (k : ℕ) (other : Column) → k < length cs → getD (tagsIn cs) k 0 ≡ tagOf (getD cs k other)
+unfolding tagsIn
+tags-at [] k other h = absurd (omega arith)
+tags-at (c ∷ cs) zero other h = refl
+tags-at (c ∷ cs) (suc k) other h = tags-at cs k other (omega arith)

@@ -1,0 +1,3 @@
+pub mod Meaning
+pub mod Outcome
+pub mod Payload

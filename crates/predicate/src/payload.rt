@@ -1,0 +1,82 @@
+// The check of one condition's payload: column byte, kind byte, operand.
+ghost use mathlib.Core.Path.{_≡_};
+ghost use Rattle.predicate.specs.Payload.{kindFits, operandFits, rangeFits, validPayload};
+
+pub struct Payload;
+
+impl Payload {
+    // The bytes before the operand.
+    pub const HEAD: usize = 2;
+    // The bytes of a range's operand.
+    pub const RANGE_SIZE: usize = 8;
+    // The most bytes of a text's operand.
+    pub const TEXT_LIMIT: usize = 23;
+
+    pub const NUMBER_TAG: u8 = 78;
+
+    pub const TEXT_TAG: u8 = 84;
+}
+
+// Whether a kind below the opposites exists and is of a column with this tag.
+fn kind_fits(tag: u8, kind: u8) -> bool
+    ensures { λ r. ⌜ r ≡ kindFits tag kind ⌝ }
+{
+    if kind <= crate::kind::Kind::NUMBER_BLANK {
+        return tag == Payload::NUMBER_TAG;
+    }
+    if kind <= crate::kind::Kind::TEXT_BLANK {
+        return tag == Payload::TEXT_TAG;
+    }
+    false
+}
+
+fn range_fits(operand: &[u8]) -> bool
+    ensures { λ r. ⌜ r ≡ rangeFits (now (operand .entry)) ⌝ }
+{
+    if operand.len() != Payload::RANGE_SIZE {
+        return false;
+    }
+    let low = fields::number::four_bytes(operand, 0);
+    let high = fields::number::four_bytes(operand, crate::number::Number::SIZE);
+    if high < low {
+        return false;
+    }
+    high < crate::number::Number::BLANK
+}
+
+// Whether an operand has the length and the range that its kind asks.
+fn operand_fits(kind: u8, operand: &[u8]) -> bool
+    ensures { λ r. ⌜ r ≡ operandFits kind (now (operand .entry)) ⌝ }
+{
+    if kind == crate::kind::Kind::RANGE {
+        return range_fits(operand);
+    }
+    if kind == crate::kind::Kind::NUMBER_BLANK {
+        return operand.len() == 0;
+    }
+    if kind == crate::kind::Kind::TEXT_BLANK {
+        return operand.len() == 0;
+    }
+    if operand.len() == 0 {
+        return false;
+    }
+    operand.len() <= Payload::TEXT_LIMIT
+}
+
+// Whether a payload is a condition over columns with these tags.
+pub fn payload_is_valid(tags: &[u8], payload: &[u8]) -> bool
+    ensures { λ r. ⌜ r ≡ validPayload (now (tags .entry)) (now (payload .entry)) ⌝ }
+{
+    if payload.len() < Payload::HEAD {
+        return false;
+    }
+    let column = fields::number::widen(payload[0]);
+    if tags.len() <= column {
+        return false;
+    }
+    let kind = crate::kind::plain_kind(payload[1]);
+    if !kind_fits(tags[column], kind) {
+        return false;
+    }
+    operand_fits(kind, &payload[Payload::HEAD..])
+}
