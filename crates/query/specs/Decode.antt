@@ -1,0 +1,106 @@
+-- A query's bytes as values; the checks in document 01's order, front to back, the first that fails decides.
+use Prim.Native.Nat.{ℕ, zero, suc, _+_, _-_, _*_}
+use mathlib.Core.Bool.{Bool, true, false, _&&_, _||_}
+use mathlib.Core.List.{List, [], _∷_, _++_}
+use lib.ListN.{length, take, drop}
+use lib.Dec.{leb, eqb}
+use Rattle.fields.specs.declared.header.Header.{Header}
+use Rattle.fields.specs.declared.header.Header.the-variants.{Cut, Field}
+use Rattle.fields.specs.Decoded.{Decoded, refused, accepted, either}
+use Rattle.fields.specs.Header.{headerAt}
+use Rattle.catalogue.specs.Catalogue.{Catalogue}
+use Rattle.strategy.specs.Tree.{Tree, leaf, group, Forest, none, more}
+use Rattle.predicate.specs.Meaning.{Predicate, same}
+use Rattle.predicate.specs.Payload.{tagsOf, validPayload, predicateOf, payloadHead}
+use Rattle.query.specs.declared.member.MemberField.{MemberField}
+use Rattle.query.specs.declared.member.MemberField.the-variants as field
+use Rattle.query.specs.Format.{conjunctionTag, disjunctionTag, predicateTag, predicateLimit, depthLimit, memberCut, unknownTag, emptyGroup, tooDeep, invalidPayload, tooManyPredicates, repeatedPayload, bytesAfterQuery}
+use Rattle.query.specs.Query.{Query}
+
+-- the bytes of a payload
+unfoldable pub payloadAt : List ℕ → (start end : ℕ) → List ℕ
+payloadAt q start end = take (end - start) (drop start q)
+
+-- a predicate's payload again: "column byte, kind byte, operand"
+abbrev pub payloadOf : Predicate → List ℕ
+payloadOf p = p .column ∷ p .kind ∷ p .operand
+
+unfoldable pub isRepeated : (payload : List ℕ) → (earlier : List Predicate) → Bool
+isRepeated payload [] = false
+isRepeated payload (p ∷ ps) = same payload (payloadOf p) || isRepeated payload ps
+
+-- "Condition: 12, .. 11, .. 13, .."
+unfoldable pub predicateField : (tags q : List ℕ) → (earlier : List Predicate) → (start end : ℕ) → MemberField
+predicateField tags q earlier start end =
+    either (leb predicateLimit (length earlier)) (field.Refused tooManyPredicates)
+    (either (validPayload tags (payloadAt q start end))
+    (either (isRepeated (payloadAt q start end) earlier) (field.Refused repeatedPayload) (field.Leaf start end))
+    (field.Refused invalidPayload))
+
+-- "Group: 10, deeper than 8; 9, empty"; `depth` groups enclose it
+unfoldable pub groupField : (depth tag start end : ℕ) → MemberField
+groupField depth tag start end =
+    either (leb depthLimit depth) (field.Refused tooDeep) (either (eqb start end) (field.Refused emptyGroup) (field.Group tag start end))
+
+-- "At each field: 7, .. 8, .."
+unfoldable pub memberField : (tags q : List ℕ) → (depth : ℕ) → (earlier : List Predicate) → Header → MemberField
+memberField tags q depth earlier Cut = field.Refused memberCut
+memberField tags q depth earlier (Field tag start end) =
+    either (eqb tag predicateTag) (predicateField tags q earlier start end)
+    (either (eqb tag conjunctionTag || eqb tag disjunctionTag) (groupField depth tag start end) (field.Refused unknownTag))
+
+-- what a reading gives: a refusal, or a value, the predicates read and the place after them
+pub data Read (A : Type 0) : Type 0 where
+  stopped : ℕ → Read A
+  read : A → List Predicate → ℕ → Read A
+
+-- the outcome that settles a group: no for all-of, yes for any-of
+abbrev pub settling : (tag : ℕ) → Bool
+settling tag = eqb tag disjunctionTag
+
+abbrev pub asGroup : (tag : ℕ) → Read (Forest ℕ) → Read (Tree ℕ)
+asGroup tag (stopped e) = stopped e
+asGroup tag (read f ps next) = read (group (settling tag) f) ps next
+
+-- a member, from its field; its number is how many predicates stand before it
+abbrev pub fieldThen : (q : List ℕ) → (number : ℕ) → MemberField → (ℕ → ℕ → Read (Forest ℕ)) → Read (Tree ℕ)
+fieldThen q number (field.Refused e) members = stopped e
+fieldThen q number (field.Leaf start end) members = read (leaf number) (predicateOf (start + payloadHead) (payloadAt q start end) ∷ []) end
+fieldThen q number (field.Group tag start end) members = asGroup tag (members start end)
+
+abbrev pub putBefore : Tree ℕ → List Predicate → Read (Forest ℕ) → Read (Forest ℕ)
+putBefore t ps (stopped e) = stopped e
+putBefore t ps (read f rest next) = read (more t f) (ps ++ rest) next
+
+abbrev pub memberThen : Read (Tree ℕ) → (List Predicate → ℕ → Read (Forest ℕ)) → Read (Forest ℕ)
+memberThen (stopped e) rest = stopped e
+memberThen (read t ps next) rest = putBefore t ps (rest ps next)
+
+abbrev pub unlessEnd : Bool → (at : ℕ) → Read (Forest ℕ) → Read (Forest ℕ)
+unlessEnd true at r = read none [] at
+unlessEnd false at r = r
+
+-- a member, and the members up to an end: "A group holds members and a member may be a group again".
+-- The first argument bounds the calls; twice the bytes left is always enough.
+unfoldable mutual
+  pub member : ℕ → (tags q : List ℕ) → (at end depth : ℕ) → (earlier : List Predicate) → Read (Tree ℕ)
+  member zero tags q at end depth earlier = stopped 0
+  member (suc k) tags q at end depth earlier =
+      fieldThen q (length earlier) (memberField tags q depth earlier (headerAt q at end)) (λ s e. members k tags q s e (depth + 1) earlier)
+
+  pub members : ℕ → (tags q : List ℕ) → (at end depth : ℕ) → (earlier : List Predicate) → Read (Forest ℕ)
+  members zero tags q at end depth earlier = stopped 0
+  members (suc k) tags q at end depth earlier =
+      unlessEnd (eqb at end) at (memberThen (member k tags q at end depth earlier) (λ ps next. members k tags q next end depth (earlier ++ ps)))
+
+-- "The question is one field of these"; "At the end: 14, bytes left over"
+abbrev pub wholeQuery : List ℕ → Read (Tree ℕ) → Decoded Query
+wholeQuery q (stopped e) = refused e
+wholeQuery q (read t ps next) = either (eqb next (length q)) (accepted (record { tree = t; predicates = ps })) (refused bytesAfterQuery)
+
+-- a question against a catalogue whose columns have these tags
+unfoldable pub decodeTagged : (tags q : List ℕ) → Decoded Query
+decodeTagged tags q = wholeQuery q (member (2 * length q + 1) tags q 0 (length q) 0 [])
+
+unfoldable pub decodeQuery : Catalogue → List ℕ → Decoded Query
+decodeQuery c q = decodeTagged (tagsOf c) q

@@ -1,0 +1,3 @@
+// Document 01's question: read, checked, numbered.
+pub mod format;
+pub mod member;
