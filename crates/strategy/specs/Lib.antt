@@ -16,3 +16,11 @@ pub mod PartialLaws
 pub mod Live
 pub mod LiveLaws
 pub mod SettleLaws
+pub mod Climb
+pub mod ClimbLaws
+pub mod Order
+pub mod OrderLaws
+pub mod OrderCheck
+pub mod Walk
+pub mod Row
+pub mod RowLaws
