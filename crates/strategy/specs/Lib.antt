@@ -8,6 +8,7 @@ pub mod Turns
 pub mod Optimality
 pub mod Ours
 pub mod OursLaws
+pub mod TraceLaws
 pub mod Tree
 pub mod TreeLaws
 pub mod Alone
@@ -24,3 +25,4 @@ pub mod OrderCheck
 pub mod Walk
 pub mod Row
 pub mod RowLaws
+pub mod Mistakes

@@ -1,9 +1,8 @@
 -- The check of an order by a set of seen numbers is the check of its definition; its steps as a loop takes them.
-use Prim.Native.Nat.{ℕ, zero, suc, _+_, _≤_, _<_}
-use native.Mathlib.Omega.{arith}
+use Prim.Native.Nat.{ℕ, _+_, _≤_, _<_}
 use native.Mathlib.Numerals.{add-one}
 use mathlib.Core.Path.{_≡_, refl, sym, ap, _∙_, subst}
-use mathlib.Core.Bool.{Bool, true, false, _&&_, _||_, not, and-false}
+use mathlib.Core.Bool.{Bool, true, false, _&&_, not, and-false}
 use mathlib.Core.Logic.{_⊎_, inl, inr}
 use mathlib.Core.List.{List, [], _∷_}
 use lib.Dec.{eqb, ltb}
@@ -11,7 +10,7 @@ use lib.ListN.{length, getD, drop, drop-of-length-le}
 use lib.Seq.{drop-cons}
 use Rattle.strategy.specs.Bools.{clash, not-true, not-of-true, iff-eq, both, and-parts, or-cases, or-left, or-right, eqb-self, eqb-eq, ltb-yes, ltb-no, ltb-lt}
 use Rattle.strategy.specs.Assignment.{Among, Once}
-use Rattle.strategy.specs.Order.{allBelow, isOrder, Order, add, checks}
+use Rattle.strategy.specs.Order.{allBelow, isOrder, add, checks}
 use Rattle.strategy.specs.OrderLaws.{allBelow-gives, allBelow-of, order-law}
 
 -- what the check of the rest asks

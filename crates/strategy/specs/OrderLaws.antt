@@ -1,18 +1,16 @@
 -- An accepted order holds exactly the numbers below n, each once, and the check by a set accepts just these.
 use Prim.Native.Nat.{ℕ, zero, suc, _+_, _≤_, _<_}
 use native.Mathlib.Omega.{arith}
-use native.Mathlib.Numerals.{add-one}
 use mathlib.Core.Path.{_≡_, refl, sym, ap, _∙_, subst}
-use mathlib.Core.Bool.{Bool, true, false, _&&_, _||_, not, cond}
+use mathlib.Core.Bool.{Bool, true, false, _&&_, cond}
 use mathlib.Core.Logic.{_↔_, _⊎_, inl, inr}
 use mathlib.Core.List.{List, [], _∷_}
 use lib.Dec.{eqb, ltb}
-use lib.ListN.{length, getD, drop, drop-of-length-le}
-use lib.Seq.{drop-cons}
-use Rattle.strategy.specs.Bools.{which, clash, not-true, not-of-true, iff-eq, both, and-parts, or-cases, or-left, or-right, eqb-self, eqb-eq, eqb-ne, same?, ltb-yes, ltb-no, ltb-lt, ltb-le}
+use lib.ListN.{length}
+use Rattle.strategy.specs.Bools.{which, both, and-parts, eqb-self, eqb-eq, eqb-ne, same?, ltb-yes, ltb-no, ltb-lt, ltb-le}
 use Rattle.strategy.specs.Assignment.{Among, Once}
 use Rattle.strategy.specs.AssignmentLaws.{among?}
-use Rattle.strategy.specs.Order.{occurrences, allBelow, isOrder, Order, add, checks}
+use Rattle.strategy.specs.Order.{occurrences, allBelow, isOrder, Order}
 
 pub allBelow-gives : (n : ℕ) (P : ℕ → Bool) → allBelow n P ≡ true → (c : ℕ) → c < n → P c ≡ true
 unfolding allBelow

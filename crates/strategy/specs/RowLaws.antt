@@ -1,8 +1,8 @@
 -- A row worked through gives the trace and the tree's value; and the same for a loop over the order's places.
 use Prim.Native.Nat.{ℕ, _+_, _≤_, _<_}
 use native.Mathlib.Numerals.{add-one}
-use mathlib.Core.Path.{_≡_, refl, sym, ap, ap₂, _∙_, subst}
-use mathlib.Core.Bool.{Bool, true, false}
+use mathlib.Core.Path.{_≡_, refl, sym, ap, _∙_, subst}
+use mathlib.Core.Bool.{true, false}
 use mathlib.Core.Logic.{_⊎_, inl, inr}
 use mathlib.Core.List.{List, [], _∷_, _++_, append-assoc}
 use lib.ListN.{length, getD, drop, drop-of-length-le}
@@ -16,7 +16,7 @@ use Rattle.strategy.specs.Tree.{Tree, eval, size, Numbered, NonEmpty}
 use Rattle.strategy.specs.Live.{Live, Step, probed}
 use Rattle.strategy.specs.Climb.{enclosing, climb}
 use Rattle.strategy.specs.Walk.{Walk, walk-start, walk-end, walk-due, walk-pass, walk-probe, walk-last, trace-pass, trace-probe}
-use Rattle.strategy.specs.Row.{Result, lastOr, turnOf, walk}
+use Rattle.strategy.specs.Row.{lastOr, turnOf, walk}
 
 walk-from : (t : Tree ℕ) → Numbered t 0 → (a : Assignment) (cs : List ℕ) (live : Live) → Walk t a cs live
     → walk t a cs live ≡ record { probes = trace (eval t) a cs; answer = eval t a }

@@ -1,22 +1,22 @@
 -- The state of a row between two turns, as an invariant, and each thing that a turn can do to it.
-use Prim.Native.Nat.{ℕ, _+_, _≤_, _<_}
+use Prim.Native.Nat.{ℕ, _<_}
 use native.Mathlib.Omega.{arith}
 use mathlib.Core.Path.{_≡_, refl, sym, ap, _∙_, subst, fun-ext}
 use mathlib.Core.Bool.{Bool, true, false, _&&_, not, true≢false}
 use mathlib.Core.Logic.{_⊎_, inl, inr}
 use mathlib.Core.List.{List, [], _∷_}
 use Rattle.strategy.specs.Bools.{clash, not-self, same?}
-use Rattle.strategy.specs.Assignment.{Assignment, Among, Once, AgreeOff, AgreeOn}
+use Rattle.strategy.specs.Assignment.{Assignment, Among, Once, AgreeOff}
 use Rattle.strategy.specs.AssignmentLaws.{among?}
 use Rattle.strategy.specs.Due.{due}
 use Rattle.strategy.specs.DueLaws.{due-passed}
-use Rattle.strategy.specs.Strategy.{State, trace}
+use Rattle.strategy.specs.Strategy.{trace}
 use Rattle.strategy.specs.Turns.{trace-settled}
 use Rattle.strategy.specs.Ours.{ReadsOnly}
 use Rattle.strategy.specs.Order.{Order}
 use Rattle.strategy.specs.Tree.{Tree, eval, size, Numbered, NonEmpty, InRun}
 use Rattle.strategy.specs.TreeLaws.{eval-toward, eval-run}
-use Rattle.strategy.specs.Alone.{Status, unseen, seen, Partial, hide, isUnseen, statusAs, unseenAs, alone}
+use Rattle.strategy.specs.Alone.{unseen, seen, hide, isUnseen, statusAs, unseenAs, alone}
 use Rattle.strategy.specs.AloneLaws.{hide-in, hide-off, due-alone}
 use Rattle.strategy.specs.PartialLaws.{see, see-hide, SameIn, alone-same, alone-either, either-alone, nothingSeen, first-either, first-alone}
 use Rattle.strategy.specs.Live.{Live, Step, probed, settle}
