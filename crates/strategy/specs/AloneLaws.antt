@@ -2,9 +2,9 @@
 use Prim.Native.Nat.{ℕ, _+_, _≤_, _<_}
 use native.Mathlib.Omega.{arith}
 use mathlib.Core.Path.{_≡_, refl, sym, ap, _∙_}
-use mathlib.Core.Bool.{Bool, true, false, _&&_, _||_, not, cond, true≢false}
+use mathlib.Core.Bool.{Bool, true, false, _&&_, not, cond, true≢false}
 use mathlib.Core.Logic.{_⊎_, inl, inr}
-use mathlib.Core.List.{List, [], _∷_}
+use mathlib.Core.List.{List, _∷_}
 use lib.Dec.{ltb, eqb}
 use Rattle.strategy.specs.Bools.{clash, iff-eq, each, both, and-parts, or-cases, or-left, or-right, eqb-self, eqb-eq, same?, ltb-yes, ltb-no, not-of-true}
 use Rattle.strategy.specs.Assignment.{Assignment, update, Among, AgreeOff}
@@ -13,7 +13,7 @@ use Rattle.strategy.specs.Due.{Due, due}
 use Rattle.strategy.specs.DueLaws.{due-law}
 use Rattle.strategy.specs.Tree.{Tree, leaf, group, Forest, none, more, join, settles, eval, evals, size, sizes, Numbered, Numbereds, InRun}
 use Rattle.strategy.specs.TreeLaws.{settles-not, settles-no, join-unit-left, join-unit-right, join-not, join-cases, Toward, eval-toward, evals-toward, eval-run, evals-run}
-use Rattle.strategy.specs.Alone.{Status, unseen, seen, Partial, hide, statusAs, unseenAs, alone, aloneIn}
+use Rattle.strategy.specs.Alone.{unseen, seen, Partial, hide, statusAs, unseenAs, alone, aloneIn}
 
 -- the two places in a group where `c` can be alone: its first member, with the others not settling, or among the others
 unfoldable pub Either : Tree ℕ → Forest ℕ → Bool → ℕ → Partial → Type 0

@@ -6,7 +6,7 @@ use mathlib.Core.Logic.{_⊎_, inl, inr}
 use mathlib.Core.List.{List, [], _∷_, _++_}
 use lib.Dec.{eqb}
 use Rattle.strategy.specs.Bools.{clash, not-true, or-cases, or-right, eqb-self, eqb-eq, eqb-ne, same?}
-use Rattle.strategy.specs.Assignment.{Assignment, update, Among, elem, Once, AgreeOn, AgreeOff}
+use Rattle.strategy.specs.Assignment.{Assignment, update, Among, elem, Once, AgreeOff}
 
 pub update-same : (a : Assignment) (c : ℕ) (b : Bool) → update a c b c ≡ b
 unfolding update

@@ -8,6 +8,7 @@ pub mod Turns
 pub mod Optimality
 pub mod Ours
 pub mod OursLaws
+pub mod TraceLaws
 pub mod Tree
 pub mod TreeLaws
 pub mod Alone
@@ -16,3 +17,12 @@ pub mod PartialLaws
 pub mod Live
 pub mod LiveLaws
 pub mod SettleLaws
+pub mod Climb
+pub mod ClimbLaws
+pub mod Order
+pub mod OrderLaws
+pub mod OrderCheck
+pub mod Walk
+pub mod Row
+pub mod RowLaws
+pub mod Mistakes

@@ -1,5 +1,5 @@
 -- Every right strategy makes each of our probes, on every assignment.
-use Prim.Native.Nat.{ℕ, _+_, _≤_}
+use Prim.Native.Nat.{ℕ, _≤_}
 use native.Mathlib.Omega.{arith}
 use mathlib.Core.Path.{_≡_, refl, _∙_}
 use mathlib.Core.Bool.{true}
@@ -9,7 +9,7 @@ use Rattle.strategy.specs.Assignment.{Assignment, Once, AgreeOff}
 use Rattle.strategy.specs.AssignmentLaws.{once-later}
 use Rattle.strategy.specs.Due.{Formula, Due}
 use Rattle.strategy.specs.Strategy.{Strategy, run, trace, Right, RightFixing, ProbesOurs, sumOver}
-use Rattle.strategy.specs.Turns.{RightFrom, must-probe, right-later, probed-from, counted-from}
+use Rattle.strategy.specs.Turns.{must-probe, right-later, probed-from, counted-from}
 
 -- THE THEOREM, in general: a strategy that is right wherever `fixed`'s outcomes off the order are kept makes each of our
 -- probes there. The order has no repeats; nothing else is asked of the order or the formula.

@@ -1,11 +1,9 @@
 -- Ours is a strategy and right: on every assignment its probes are the trace and its answer is the value.
-use Prim.Native.Nat.{ℕ, _≤_}
+use Prim.Native.Nat.{ℕ}
 use mathlib.Core.Path.{_≡_, refl, sym, ap, _∙_, subst, fun-ext}
 use mathlib.Core.Bool.{Bool, true, false, cond}
 use mathlib.Core.Logic.{_⊎_, inl, inr}
 use mathlib.Core.List.{List, [], _∷_, _++_, append-assoc, append-nil}
-use lib.Dec.{eqb}
-use lib.ListN.{length}
 use Rattle.strategy.specs.Bools.{iff-eq, eqb-self, eqb-ne}
 use Rattle.strategy.specs.Assignment.{Assignment, allNo, update, Among, Once, AgreeOff, AgreeOn, keepIf}
 use Rattle.strategy.specs.AssignmentLaws.{update-same, update-other, update-off, off-more, among?}
@@ -36,7 +34,7 @@ turns [] o = tt
 turns (c ∷ cs) o = (rw (eqb-self c), turns-more c cs cs (o .0) (turns cs (o .1)))
 
 -- the invariant: with the turns of `cs` to come, the formula cannot tell the true assignment `a` from `t`, what is told
-abbrev Same : Formula → List ℕ → Assignment → Assignment → Type 0
+abbrev pub Same : Formula → List ℕ → Assignment → Assignment → Type 0
 Same f cs a t = (q r : Assignment) → AgreeOff cs q a → AgreeOff cs r t → AgreeOn cs q r → f q ≡ f r
 
 same-sym : (f : Formula) (cs : List ℕ) (a t : Assignment) → Same f cs a t → Same f cs t a
@@ -85,7 +83,7 @@ module _ (f : Formula) (c : ℕ) (cs : List ℕ) (n : Among c cs → ⊥) where
           (update-off (c ∷ cs) r t c b (inl refl) (off-more c cs r t r-off))
           (on b)
 
-  due-eq : (a t : Assignment) → Same f (c ∷ cs) a t → due f c cs t ≡ due f c cs a
+  pub due-eq : (a t : Assignment) → Same f (c ∷ cs) a t → due f c cs t ≡ due f c cs a
   due-eq a t S =
       iff-eq (due f c cs t) (due f c cs a)
       (λ h. due-law f c cs a .1 (due-same t a (same-sym f (c ∷ cs) a t S) (due-law f c cs t .0 h)))
