@@ -9,8 +9,8 @@ use lib.ListN.{length, getD, drop, drop-of-length-le}
 use lib.Seq.{drop-cons}
 use Rattle.strategy.specs.Bools.{which}
 use Rattle.strategy.specs.Assignment.{Assignment}
-use Rattle.strategy.specs.Due.{due}
-use Rattle.strategy.specs.Strategy.{State, trace}
+use Rattle.strategy.specs.Strategy.{State}
+use Rattle.strategy.specs.Trace.{due, trace}
 use Rattle.strategy.specs.Order.{Order}
 use Rattle.strategy.specs.Tree.{Tree, eval, size, Numbered, NonEmpty}
 use Rattle.strategy.specs.Live.{Live, Step, probed}
