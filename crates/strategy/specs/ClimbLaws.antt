@@ -1,0 +1,47 @@
+-- The climb over enclosing groups leaves what `settle` says.
+use Prim.Native.Nat.{ℕ, _+_, _≤_, _<_}
+use native.Mathlib.Omega.{arith}
+use mathlib.Core.Path.{_≡_, refl, ap, _∙_}
+use mathlib.Core.Bool.{Bool, true, false, cond}
+use mathlib.Core.Logic.{_⊎_, inl, inr}
+use mathlib.Core.List.{List, [], _∷_, _++_}
+use lib.Dec.{ltb}
+use Rattle.strategy.specs.Bools.{which, ltb-lt, ltb-le}
+use Rattle.strategy.specs.Tree.{Tree, leaf, group, Forest, none, more, size, sizes, InRun}
+use Rattle.strategy.specs.Live.{Live, Step, probed, through, settle, settleIn}
+use Rattle.strategy.specs.LiveLaws.{through-stopped}
+use Rattle.strategy.specs.Climb.{Group, enclosing, enclosingIn, climb}
+
+-- a climb that has stopped stays as it is
+pub climb-stopped : (v : Bool) (gs : List Group) (s : Step) → s .settled ≡ false → climb v gs s ≡ s
+unfolding climb
+climb-stopped v [] s h = refl
+climb-stopped v (g ∷ gs) s h = rw (through-stopped (g .absorbing) v (g .first) (g .count) s h) (climb-stopped v gs s h)
+
+climb-append : (v : Bool) (gs hs : List Group) (s : Step) → climb v (gs ++ hs) s ≡ climb v hs (climb v gs s)
+unfolding climb
+climb-append v [] hs s = refl
+climb-append v (g ∷ gs) hs s = climb-append v gs hs (through (g .absorbing) v (g .first) (g .count) s)
+
+mutual
+  unfolding settle enclosing size climb
+
+  pub climb-settle : (t : Tree ℕ) (i c : ℕ) → InRun i (size t) c → (v : Bool) (live : Live)
+      → climb v (enclosing t i c) (probed c live) ≡ settle t i c v live
+  climb-settle (leaf d) i c r v live = refl
+  climb-settle (group k f) i c r v live =
+      climb-append v (enclosingIn f i c) (record { absorbing = k; first = i; count = sizes f } ∷ []) (probed c live)
+      ∙ ap (λ s. through k v i (sizes f) s) (climbs-settle f i c r v live)
+
+  climbs-settle : (f : Forest ℕ) (i c : ℕ) → InRun i (sizes f) c → (v : Bool) (live : Live)
+      → climb v (enclosingIn f i c) (probed c live) ≡ settleIn f i c v live
+  climbs-settle none i c r v live = absurd (omega arith)
+  climbs-settle (more t f) i c r v live =
+      let go : (ltb c (i + size t) ≡ true) ⊎ (ltb c (i + size t) ≡ false)
+      → climb v (cond (ltb c (i + size t)) (enclosing t i c) (enclosingIn f (i + size t) c)) (probed c live)
+      ≡ cond (ltb c (i + size t)) (settle t i c v live) (settleIn f (i + size t) c v live)
+      = elim [
+        | inl e ↦ (let l : c < i + size t = ltb-lt c (i + size t) e in rw e (climb-settle t i c (omega arith) v live))
+        | inr e ↦ (let l : i + size t ≤ c = ltb-le c (i + size t) e in rw e (climbs-settle f (i + size t) c (omega arith) v live))
+      ] in
+      go (which (ltb c (i + size t)))

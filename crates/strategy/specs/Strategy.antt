@@ -1,0 +1,58 @@
+-- Demand 3 on one screen: when a predicate is due, what a strategy is, when it is right, and what every right one does.
+use Prim.Native.Nat.{ℕ}
+use mathlib.Core.Path.{_≡_}
+use mathlib.Core.Bool.{Bool, true, false, cond}
+use mathlib.Core.List.{List, [], _∷_, _++_}
+use Rattle.strategy.specs.Assignment.{Assignment, update, Among, Once, AgreeOff}
+
+-- a query as a function: its value on each assignment; a tree's value is one such
+abbrev pub Formula : Type 0
+Formula = Assignment → Bool
+
+-- document 01: with the conditions earlier in the order at their true outcomes, some outcomes of the later ones make
+-- this condition alone decide the tree. What is neither `c` nor later keeps its outcome in `a`.
+abbrev pub Due : Formula → ℕ → List ℕ → Assignment → Type 0
+Due f c later a = (q : Assignment) × AgreeOff later q a × (f (update q c true) ≡ f (update q c false) → ⊥)
+
+-- what was seen on a row: each predicate probed with its outcome, in the sequence probed; none at first
+abbrev pub State : Type 0
+State = List (ℕ × Bool)
+
+-- document 01's way, given for a query and an order: at its turn a predicate is probed (a look) or passed, by the
+-- predicate and the state; after the last the answer comes from the state
+pub record Strategy : Type 0 where
+  pub probe : ℕ → State → Bool
+  pub answer : State → Bool
+
+-- the turn of `c` on `a`: a probe adds the predicate and its outcome to the state, a pass changes nothing
+unfoldable pub turn : Strategy → Assignment → ℕ → State → State
+turn S a c s = cond (S .probe c s) (s ++ ((c, a c) ∷ [])) s
+
+-- the turns of a list in sequence, from a state; and of the whole order, from nothing seen
+unfoldable pub runFrom : Strategy → Assignment → List ℕ → State → State
+runFrom S a [] s = s
+runFrom S a (c ∷ cs) s = runFrom S a cs (turn S a c s)
+
+abbrev pub run : Strategy → Assignment → List ℕ → State
+run S a order = runFrom S a order []
+
+-- the predicates it probes, and its answer
+unfoldable pub predicates : State → List ℕ
+predicates [] = []
+predicates (x ∷ s) = x .0 ∷ predicates s
+
+abbrev pub probes : Strategy → Assignment → List ℕ → List ℕ
+probes S a order = predicates (run S a order)
+
+abbrev pub answerOf : Strategy → Assignment → List ℕ → Bool
+answerOf S a order = S .answer (run S a order)
+
+-- right whatever the assignment
+abbrev pub Right : Formula → List ℕ → Strategy → Type 0
+Right f order S = (a : Assignment) → answerOf S a order ≡ f a
+
+-- DEMAND 3, proved as `optimality`: on every assignment a right strategy probes whatever is due at its turn
+abbrev pub Optimality : Type 0
+Optimality =
+    (f : Formula) (order : List ℕ) → Once order → (S : Strategy) → Right f order S → (a : Assignment)
+    → (before : List ℕ) (c : ℕ) (later : List ℕ) → order ≡ before ++ (c ∷ later) → Due f c later a → Among c (probes S a order)
