@@ -1,9 +1,9 @@
 pub mod Bools
 pub mod Assignment
 pub mod AssignmentLaws
-pub mod Due
-pub mod DueLaws
 pub mod Strategy
+pub mod Trace
+pub mod DueLaws
 pub mod Turns
 pub mod Optimality
 pub mod Ours

@@ -5,8 +5,8 @@ use mathlib.Core.Bool.{Bool, true, false, _&&_, not, xor, true≢false, and-true
 use mathlib.Core.List.{[], _∷_}
 use lib.Dec.{eqb}
 use Rattle.strategy.specs.Assignment.{Assignment, allNo, update, elem}
-use Rattle.strategy.specs.Due.{due, decides, someOutcomes}
 use Rattle.strategy.specs.Strategy.{Strategy, turn, runFrom, answerOf, Right}
+use Rattle.strategy.specs.Trace.{due, decides, someOutcomes}
 use Rattle.strategy.specs.Ours.{recall, after, ours}
 use Rattle.strategy.specs.Tree.{Tree, leaf, group, Forest, none, more, all, any, join, eval, size}
 use Rattle.strategy.specs.Alone.{Partial, hide, statusAs, alone}

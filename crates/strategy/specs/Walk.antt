@@ -8,9 +8,8 @@ use mathlib.Core.List.{List, [], _∷_}
 use Rattle.strategy.specs.Bools.{clash, not-self, same?}
 use Rattle.strategy.specs.Assignment.{Assignment, Among, Once, AgreeOff}
 use Rattle.strategy.specs.AssignmentLaws.{among?}
-use Rattle.strategy.specs.Due.{due}
+use Rattle.strategy.specs.Trace.{due, trace}
 use Rattle.strategy.specs.DueLaws.{due-passed}
-use Rattle.strategy.specs.Strategy.{trace}
 use Rattle.strategy.specs.Turns.{trace-settled}
 use Rattle.strategy.specs.Ours.{ReadsOnly}
 use Rattle.strategy.specs.Order.{Order}

@@ -1,0 +1,6 @@
+pub mod Sums
+pub mod SumLaws
+pub mod Bitmap
+pub mod OnesLaws
+pub mod Table
+pub mod CopyLaws

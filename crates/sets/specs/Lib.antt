@@ -1,0 +1,5 @@
+pub mod Set
+pub mod SetLaws
+pub mod RunLaws
+pub mod Rungs
+pub mod RungLaws
