@@ -1,15 +1,58 @@
-// The numbers of the catalogue's format.
-ghost use mathlib.Core.Path.{_≡_};
-ghost use Rattle.catalogue.specs.Format.{rowLimit};
+// The numbers of the catalogue's format; the contracts tie them to those of specs/Format.antt.
 
+// Document 01's entry.
 pub struct Row;
 
 impl Row {
     pub const LIMIT: usize = 2048;
 }
 
-pub fn row_limit() -> usize
-    ensures { λ r. ⌜ r ≡ rowLimit ⌝ }
-{
-    Row::LIMIT
+pub struct Column;
+
+impl Column {
+    pub const LIMIT: usize = 16;
+
+    pub const NUMBER_TAG: u8 = 78;
+
+    pub const TEXT_TAG: u8 = 84;
+}
+
+pub struct Number;
+
+impl Number {
+    pub const SIZE: usize = 4;
+}
+
+pub struct Text;
+
+impl Text {
+    pub const LIMIT: usize = 23;
+
+    pub const SLOT_SIZE: usize = 24;
+}
+
+// The first field.
+pub struct Opening;
+
+impl Opening {
+    pub const TAG: u8 = 67;
+
+    pub const SIZE: usize = 3;
+}
+
+// Document 01's refusals 1 to 6.
+pub struct Refusal;
+
+impl Refusal {
+    pub const FIELD_CUT: u8 = 1;
+
+    pub const NOT_CATALOGUE: u8 = 2;
+
+    pub const COUNTS_OUT_OF_RANGE: u8 = 3;
+
+    pub const NOT_COLUMN: u8 = 4;
+
+    pub const BAD_SLOT: u8 = 5;
+
+    pub const BYTES_AFTER_COLUMNS: u8 = 6;
 }

@@ -1,2 +1,6 @@
-// Document 01's catalogue, checked and read in place.
+// Document 01's catalogue: checked once, then read in place.
+pub mod column;
+pub mod first;
 pub mod format;
+pub mod layout;
+pub mod slot;

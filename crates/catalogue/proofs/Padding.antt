@@ -1,0 +1,158 @@
+-- A slot's padding, by three words.
+use Prim.Native.Nat.{ℕ, zero, suc, _+_, _-_, _*_, _^_, _/_, _≤_, _<_, min}
+use native.Mathlib.Nat.{div-div-eq-div-mul, div-eq-of-lt, div-lt-iff-lt-mul}
+use lib.Pow.{pow-add}
+use native.Mathlib.Omega.{arith}
+use mathlib.Core.Path.{_≡_, refl, sym, ap, _∙_}
+use mathlib.Core.Bool.{Bool, true, false}
+use mathlib.Core.List.{List}
+use lib.ListN.{getD}
+use lib.Dec.{eqb, leb}
+use borrow.Author.Tests.{leb-true, leb-false, le-leb, lt-leb, ne-eqb}
+use Rattle.fields.specs.Decoded.{both}
+use Rattle.catalogue.specs.Slots.{zerosAt, validSlot}
+use Rattle.catalogue.specs.Words.{wordAt}
+
+abbrev pub limitOf : ℕ → ℕ
+limitOf j = 256 ^ min 8 (j - 16) - 1
+
+pow-pos : (k : ℕ) → 0 < 256 ^ k
+pow-pos zero = omega arith
+pow-pos (suc k) = let h : 0 < 256 ^ k = pow-pos k in omega arith
+
+leb-zero : (x w : ℕ) → leb (x + 256 * w) 0 ≡ both (eqb x 0) (leb w 0)
+leb-zero zero zero = refl
+leb-zero zero (suc w) = rw (lt-leb (0 + 256 * suc w) 0 (omega arith), lt-leb (suc w) 0 (omega arith))
+leb-zero (suc x) w = rw (lt-leb (suc x + 256 * w) 0 (omega arith), ne-eqb (suc x) 0 (λ e. omega arith))
+
+leb-step : (x w l p m : ℕ) → x < 256 → l + 1 ≡ 256 * p → m + 1 ≡ p → leb (x + 256 * w) l ≡ leb w m
+leb-step x w l p m h e f = go (leb w m) refl
+  where
+    go : (r : Bool) → leb w m ≡ r → leb (x + 256 * w) l ≡ leb w m
+    go true q = let z : w ≤ m = leb-true w m q in le-leb (x + 256 * w) l (omega arith) ∙ sym q
+    go false q = let z : m < w = leb-false w m q in lt-leb (x + 256 * w) l (omega arith) ∙ sym q
+
+zeros-zero : (b : List ℕ) (p m : ℕ) → leb (wordAt b p m) 0 ≡ zerosAt b p m
+unfolding zerosAt wordAt
+zeros-zero b p zero = refl
+zeros-zero b p (suc m) = leb-zero (getD b p 0) (wordAt b (p + 1) m) ∙ ap (both (eqb (getD b p 0) 0)) (zeros-zero b (p + 1) m)
+
+-- a word is small where its later bytes are zeros
+word-limit : (b : List ℕ) → ((i : ℕ) → getD b i 0 < 256) → (k m p : ℕ) → k ≤ m → leb (wordAt b p m) (256 ^ k - 1) ≡ zerosAt b (p + k) (m - k)
+unfolding wordAt
+word-limit b s zero m p l = let z : m - 0 ≡ m = omega arith in let y : p + 0 ≡ p = omega arith in rw (z, y) (zeros-zero b p m)
+word-limit b s (suc k) zero p l = absurd (omega arith)
+word-limit b s (suc k) (suc m) p l =
+    let z : suc m - suc k ≡ m - k = omega arith in
+    let y : p + suc k ≡ p + 1 + k = omega arith in
+    let q : 0 < 256 ^ k = pow-pos k in
+    leb-step (getD b p 0) (wordAt b (p + 1) m) (256 ^ suc k - 1) (256 ^ k) (256 ^ k - 1) (s p) (omega arith) (omega arith) ∙ word-limit b s k m (p + 1) (omega arith) ∙ rw (z, y)
+
+zeros-split : (b : List ℕ) (m n p : ℕ) → zerosAt b p (m + n) ≡ both (zerosAt b p m) (zerosAt b (p + m) n)
+unfolding zerosAt
+zeros-split b zero n p = let z : 0 + n ≡ n = omega arith in let y : p + 0 ≡ p = omega arith in rw (z, y)
+zeros-split b (suc m) n p =
+    let z : suc m + n ≡ suc (m + n) = omega arith in
+    let y : p + suc m ≡ p + 1 + m = omega arith in
+    rw (z, y, zeros-split b m n (p + 1)) (both-both (eqb (getD b p 0) 0) (zerosAt b (p + 1) m) (zerosAt b (p + 1 + m) n))
+  where
+    both-both : (x y z : Bool) → both x (both y z) ≡ both (both x y) z
+    both-both true y z = refl
+    both-both false y z = refl
+
+zeros-nil : (b : List ℕ) (p : ℕ) → zerosAt b p 0 ≡ true
+unfolding zerosAt
+zeros-nil b p = refl
+
+module _ (b : List ℕ) (s : (i : ℕ) → getD b i 0 < 256) (at n : ℕ) (l : n ≤ 23) where
+  first-word : (k q r : ℕ) → min 8 (n + 17 - 16) ≡ k → k ≤ 8 → at + k ≡ q → 8 - k ≡ r → leb (wordAt b at 8) (limitOf (n + 17)) ≡ zerosAt b q r
+  first-word k q r e h x y = rw (e, ← x, ← y) (word-limit b s k 8 at h)
+
+  second-word : (k q r : ℕ) → min 8 (n + 9 - 16) ≡ k → k ≤ 8 → at + 8 + k ≡ q → 8 - k ≡ r → leb (wordAt b (at + 8) 8) (limitOf (n + 9)) ≡ zerosAt b q r
+  second-word k q r e h x y = rw (e, ← x, ← y) (word-limit b s k 8 (at + 8) h)
+
+  third-word : (k q r : ℕ) → min 8 (n + 1 - 16) ≡ k → k ≤ 8 → at + 16 + k ≡ q → 8 - k ≡ r → leb (wordAt b (at + 16) 8) (limitOf (n + 1)) ≡ zerosAt b q r
+  third-word k q r e h x y = rw (e, ← x, ← y) (word-limit b s k 8 (at + 16) h)
+
+  -- n + 1 to 24 in parts
+  parts : (p c q m : ℕ) → p + c ≡ q → zerosAt b p (c + m) ≡ both (zerosAt b p c) (zerosAt b q m)
+  parts p c q m e = rw (← e) (zeros-split b c m p)
+
+  abbrev Words : Bool
+  Words = both (leb (wordAt b at 8) (limitOf (n + 17))) (both (leb (wordAt b (at + 8) 8) (limitOf (n + 9))) (leb (wordAt b (at + 16) 8) (limitOf (n + 1))))
+
+  in-first : n ≤ 7 → zerosAt b (at + 1 + n) (23 - n) ≡ Words
+  in-first h =
+      let c : 23 - n ≡ (7 - n) + (8 + 8) = omega arith in
+      rw (first-word (n + 1) (at + 1 + n) (7 - n) (omega arith) (omega arith) (omega arith) (omega arith), second-word 0 (at + 8) 8 (omega arith) (omega arith) (omega arith) refl, third-word 0 (at + 16) 8 (omega arith) (omega arith) (omega arith) refl, c)
+      (parts (at + 1 + n) (7 - n) (at + 8) (8 + 8) (omega arith) ∙ ap (both (zerosAt b (at + 1 + n) (7 - n))) (parts (at + 8) 8 (at + 16) 8 (omega arith)))
+
+  in-second : 7 < n → n ≤ 15 → zerosAt b (at + 1 + n) (23 - n) ≡ Words
+  in-second h i =
+      let c : 23 - n ≡ (15 - n) + 8 = omega arith in
+      rw (first-word 8 (at + 8) 0 (omega arith) (omega arith) refl refl, zeros-nil b (at + 8), second-word (n - 7) (at + 1 + n) (15 - n) (omega arith) (omega arith) (omega arith) (omega arith), third-word 0 (at + 16) 8 (omega arith) (omega arith) (omega arith) refl, c)
+      (parts (at + 1 + n) (15 - n) (at + 16) 8 (omega arith))
+
+  in-third : 15 < n → zerosAt b (at + 1 + n) (23 - n) ≡ Words
+  in-third h =
+      rw (first-word 8 (at + 8) 0 (omega arith) (omega arith) refl refl, zeros-nil b (at + 8), second-word 8 (at + 16) 0 (omega arith) (omega arith) (omega arith) refl, zeros-nil b (at + 16), third-word (n - 15) (at + 1 + n) (23 - n) (omega arith) (omega arith) (omega arith) (omega arith))
+
+  slot-words : zerosAt b (at + 1 + n) (23 - n) ≡ Words
+  slot-words = go (leb n 7) refl (leb n 15) refl
+    where
+      go : (x : Bool) → leb n 7 ≡ x → (y : Bool) → leb n 15 ≡ y → zerosAt b (at + 1 + n) (23 - n) ≡ Words
+      go true p y q = in-first (leb-true _ _ p)
+      go false p true q = in-second (leb-false _ _ p) (leb-true _ _ q)
+      go false p false q = in-third (leb-false _ _ q)
+
+  module _ (e : n ≡ getD b at 0) where
+    slot-is : validSlot b at ≡ zerosAt b (at + 1 + n) (23 - n)
+    unfolding validSlot
+    slot-is = rw (← e, le-leb n 23 l)
+
+    pub slot-first : (w : ℕ) (x : Bool) → w ≡ wordAt b at 8 → x ≡ leb w (limitOf (n + 17)) → x ≡ false → false ≡ validSlot b at
+    slot-first w x p q h = rw (slot-is, slot-words, ← p, ← q, h)
+
+    pub slot-second : (w v : ℕ) (x y : Bool) → w ≡ wordAt b at 8 → x ≡ leb w (limitOf (n + 17)) → x ≡ true → v ≡ wordAt b (at + 8) 8 → y ≡ leb v (limitOf (n + 9)) → y ≡ false → false ≡ validSlot b at
+    slot-second w v x y p q h c d i = rw (slot-is, slot-words, ← p, ← q, h, ← c, ← d, i)
+
+    pub slot-third : (w v u : ℕ) (x y z : Bool) → w ≡ wordAt b at 8 → x ≡ leb w (limitOf (n + 17)) → x ≡ true → v ≡ wordAt b (at + 8) 8 → y ≡ leb v (limitOf (n + 9)) → y ≡ true → u ≡ wordAt b (at + 16) 8 → z ≡ leb u (limitOf (n + 1)) → z ≡ validSlot b at
+    slot-third w v u x y z p q h c d i f g = rw (slot-is, slot-words, ← p, ← q, h, ← c, ← d, i, ← f, ← g)
+
+-- a limit that the code computed
+pub limit-is : (w k j : ℕ) (x : Bool) → k ≡ min 8 (j - 16) → x ≡ leb w (256 ^ k - 1) → x ≡ leb w (limitOf j)
+limit-is w k j x e h = rw (← e) h
+
+four-bits : (k : ℕ) → 2 ^ (4 * k) * 2 ^ (4 * k) ≡ 256 ^ k
+four-bits zero = refl
+four-bits (suc k) =
+    let z : 4 * suc k ≡ 4 + 4 * k = omega arith in
+    let h : 2 ^ (4 * k) * 2 ^ (4 * k) ≡ 256 ^ k = four-bits k in
+    let g : 2 ^ (4 + 4 * k) ≡ 16 * 2 ^ (4 * k) = pow-add 2 4 (4 * k) in
+    rw (z, g) (omega arith)
+
+div-zero : (w m : ℕ) → 0 < m → eqb (w / m) 0 ≡ leb w (m - 1)
+div-zero w m h = go (leb w (m - 1)) refl
+  where
+    go : (r : Bool) → leb w (m - 1) ≡ r → eqb (w / m) 0 ≡ leb w (m - 1)
+    go true q =
+        let z : w ≤ m - 1 = leb-true w (m - 1) q in
+        let y : w / m ≡ 0 = div-eq-of-lt (omega arith) in
+        rw (q, y)
+    go false q =
+        let z : m - 1 < w = leb-false w (m - 1) q in
+        let ne : w / m ≡ 0 → ⊥ = λ e. (let y : w < 1 * m = div-lt-iff-lt-mul {k = m} {x = w} {y = 1} h .0 (omega arith) in omega arith) in
+        ne-eqb (w / m) 0 ne ∙ sym q
+
+pub shift-zero : (w k : ℕ) → eqb (w / 2 ^ (4 * k) / 2 ^ (4 * k)) 0 ≡ leb w (256 ^ k - 1)
+shift-zero w k = rw (div-div-eq-div-mul w (2 ^ (4 * k)) (2 ^ (4 * k)), four-bits k) (div-zero w (256 ^ k) (pow-pos k))
+
+pub slot-long : (b : List ℕ) (at n : ℕ) → n ≡ getD b at 0 → 23 < n → false ≡ validSlot b at
+unfolding validSlot
+slot-long b at n e h = rw (← e, lt-leb n 23 h)
+
+pub word-eight : (b : List ℕ) (p : ℕ) → wordAt b p 8 ≡ getD b p 0 + 256 * getD b (p + 1) 0 + 65536 * getD b (p + 2) 0 + 16777216 * getD b (p + 3) 0 + 4294967296 * getD b (p + 4) 0 + 1099511627776 * getD b (p + 5) 0 + 281474976710656 * getD b (p + 6) 0 + 72057594037927936 * getD b (p + 7) 0
+unfolding wordAt
+word-eight b p =
+    let z2 : p + 1 + 1 ≡ p + 2 = omega arith in let z3 : p + 2 + 1 ≡ p + 3 = omega arith in let z4 : p + 3 + 1 ≡ p + 4 = omega arith in let z5 : p + 4 + 1 ≡ p + 5 = omega arith in let z6 : p + 5 + 1 ≡ p + 6 = omega arith in let z7 : p + 6 + 1 ≡ p + 7 = omega arith in
+    rw (z2, z3, z4, z5, z6, z7) (omega arith)
