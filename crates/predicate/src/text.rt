@@ -18,7 +18,14 @@ pub fn begins_with(table: &[u8], text: &[u8], operand: &[u8]) -> bool
     if text.len() < operand.len() {
         return false;
     }
-    let mut i: usize = 0;
+    if operand.len() == 0 {
+        return true;
+    }
+    // The first byte apart: tried from many places, the operand's own is then folded once.
+    if fold_byte(table, operand[0]) != fold_byte(table, text[0]) {
+        return false;
+    }
+    let mut i: usize = 1;
     while i < operand.len() {
         if fold_byte(table, operand[i]) != fold_byte(table, text[i]) {
             return false;
