@@ -2,3 +2,4 @@ pub mod Tests
 pub mod Table
 pub mod Laws
 pub mod PayloadLaws
+pub mod OutcomeLaws

@@ -65,6 +65,9 @@ abbrev pub inRange : (low high n : ℕ) → Bool
 inRange low high n = not (numberBlank n) && between low high n
 
 -- The operand of a range: "two four-byte numbers"
+abbrev pub rangeSize : ℕ
+rangeSize = numberSize + numberSize
+
 abbrev pub lowOf : (operand : List ℕ) → ℕ
 lowOf o = numberAt o 0 numberSize
 

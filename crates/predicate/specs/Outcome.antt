@@ -3,7 +3,10 @@ use Prim.Native.Nat.{ℕ, _<_, _≤_}
 use mathlib.Core.Path.{_≡_}
 use mathlib.Core.List.{List}
 use lib.ListN.{length, getD}
-use Rattle.predicate.specs.Meaning.{fold, rangeKind}
+use Rattle.catalogue.specs.Catalogue.{Column}
+use Rattle.catalogue.specs.Layout.{Shows}
+use Rattle.predicate.specs.declared.answer.Answer.{Answer}
+use Rattle.predicate.specs.Meaning.{fold, rangeKind, rangeSize, plainOf, outcomeOf}
 
 -- a fold table: 256 entries, each by the rule
 pub record Folds (table : List ℕ) : Type 0 where
@@ -12,4 +15,13 @@ pub record Folds (table : List ℕ) : Type 0 where
 
 -- the operand of a range holds its two numbers
 abbrev pub HasRange : (kind : ℕ) (operand : List ℕ) → Type 0
-HasRange kind o = kind ≡ rangeKind → 8 ≤ length o
+HasRange kind o = kind ≡ rangeKind → rangeSize ≤ length o
+
+-- the answer at a row of whatever column is shown there
+abbrev pub PlainIs : List ℕ → (tag start kind : ℕ) (operand : List ℕ) (row : ℕ) → Answer → Type 0
+PlainIs b tag start kind o row r =
+    (rows : ℕ) (c : Column) → Shows b rows tag start c → row < rows → r ≡ plainOf c kind o row
+
+abbrev pub OutcomeIs : List ℕ → (tag start kind : ℕ) (operand : List ℕ) (row : ℕ) → Answer → Type 0
+OutcomeIs b tag start kind o row r =
+    (rows : ℕ) (c : Column) → Shows b rows tag start c → row < rows → r ≡ outcomeOf c kind o row

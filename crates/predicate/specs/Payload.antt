@@ -8,7 +8,7 @@ use lib.Dec.{ltb, leb, eqb}
 use Rattle.fields.specs.Decoded.{either}
 use Rattle.catalogue.specs.Format.{numberTag, textTag, blankNumber, textLimit}
 use Rattle.catalogue.specs.Catalogue.{Catalogue, Column, numbers, texts}
-use Rattle.predicate.specs.Meaning.{Predicate, rangeKind, numberBlankKind, textBlankKind, plainKind, lowOf, highOf}
+use Rattle.predicate.specs.Meaning.{Predicate, rangeKind, rangeSize, numberBlankKind, textBlankKind, plainKind, lowOf, highOf}
 
 -- the tag of a column in the catalogue's format
 abbrev pub tagOf : Column → ℕ
@@ -25,10 +25,6 @@ tagsOf c = tagsIn (c .columns)
 -- bytes before the operand
 abbrev pub payloadHead : ℕ
 payloadHead = 2
-
--- bytes of a range's operand
-abbrev pub rangeSize : ℕ
-rangeSize = 8
 
 abbrev pub columnByte : List ℕ → ℕ
 columnByte payload = getD payload 0 0

@@ -3,5 +3,6 @@ pub mod answer;
 pub mod fold;
 pub mod kind;
 pub mod number;
+pub mod outcome;
 pub mod payload;
 pub mod text;

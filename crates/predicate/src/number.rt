@@ -1,20 +1,21 @@
 // The tests of a number.
+use crate::kind::Kind;
+use catalogue::format::Number;
 ghost use mathlib.Core.Path.{_≡_};
 ghost use Rattle.predicate.specs.Meaning.{inRange, numberTest};
 ghost use Rattle.predicate.specs.Outcome.{HasRange};
 
-pub struct Number;
+pub struct Blank;
 
-impl Number {
-    pub const BLANK: u32 = 4294967295;
-    // The bytes of a number.
-    pub const SIZE: usize = 4;
+impl Blank {
+    // The number that means blank.
+    pub const NUMBER: u32 = 4294967295;
 }
 
 pub fn in_range(low: u32, high: u32, n: u32) -> bool
     ensures { λ r. ⌜ r ≡ inRange low high n ⌝ }
 {
-    if n == Number::BLANK {
+    if n == Blank::NUMBER {
         return false;
     }
     if n < low {
@@ -28,13 +29,13 @@ pub fn number_test(kind: u8, operand: &[u8], n: u32) -> bool
     requires { ⌜ HasRange kind (now operand) ⌝ }
     ensures { λ r. ⌜ r ≡ numberTest kind (now (operand .entry)) n ⌝ }
 {
-    if kind == crate::kind::Kind::RANGE {
+    if kind == Kind::RANGE {
         let low = fields::number::four_bytes(operand, 0);
         let high = fields::number::four_bytes(operand, Number::SIZE);
         return in_range(low, high, n);
     }
-    if kind == crate::kind::Kind::NUMBER_BLANK {
-        return n == Number::BLANK;
+    if kind == Kind::NUMBER_BLANK {
+        return n == Blank::NUMBER;
     }
     false
 }

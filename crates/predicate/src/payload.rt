@@ -1,4 +1,9 @@
 // The check of one condition's payload: column byte, kind byte, operand.
+use crate::kind::Kind;
+use crate::number::Blank;
+use catalogue::format::Column;
+use catalogue::format::Number;
+use catalogue::format::Text;
 ghost use mathlib.Core.Path.{_≡_};
 ghost use Rattle.predicate.specs.Payload.{kindFits, operandFits, rangeFits, validPayload};
 
@@ -7,25 +12,19 @@ pub struct Payload;
 impl Payload {
     // The bytes before the operand.
     pub const HEAD: usize = 2;
-    // The bytes of a range's operand.
+    // The bytes of a range's operand, two numbers.
     pub const RANGE_SIZE: usize = 8;
-    // The most bytes of a text's operand.
-    pub const TEXT_LIMIT: usize = 23;
-
-    pub const NUMBER_TAG: u8 = 78;
-
-    pub const TEXT_TAG: u8 = 84;
 }
 
 // Whether a kind below the opposites exists and is of a column with this tag.
 fn kind_fits(tag: u8, kind: u8) -> bool
     ensures { λ r. ⌜ r ≡ kindFits tag kind ⌝ }
 {
-    if kind <= crate::kind::Kind::NUMBER_BLANK {
-        return tag == Payload::NUMBER_TAG;
+    if kind <= Kind::NUMBER_BLANK {
+        return tag == Column::NUMBER_TAG;
     }
-    if kind <= crate::kind::Kind::TEXT_BLANK {
-        return tag == Payload::TEXT_TAG;
+    if kind <= Kind::TEXT_BLANK {
+        return tag == Column::TEXT_TAG;
     }
     false
 }
@@ -37,30 +36,30 @@ fn range_fits(operand: &[u8]) -> bool
         return false;
     }
     let low = fields::number::four_bytes(operand, 0);
-    let high = fields::number::four_bytes(operand, crate::number::Number::SIZE);
+    let high = fields::number::four_bytes(operand, Number::SIZE);
     if high < low {
         return false;
     }
-    high < crate::number::Number::BLANK
+    high < Blank::NUMBER
 }
 
 // Whether an operand has the length and the range that its kind asks.
 fn operand_fits(kind: u8, operand: &[u8]) -> bool
     ensures { λ r. ⌜ r ≡ operandFits kind (now (operand .entry)) ⌝ }
 {
-    if kind == crate::kind::Kind::RANGE {
+    if kind == Kind::RANGE {
         return range_fits(operand);
     }
-    if kind == crate::kind::Kind::NUMBER_BLANK {
+    if kind == Kind::NUMBER_BLANK {
         return operand.len() == 0;
     }
-    if kind == crate::kind::Kind::TEXT_BLANK {
+    if kind == Kind::TEXT_BLANK {
         return operand.len() == 0;
     }
     if operand.len() == 0 {
         return false;
     }
-    operand.len() <= Payload::TEXT_LIMIT
+    operand.len() <= Text::LIMIT
 }
 
 // Whether a payload is a condition over columns with these tags.

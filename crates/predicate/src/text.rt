@@ -1,4 +1,5 @@
 // The tests of a text, under a fold table that the caller lends. Texts and operands may have any length.
+use crate::kind::Kind;
 ghost use mathlib.Core.Path.{_≡_};
 ghost use Rattle.predicate.specs.Meaning.{fold, equals, beginsWith, contains, textTest};
 ghost use Rattle.predicate.specs.Outcome.{Folds};
@@ -17,7 +18,14 @@ pub fn begins_with(table: &[u8], text: &[u8], operand: &[u8]) -> bool
     if text.len() < operand.len() {
         return false;
     }
-    let mut i: usize = 0;
+    if operand.len() == 0 {
+        return true;
+    }
+    // The first byte apart: tried from many places, the operand's own is then folded once.
+    if fold_byte(table, operand[0]) != fold_byte(table, text[0]) {
+        return false;
+    }
+    let mut i: usize = 1;
     while i < operand.len() {
         if fold_byte(table, operand[i]) != fold_byte(table, text[i]) {
             return false;
@@ -60,16 +68,16 @@ pub fn text_test(table: &[u8], kind: u8, operand: &[u8], text: &[u8]) -> bool
     requires { ⌜ Folds (now table) ⌝ }
     ensures { λ r. ⌜ r ≡ textTest kind (now (operand .entry)) (now (text .entry)) ⌝ }
 {
-    if kind == crate::kind::Kind::EQUALS {
+    if kind == Kind::EQUALS {
         return equals(table, text, operand);
     }
-    if kind == crate::kind::Kind::BEGINS {
+    if kind == Kind::BEGINS {
         return begins_with(table, text, operand);
     }
-    if kind == crate::kind::Kind::CONTAINS {
+    if kind == Kind::CONTAINS {
         return contains(table, text, operand);
     }
-    if kind == crate::kind::Kind::TEXT_BLANK {
+    if kind == Kind::TEXT_BLANK {
         return text.len() == 0;
     }
     false

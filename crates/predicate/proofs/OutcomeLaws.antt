@@ -1,0 +1,45 @@
+-- The outcome at a row: from the value read there to the column that is shown.
+use Prim.Native.Nat.{ℕ, _≤_, _<_}
+use native.Mathlib.Omega.{arith}
+use mathlib.Core.Path.{_≡_, refl, ap, _∙_}
+use mathlib.Core.Bool.{Bool}
+use mathlib.Core.List.{List}
+use borrow.Author.Tests.{lt-ltb, le-ltb}
+use Rattle.catalogue.specs.Format.{numberTag, textTag}
+use Rattle.catalogue.specs.Catalogue.{Column, numbers, texts}
+use Rattle.catalogue.specs.Layout.{HasRow, NumberIs, TextIs}
+use Rattle.predicate.specs.declared.answer.Answer.{Answer}
+use Rattle.predicate.specs.Meaning.{oppositeFrom, plainKind, numberTest, textTest, answerOf, opposite, outcomeOf}
+use Rattle.predicate.specs.Outcome.{PlainIs, OutcomeIs}
+
+module _ (b : List ℕ) (tag start row : ℕ) where
+  pub number-row : tag ≡ numberTag → HasRow b tag start row → HasRow b numberTag start row
+  number-row e (rows, numbers ns, s, l) = (rows, numbers ns, (refl, s .1, s .2), l)
+  number-row e (rows, texts ts, s, l) = absurd (omega arith)
+
+  pub text-row : (tag ≡ numberTag → ⊥) → HasRow b tag start row → HasRow b textTag start row
+  text-row ne (rows, numbers ns, s, l) = absurd (ne (s .0))
+  text-row ne (rows, texts ts, s, l) = (rows, texts ts, (refl, s .1, s .2, s .3), l)
+
+  module _ (kind : ℕ) (o : List ℕ) (test : Bool) (r : Answer) (answered : r ≡ answerOf test) where
+    pub plain-number : tag ≡ numberTag → (n : ℕ) → NumberIs b start row n → test ≡ numberTest kind o n →
+        PlainIs b tag start kind o row r
+    plain-number e n value tested rows (numbers ns) s l =
+        answered ∙ ap answerOf (tested ∙ ap (numberTest kind o) (value rows ns (refl, s .1, s .2) l))
+    plain-number e n value tested rows (texts ts) s l = absurd (omega arith)
+
+    pub plain-text : (tag ≡ numberTag → ⊥) → (t : List ℕ) → TextIs b start row t → test ≡ textTest kind o t →
+        PlainIs b tag start kind o row r
+    plain-text ne t value tested rows (numbers ns) s l = absurd (ne (s .0))
+    plain-text ne t value tested rows (texts ts) s l =
+        answered ∙ ap answerOf (tested ∙ ap (textTest kind o) (value rows ts (refl, s .1, s .2, s .3) l))
+
+  module _ (kind : ℕ) (o : List ℕ) (plain : ℕ) (plain-is : plain ≡ plainKind kind) (a : Answer) (answered : PlainIs b tag start plain o row a) where
+    pub outcome-plain : kind < oppositeFrom → OutcomeIs b tag start kind o row a
+    unfolding outcomeOf plainKind
+    outcome-plain h rows c s l = rw (lt-ltb kind oppositeFrom h) ((rw (plain-is, lt-ltb kind oppositeFrom h) at answered) rows c s l)
+
+    pub outcome-opposite : oppositeFrom ≤ kind → (r : Answer) → r ≡ opposite a → OutcomeIs b tag start kind o row r
+    unfolding outcomeOf plainKind
+    outcome-opposite h r turned rows c s l =
+        rw (le-ltb kind oppositeFrom h) (turned ∙ ap opposite ((rw (plain-is, le-ltb kind oppositeFrom h) at answered) rows c s l))
