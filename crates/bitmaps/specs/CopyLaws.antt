@@ -19,7 +19,7 @@ copy-byte from old to i e l q =
     let m : i < length old = omega arith in
     rw (q, drop-cons old i 0, add-one, take-suc from i 0)
     (set-at (take i from) (getD old i 0) (drop (suc i) old) (getD from i 0) i (length-take-le i from (omega arith))
-     ∙ sym (append-assoc (take i from) (getD from i 0 ∷ []) (drop (suc i) old)))
+    ∙ sym (append-assoc (take i from) (getD from i 0 ∷ []) (drop (suc i) old)))
 
 pub copy-end : (from old to : List ℕ) (i : ℕ) → length from ≡ length old → length from ≤ i → to ≡ take i from ++ drop i old → to ≡ from
 copy-end from old to i e l q = q ∙ ap₂ _++_ (take-all i from l) (drop-of-length-le old {i = i} (omega arith)) ∙ append-nil from
