@@ -134,7 +134,7 @@ module _ (b : List ℕ) (rows columns from : ℕ) (tags starts : List ℕ) (at i
       → LaidOut b r (withRows rows (columnsAt b rows columns from))
   reading-all r l e q =
       rw (g .whole, columns-none b rows (columns - i) at (omega arith), eq-eqb _ _ e, append-nil, q)
-      (refl, refl, omega (arith, g .done-count, g .count), omega (arith, g .short), omega (arith, g .few), g .shown)
+      (refl, refl, omega (arith, g .done-count, g .count), omega (arith, g .short), omega (arith, g .few), g .shown, g .tags-size, g .starts-size)
 
 -- the whole catalogue, from its first field
 pub laid-refused : (b : List ℕ) (f : First) (e : ℕ) (r : Layout) → f ≡ firstOf b (headerAt b 0 (length b)) → f ≡ first.Refused e → IsRefusal e → r .refusal ≡ e → r .rows ≡ 0 → r .columns ≡ 0 → LaidOut b r (decodeCatalogue b)

@@ -27,7 +27,7 @@ abbrev pub LaidOut : List ℕ → Layout → Decoded Catalogue → Type 0
 LaidOut b l (refused e) = (l .refusal ≡ e) × (0 < e) × (e ≤ bytesAfterColumns) × (l .rows ≡ 0) × (l .columns ≡ 0)
 LaidOut b l (accepted c) =
     (l .refusal ≡ 0) × (l .rows ≡ c .rows) × (l .columns ≡ length (c .columns)) × (l .rows ≤ rowLimit) × (l .columns ≤ columnLimit)
-    × ShowsAll b (c .rows) (l .tags) (l .starts) 0 (c .columns)
+    × ShowsAll b (c .rows) (l .tags) (l .starts) 0 (c .columns) × (length (l .tags) ≡ columnLimit) × (length (l .starts) ≡ columnLimit)
 
 -- some column is shown there, and has that row
 abbrev pub HasRow : List ℕ → (tag start row : ℕ) → Type 0

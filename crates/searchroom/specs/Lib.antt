@@ -1,3 +1,6 @@
 pub mod Word
+pub mod Refusals
+pub mod Input
 pub mod Answers
+pub mod Run
 pub mod Cases

@@ -3,10 +3,10 @@ use crate::word::Answer;
 ghost use mathlib.Core.Path.{_≡_};
 ghost use Rattle.catalogue.specs.Decode.{decodeCatalogue};
 ghost use Rattle.searchroom.specs.Word.{packed};
-ghost use Rattle.searchroom.specs.Answers.{catalogueAnswer, CatalogueAnswered};
+ghost use Rattle.searchroom.specs.Answers.{catalogueAnswer, Answered};
 
 fn check_catalogue(catalogue: &[u8]) -> Answer
-    ensures { λ r. ⌜ CatalogueAnswered (decodeCatalogue (now (catalogue .entry))) r ⌝ }
+    ensures { λ r. ⌜ Answered (catalogueAnswer (decodeCatalogue (now (catalogue .entry)))) r ⌝ }
 {
     let layout = catalogue::layout::lay_out(catalogue);
     let refusal = layout.refusal;

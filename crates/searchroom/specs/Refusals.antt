@@ -1,0 +1,18 @@
+-- The refusals of the calls themselves, 15 to 18.
+use Prim.Native.Nat.{ℕ}
+
+-- "15, the order is not n bytes holding each number once"
+abbrev pub notOrder : ℕ
+notOrder = 15
+
+-- "16, a table is too short"
+abbrev pub tableTooShort : ℕ
+tableTooShort = 16
+
+-- "17, the tally is not eight bytes or the sum would pass 2^64 − 1"
+abbrev pub counterRefused : ℕ
+counterRefused = 17
+
+-- "18, no such entry or condition"
+abbrev pub noSuchPlace : ℕ
+noSuchPlace = 18
