@@ -3,4 +3,5 @@ pub mod Refusals
 pub mod Input
 pub mod Answers
 pub mod Run
+pub mod Parish
 pub mod Cases
