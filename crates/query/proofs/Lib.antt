@@ -1,0 +1,8 @@
+pub mod Records
+pub mod Repeats
+pub mod Fields
+pub mod Runs
+pub mod Ladders
+pub mod Readings
+pub mod Progress
+pub mod WholeQuery
