@@ -22,10 +22,10 @@ use Rattle.query.specs.declared.reader.Progress.{Progress}
 use Rattle.query.specs.declared.reader.Progress.the-variants.{Refused, Next}
 use Rattle.query.specs.Format.{predicateLimit, depthLimit}
 use Rattle.query.specs.Decode.{payloadAt, memberField, Read, stopped, read, settling, asGroup, putBefore, memberThen, member, members}
-use Rattle.query.specs.Table.{recordOf, listed, Placed, Put}
+use Rattle.query.specs.Table.{tableSize, recordOf, listed, Placed, Put}
 use Rattle.query.specs.Run.{run}
-use Rattle.query.specs.Ladder.{rungOf, rungs, Tables, tables, ladder, Low, Under, Kept, Closed, ClosedTo}
-use Rattle.query.specs.Reader.{Risen, Told, MemberRead, MembersRead, Within}
+use Rattle.query.specs.Ladder.{rungOf, rungs, Tables, tables, LaddersSized, ladder, Low, Under, Kept, Closed, ClosedTo}
+use Rattle.query.specs.Reader.{Risen, Told, MemberRead, MembersRead, Within, Room}
 use Rattle.query.proofs.Records.{listed-put, placed-put, record-shows}
 use Rattle.query.proofs.Ladders.{rungs-append, fresh-at, fresh-off, fresh-low}
 use Rattle.query.proofs.Readings.{SoundTree, SoundForest, member-sound, members-sound}
@@ -189,9 +189,51 @@ group-within q at end depth n start stop p m tag T0 P M S H M′ S′ H′ a b w
       λ k i. D .same-before k i ∙ w .7 k i,
     )
 
-pub under-more : (n m y d : ℕ) (H H′ : List ℕ) → Under n m d H → Under m y d H′ → Kept m H H′ → Under n y d H′
+under-more : (n m y d : ℕ) (H H′ : List ℕ) → Under n m d H → Under m y d H′ → Kept m H H′ → Under n y d H′
 under-more n m y d H H′ a b e c i j = go (which (ltb c m))
   where
     go : (ltb c m ≡ true) ⊎ (ltb c m ≡ false) → getD H′ c 0 + d ≤ depthLimit
     go (inl z) = let h : c < m = ltb-lt c m z in rw (e c h) (a c i h)
     go (inr z) = b c (ltb-le c m z) j
+
+-- where the loop over a group's members stands: those before `p` are read, and whatever the rest gives, the whole gives
+pub record InGroup (tags q : List ℕ) (at end depth n p m : ℕ) (T0 T : Tables) : Type 0 where
+  pub past : at ≤ p
+  pub more : n ≤ m
+  pub room : Room p end depth m q T
+  pub under : Under n m depth (T .heights)
+  pub kept : Kept n (T0 .heights) (T .heights)
+  pub rest : (r : Progress) (T′ : Tables) → MembersRead tags q p end depth m r T T′ → MembersRead tags q at end depth n r T0 T′
+
+pub in-group-none : (tags q : List ℕ) (at end depth n : ℕ) (T : Tables) → Room at end depth n q T → InGroup tags q at end depth n at n T T
+in-group-none tags q at end depth n T R = record {
+  past = omega arith;
+  more = omega arith;
+  room = R;
+  under = λ c i j. absurd (omega arith);
+  kept = λ c i. refl;
+  rest = λ r T′ h. h;
+}
+
+module _ (tags q : List ℕ) (at end depth n p m : ℕ) (T0 T : Tables) (G : InGroup tags q at end depth n p m T0 T) where
+  pub in-group-end : end ≤ p → Within at end depth n q (Next p m) T0 T × MembersRead tags q at end depth n (Next p m) T0 T
+  in-group-end l =
+      let z : p ≡ end = omega (arith, G .room .order) in (
+        (G .past, G .room .order, G .more, G .room .listed .few, G .room .listed .placed, G .room .low, G .under, G .kept),
+        G .rest (Next p m) T (members-end tags q p end depth m T T z),
+      )
+
+  module _ (T1 : Tables) (left : p < end) where
+    pub in-group-refused : (e : ℕ) → MemberRead tags q p end depth m (Refused e) T T1 → MembersRead tags q at end depth n (Refused e) T0 T1
+    in-group-refused e h = G .rest (Refused e) T1 (members-refused tags q p end depth m T T1 e (λ z. omega arith) h)
+
+    pub in-group-more : (next k : ℕ) → Within (p + headerSize) end depth m q (Next next k) T T1 → MemberRead tags q p end depth m (Next next k) T T1
+        → length (T1 .records) ≡ tableSize → LaddersSized (T1 .masks) (T1 .sorts) (T1 .heights) → InGroup tags q at end depth n next k T0 T1
+    in-group-more next k w h s l = record {
+      past = omega (arith, G .past);
+      more = omega (arith, G .more);
+      room = record { order = w .1; inside = G .room .inside; deep = G .room .deep; listed = record { sized = s; few = w .3; placed = w .4 }; ladders = l; low = w .5 };
+      under = under-more n m k depth (T .heights) (T1 .heights) (G .under) (w .6) (w .7);
+      kept = λ c i. w .7 c (omega (arith, G .more)) ∙ G .kept c i;
+      rest = λ r T′ g. G .rest r T′ (members-more tags q p end depth m T T1 next k r T′ (λ z. omega arith) (omega arith) (w .1) h g);
+    }
