@@ -9,21 +9,15 @@ use mathlib.Core.List.{List, [], _∷_, _++_}
 use lib.ListN.{length, getD, set}
 use lib.Seq.{getD-set-same, getD-set-other}
 use Rattle.strategy.specs.Bools.{same?}
-use Rattle.strategy.specs.Climb.{Group}
+use Rattle.sets.specs.Rungs.{Rung}
 use Rattle.query.specs.Format.{depthLimit}
-use Rattle.query.specs.Run.{run}
-use Rattle.query.specs.Ladder.{Rung, rungOf, rungs, Tables, tables, rungsFrom, ladder, Low, Closed}
+use Rattle.query.specs.Ladder.{taggedRung, Tables, tables, rungsFrom, ladder, Low, Closed}
 
-pub rungs-append : (gs hs : List Group) → rungs (gs ++ hs) ≡ rungs gs ++ rungs hs
-unfolding rungs
-rungs-append [] hs = refl
-rungs-append (g ∷ gs) hs = ap (λ r. record { absorbing = g .absorbing; mask = run (g .first) (g .count) } ∷ r) (rungs-append gs hs)
-
-from-last : (M S : List ℕ) (i n : ℕ) → rungsFrom M S i (suc n) ≡ rungsFrom M S i n ++ (rungOf (getD S (i + n) 0) (getD M (i + n) 0) ∷ [])
+from-last : (M S : List ℕ) (i n : ℕ) → rungsFrom M S i (suc n) ≡ rungsFrom M S i n ++ (taggedRung (getD S (i + n) 0) (getD M (i + n) 0) ∷ [])
 unfolding rungsFrom
 from-last M S i zero = rw (add-zero i)
 from-last M S i (suc n) =
-    ap (λ r. rungOf (getD S i 0) (getD M i 0) ∷ r) (from-last M S (suc i) n)
+    ap (λ r. taggedRung (getD S i 0) (getD M i 0) ∷ r) (from-last M S (suc i) n)
     ∙ (let e : suc i + n ≡ i + suc n = omega arith in rw e)
 
 from-same : (M S : List ℕ) (j x y i n : ℕ) → ((k : ℕ) → i ≤ k → k < i + n → k ≡ j → ⊥) → rungsFrom (set M j x) (set S j y) i n ≡ rungsFrom M S i n
@@ -53,7 +47,7 @@ module _ (P M S H : List ℕ) (c h tag mask : ℕ) (e : h ≡ getD H c 0) (lt : 
   abbrev raised : Tables
   raised = tables P (set M (depthLimit * c + h) mask) (set S (depthLimit * c + h) tag) (set H c (h + 1))
 
-  raise-at : ladder raised c ≡ ladder (tables P M S H) c ++ (rungOf tag mask ∷ [])
+  raise-at : ladder raised c ≡ ladder (tables P M S H) c ++ (taggedRung tag mask ∷ [])
   unfolding ladder
   raise-at =
       rw (
@@ -72,7 +66,7 @@ module _ (P M S H : List ℕ) (c h tag mask : ℕ) (e : h ≡ getD H c 0) (lt : 
       rw (getD-set-other H c d (h + 1) 0 n)
       (from-same M S (depthLimit * c + h) mask tag (depthLimit * d) (getD H d 0) (λ k a b z. n (omega arith)))
 
-  pub closed-more : (a m : ℕ) (T : Tables) → a ≤ c → c < m → Closed a c m (rungOf tag mask) T (tables P M S H) → Closed a (c + 1) m (rungOf tag mask) T raised
+  pub closed-more : (a m : ℕ) (T : Tables) → a ≤ c → c < m → Closed a c m (taggedRung tag mask) T (tables P M S H) → Closed a (c + 1) m (taggedRung tag mask) T raised
   closed-more a m T ac cm C = record {
     inside = λ d i j. in-run d i j (same? d c);
     before = λ d i. raise-off d (λ z. omega arith) (C .low d (omega arith)) ∙ C .before d i;
@@ -83,8 +77,8 @@ module _ (P M S H : List ℕ) (c h tag mask : ℕ) (e : h ≡ getD H c 0) (lt : 
     low = λ d i. still-low d i (same? d c);
   }
     where
-      in-run : (d : ℕ) → a ≤ d → d < c + 1 → (d ≡ c) ⊎ (d ≡ c → ⊥) → ladder raised d ≡ ladder T d ++ (rungOf tag mask ∷ [])
-      in-run d i j (inl z) = rw z (raise-at ∙ ap (λ l. l ++ (rungOf tag mask ∷ [])) (C .after c (omega arith) cm))
+      in-run : (d : ℕ) → a ≤ d → d < c + 1 → (d ≡ c) ⊎ (d ≡ c → ⊥) → ladder raised d ≡ ladder T d ++ (taggedRung tag mask ∷ [])
+      in-run d i j (inl z) = rw z (raise-at ∙ ap (λ l. l ++ (taggedRung tag mask ∷ [])) (C .after c (omega arith) cm))
       in-run d i j (inr z) = raise-off d z (C .low d (omega arith)) ∙ C .inside d i (omega arith)
 
       higher : (d : ℕ) → a ≤ d → d < c + 1 → (d ≡ c) ⊎ (d ≡ c → ⊥) → getD (set H c (h + 1)) d 0 ≡ getD (T .heights) d 0 + 1

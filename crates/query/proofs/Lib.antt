@@ -1,7 +1,6 @@
 pub mod Records
 pub mod Repeats
 pub mod Fields
-pub mod Runs
 pub mod Ladders
 pub mod Readings
 pub mod Progress

@@ -14,6 +14,9 @@ use Rattle.fields.proofs.Tests.{tests}
 use Rattle.strategy.specs.Bools.{which, ltb-lt, ltb-le}
 use Rattle.strategy.specs.Tree.{Tree, leaf, group, Forest, none, more, size, sizes, InRun}
 use Rattle.strategy.specs.Climb.{enclosing, enclosingIn}
+use Rattle.sets.specs.Set.{runSet}
+use Rattle.sets.specs.Rungs.{rungs}
+use Rattle.sets.specs.RungLaws.{rungs-append}
 use Rattle.predicate.specs.Meaning.{Predicate}
 use Rattle.predicate.specs.Payload.{payloadHead, predicateOf}
 use Rattle.query.specs.declared.member.MemberField.{MemberField}
@@ -23,11 +26,10 @@ use Rattle.query.specs.declared.reader.Progress.the-variants.{Refused, N
 use Rattle.query.specs.Format.{predicateLimit, depthLimit}
 use Rattle.query.specs.Decode.{payloadAt, memberField, Read, stopped, read, settling, asGroup, putBefore, memberThen, member, members}
 use Rattle.query.specs.Table.{tableSize, recordOf, listed, Placed, Put}
-use Rattle.query.specs.Run.{run}
-use Rattle.query.specs.Ladder.{rungOf, rungs, Tables, tables, LaddersSized, ladder, Low, Under, Kept, Closed, ClosedTo}
+use Rattle.query.specs.Ladder.{taggedRung, Tables, tables, LaddersSized, ladder, Low, Under, Kept, Closed, ClosedTo}
 use Rattle.query.specs.Reader.{Risen, Told, MemberRead, MembersRead, Within, Room}
 use Rattle.query.proofs.Records.{listed-put, placed-put, record-shows}
-use Rattle.query.proofs.Ladders.{rungs-append, fresh-at, fresh-off, fresh-low}
+use Rattle.query.proofs.Ladders.{fresh-at, fresh-off, fresh-low}
 use Rattle.query.proofs.Readings.{SoundTree, SoundForest, member-sound, members-sound}
 
 -- ladders
@@ -42,13 +44,13 @@ risen-more n k l t f T T1 T2 e A B = record { old = λ c h. B .old c (omega arit
     go c i (inl z) = let h : c < n + size t = ltb-lt c (n + size t) z in rw z (B .old c (omega arith) ∙ A .new c (omega arith))
     go c i (inr z) = let h : n + size t ≤ c = ltb-le c (n + size t) z in rw (z, e) (B .new c (omega arith))
 
-risen-group : (n k tag : ℕ) (f : Forest ℕ) (T T1 T2 : Tables) → sizes f ≡ k → Risen n k (enclosingIn f n) T T1 → Closed n (n + k) (n + k) (rungOf tag (run n k)) T1 T2
+risen-group : (n k tag : ℕ) (f : Forest ℕ) (T T1 T2 : Tables) → sizes f ≡ k → Risen n k (enclosingIn f n) T T1 → Closed n (n + k) (n + k) (taggedRung tag (runSet n k)) T1 T2
     → Risen n k (enclosing (group (settling tag) f) n) T T2
 unfolding enclosing rungs
 risen-group n k tag f T T1 T2 e A C = record {
   old = λ c h. C .before c h ∙ A .old c h;
   new = λ c i.
-      C .inside c (i .0) (i .1) ∙ ap (λ l. l ++ (rungOf tag (run n k) ∷ [])) (A .new c i)
+      C .inside c (i .0) (i .1) ∙ ap (λ l. l ++ (taggedRung tag (runSet n k) ∷ [])) (A .new c i)
       ∙ rw e (sym (rungs-append (enclosingIn f n c) (record { absorbing = settling tag; first = n; count = k } ∷ [])));
 }
 
@@ -93,7 +95,7 @@ module _ (q : List ℕ) (n : ℕ) (T T1 T2 : Tables) where
   group-refused (read f ps next) tag e h = let z : _≡_ {A = ℕ} 0 1 = cc in absurd (omega arith)
 
   group-told : (tags : List ℕ) (at end number : ℕ) (o : Read (Forest ℕ)) (tag p m : ℕ) → SoundForest tags q at end number o → Told q enclosingIn n o (Next p m) T T1
-      → T2 .records ≡ T1 .records → Closed n m m (rungOf tag (run n (m - n))) T1 T2 → Told q enclosing n (asGroup tag o) (Next p m) T T2
+      → T2 .records ≡ T1 .records → Closed n m m (taggedRung tag (runSet n (m - n))) T1 T2 → Told q enclosing n (asGroup tag o) (Next p m) T T2
   group-told tags at end number (stopped x) tag p m s h a C = let z : _≡_ {A = ℕ} 0 1 = cc in absurd (omega arith)
   group-told tags at end number (read f ps next) tag p m s h a C =
       let y : m ≡ n + length ps = cc in
@@ -139,7 +141,7 @@ module _ (tags q : List ℕ) (at end depth n : ℕ) (T T1 : Tables) where
           simp (← f-is, is-group) (group-refused q n T T1 T1 (members k tags q start stop (depth + 1) (listed q (T .records) n)) tag e (g k (omega arith)))
 
       pub member-group : (p m : ℕ) (T2 : Tables) → MembersRead tags q start stop (depth + 1) n (Next p m) T T1 → T2 .records ≡ T1 .records
-          → Closed n m m (rungOf tag (run n (m - n))) T1 T2 → MemberRead tags q at end depth n (Next p m) T T2
+          → Closed n m m (taggedRung tag (runSet n (m - n))) T1 T2 → MemberRead tags q at end depth n (Next p m) T T2
       unfolding member
       member-group p m T2 g c C zero l = absurd (omega arith)
       member-group p m T2 g c C (suc k) l =

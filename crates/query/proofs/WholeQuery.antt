@@ -63,9 +63,6 @@ recorded tags q T c l f =
     record { placed = l; valid = f .valid; column = v .column; kind = kind-small _ _ (v .kind) }
 
 module _ (tags q : List ℕ) (T T1 : Tables) where
-
-
-
   told : (r : _) → MemberRead tags q 0 (length q) 0 0 r T T1 → Told q enclosing 0 (member (2 * length q + 1) tags q 0 (length q) 0 []) r T T1
   unfolding listed
   told r h = h (2 * length q + 1) (omega arith)

@@ -7,6 +7,7 @@ use lib.ListN.{length, getD}
 use Rattle.fields.specs.Decoded.{Decoded, refused, accepted}
 use Rattle.strategy.specs.Tree.{size, Numbered, NonEmpty}
 use Rattle.strategy.specs.Climb.{enclosing}
+use Rattle.sets.specs.Rungs.{rungs}
 use Rattle.predicate.specs.Payload.{validPayload}
 use Rattle.query.specs.declared.whole.Reading.{Reading}
 use Rattle.query.specs.declared.whole.Reading.the-variants.{Refused, Accepted}
@@ -14,7 +15,7 @@ use Rattle.query.specs.Format.{predicateLimit}
 use Rattle.query.specs.Query.{Query}
 use Rattle.query.specs.Decode.{payloadOf}
 use Rattle.query.specs.Table.{tableSize, recordAt, predicateIn, listed}
-use Rattle.query.specs.Ladder.{Tables, LaddersSized, ladder, rungs, Low}
+use Rattle.query.specs.Ladder.{Tables, LaddersSized, ladder, Low}
 use Rattle.query.specs.Sound.{IsRefusal}
 
 pub record TablesSized (T : Tables) : Type 0 where

@@ -1,25 +1,16 @@
 -- The groups around each predicate as the engine holds them: a ladder for each, the innermost group first.
 use Prim.Native.Nat.{ℕ, zero, suc, _+_, _-_, _*_, _≤_, _<_}
 use mathlib.Core.Path.{_≡_}
-use mathlib.Core.Bool.{Bool}
 use mathlib.Core.List.{List, [], _∷_, _++_}
 use lib.ListN.{length, getD}
-use Rattle.strategy.specs.Climb.{Group}
+use Rattle.sets.specs.Set.{runSet}
+use Rattle.sets.specs.Rungs.{Rung}
 use Rattle.query.specs.Format.{predicateLimit, depthLimit}
 use Rattle.query.specs.Decode.{settling}
-use Rattle.query.specs.Run.{run}
 
--- a group on a ladder: the outcome that settles it, and its predicates as a set
-pub record Rung : Type 0 where
-  pub absorbing : Bool
-  pub mask : ℕ
-
-abbrev pub rungOf : (tag mask : ℕ) → Rung
-rungOf tag mask = record { absorbing = settling tag; mask = mask }
-
-unfoldable pub rungs : List Group → List Rung
-rungs [] = []
-rungs (g ∷ gs) = record { absorbing = g .absorbing; mask = run (g .first) (g .count) } ∷ rungs gs
+-- a rung from the tables: the tag of its group, and the group's predicates as a set
+abbrev pub taggedRung : (tag mask : ℕ) → Rung
+taggedRung tag mask = record { absorbing = settling tag; mask = mask }
 
 -- the engine's tables: the records of the predicates; the set and the tag of each rung; how many rungs each predicate has
 pub record Tables : Type 0 where
@@ -41,7 +32,7 @@ pub record LaddersSized (masks sorts heights : List ℕ) : Type 0 where
 
 unfoldable pub rungsFrom : (masks sorts : List ℕ) → (i n : ℕ) → List Rung
 rungsFrom M S i zero = []
-rungsFrom M S i (suc n) = rungOf (getD S i 0) (getD M i 0) ∷ rungsFrom M S (suc i) n
+rungsFrom M S i (suc n) = taggedRung (getD S i 0) (getD M i 0) ∷ rungsFrom M S (suc i) n
 
 -- the rungs of a predicate
 unfoldable pub ladder : Tables → (c : ℕ) → List Rung
@@ -71,4 +62,4 @@ pub record Closed (a k m : ℕ) (r : Rung) (T T′ : Tables) : Type 0 where
 
 -- the group of the predicates from `a` up to `m` closed, whatever the records are
 abbrev pub ClosedTo : (a m tag : ℕ) → (M S H M′ S′ H′ : List ℕ) → Type 0
-ClosedTo a m tag M S H M′ S′ H′ = (P : List ℕ) → Closed a m m (rungOf tag (run a (m - a))) (tables P M S H) (tables P M′ S′ H′)
+ClosedTo a m tag M S H M′ S′ H′ = (P : List ℕ) → Closed a m m (taggedRung tag (runSet a (m - a))) (tables P M S H) (tables P M′ S′ H′)

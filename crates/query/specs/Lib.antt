@@ -2,7 +2,6 @@ pub mod Format
 pub mod Query
 pub mod Decode
 pub mod Table
-pub mod Run
 pub mod Ladder
 pub mod Sound
 pub mod Reader

@@ -5,12 +5,13 @@ use mathlib.Core.List.{List, _++_}
 use lib.ListN.{length}
 use Rattle.strategy.specs.Tree.{Tree, Forest, InRun}
 use Rattle.strategy.specs.Climb.{Group, enclosing, enclosingIn}
+use Rattle.sets.specs.Rungs.{rungs}
 use Rattle.query.specs.declared.reader.Progress.{Progress}
 use Rattle.query.specs.declared.reader.Progress.the-variants.{Refused, Next}
 use Rattle.query.specs.Format.{predicateLimit, depthLimit}
 use Rattle.query.specs.Decode.{Read, stopped, read, member, members}
 use Rattle.query.specs.Table.{listed, Placed, Listed}
-use Rattle.query.specs.Ladder.{Tables, LaddersSized, ladder, rungs, Low, Under, Kept}
+use Rattle.query.specs.Ladder.{Tables, LaddersSized, ladder, Low, Under, Kept}
 use Rattle.query.specs.Sound.{IsRefusal}
 
 -- the ladders of the first n are as they were, those of the k read are their groups

@@ -26,7 +26,7 @@ pub fn close_group(
     requires { ⌜ Under a m 1 (now heights) ⌝ }
     ensures { λ _. ⌜ ClosedTo a m tag (now (masks .entry)) (now (sorts .entry)) (now (heights .entry)) (now (masks .exit)) (now (sorts .exit)) (now (heights .exit)) ⌝ }
 {
-    let mask = crate::run::run_of(narrow(a), narrow(m));
+    let mask = sets::run_of(narrow(a), narrow(m));
     let mut c = a;
     while c < m {
         let h = heights[c];

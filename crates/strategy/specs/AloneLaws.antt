@@ -9,7 +9,8 @@ use lib.Dec.{ltb, eqb}
 use Rattle.strategy.specs.Bools.{clash, iff-eq, each, both, and-parts, or-cases, or-left, or-right, eqb-self, eqb-eq, same?, ltb-yes, ltb-no, not-of-true}
 use Rattle.strategy.specs.Assignment.{Assignment, update, Among, AgreeOff}
 use Rattle.strategy.specs.AssignmentLaws.{update-same, update-other, update-twice, update-agrees, among?, elem-yes, elem-no}
-use Rattle.strategy.specs.Due.{Due, due}
+use Rattle.strategy.specs.Strategy.{Due}
+use Rattle.strategy.specs.Trace.{due}
 use Rattle.strategy.specs.DueLaws.{due-law}
 use Rattle.strategy.specs.Tree.{Tree, leaf, group, Forest, none, more, join, settles, eval, evals, size, sizes, Numbered, Numbereds, InRun}
 use Rattle.strategy.specs.TreeLaws.{settles-not, settles-no, join-unit-left, join-unit-right, join-not, join-cases, Toward, eval-toward, evals-toward, eval-run, evals-run}

@@ -3,10 +3,10 @@ use Prim.Native.Nat.{ℕ}
 use mathlib.Core.Path.{_≡_, refl, sym, _∙_, subst, fun-ext}
 use mathlib.Core.Bool.{Bool, true, false, cond}
 use mathlib.Core.Logic.{_⊎_, inl, inr}
-use mathlib.Core.List.{List, [], _∷_, _++_}
+use mathlib.Core.List.{List, [], _∷_}
 use lib.Dec.{eqb}
 use Rattle.strategy.specs.Bools.{clash, not-true, or-cases, or-right, eqb-self, eqb-eq, eqb-ne, same?}
-use Rattle.strategy.specs.Assignment.{Assignment, update, Among, elem, Once, AgreeOff}
+use Rattle.strategy.specs.Assignment.{Assignment, update, Among, elem, AgreeOff}
 
 pub update-same : (a : Assignment) (c : ℕ) (b : Bool) → update a c b c ≡ b
 unfolding update
@@ -75,8 +75,3 @@ elem-among c (d ∷ ds) h =
 
 pub elem-no : (c : ℕ) (l : List ℕ) → (Among c l → ⊥) → elem c l ≡ false
 elem-no c l n = not-true (elem c l) (λ e. n (elem-among c l e))
-
--- a predicate whose turn has come does not stand among the later ones
-pub once-later : (before : List ℕ) (c : ℕ) (later : List ℕ) → Once (before ++ (c ∷ later)) → Among c later → ⊥
-once-later [] c later o = o .0
-once-later (b ∷ bs) c later o = once-later bs c later (o .1)

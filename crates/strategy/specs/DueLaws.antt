@@ -7,7 +7,8 @@ use mathlib.Core.List.{List, [], _∷_}
 use Rattle.strategy.specs.Bools.{clash, not-true, stable, iff-eq, or-cases, or-left, or-right, xor-differ, differ-xor, same?}
 use Rattle.strategy.specs.Assignment.{Assignment, update, Among, AgreeOff}
 use Rattle.strategy.specs.AssignmentLaws.{update-same, update-other, update-self, update-twice, update-swap, update-off, off-more}
-use Rattle.strategy.specs.Due.{Formula, Due, decides, someOutcomes, due}
+use Rattle.strategy.specs.Strategy.{Formula, Due}
+use Rattle.strategy.specs.Trace.{decides, someOutcomes, due}
 
 some-gives : (l : List ℕ) (P : Assignment → Bool) (a : Assignment) → someOutcomes l P a ≡ true → (q : Assignment) × AgreeOff l q a × (P q ≡ true)
 unfolding someOutcomes

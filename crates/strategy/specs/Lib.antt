@@ -1,9 +1,9 @@
 pub mod Bools
 pub mod Assignment
 pub mod AssignmentLaws
-pub mod Due
-pub mod DueLaws
 pub mod Strategy
+pub mod Trace
+pub mod DueLaws
 pub mod Turns
 pub mod Optimality
 pub mod Ours
@@ -25,4 +25,6 @@ pub mod OrderCheck
 pub mod Walk
 pub mod Row
 pub mod RowLaws
+pub mod QueryLaws
+pub mod Parish
 pub mod Mistakes

@@ -1,15 +1,14 @@
--- Every right strategy makes each of our probes, on every assignment.
+-- Every right strategy makes each of our probes: on every assignment, and so over all rows.
 use Prim.Native.Nat.{ℕ, _≤_}
 use native.Mathlib.Omega.{arith}
-use mathlib.Core.Path.{_≡_, refl, _∙_}
-use mathlib.Core.Bool.{true}
-use mathlib.Core.List.{List, [], _∷_, _++_}
+use mathlib.Core.Path.{refl, sym, _∙_, subst}
+use mathlib.Core.List.{List, [], _∷_}
 use lib.ListN.{length}
-use Rattle.strategy.specs.Assignment.{Assignment, Once, AgreeOff}
-use Rattle.strategy.specs.AssignmentLaws.{once-later}
-use Rattle.strategy.specs.Due.{Formula, Due}
-use Rattle.strategy.specs.Strategy.{Strategy, run, trace, Right, RightFixing, ProbesOurs, sumOver}
-use Rattle.strategy.specs.Turns.{must-probe, right-later, probed-from, counted-from}
+use Rattle.strategy.specs.Assignment.{Assignment, Among, Once, AgreeOff}
+use Rattle.strategy.specs.Strategy.{Formula, Strategy, run, predicates, Right, Optimality}
+use Rattle.strategy.specs.Trace.{trace, RightFixing, ProbesOurs, sumOver}
+use Rattle.strategy.specs.Turns.{probed-from, counted-from}
+use Rattle.strategy.specs.TraceLaws.{trace-due}
 
 -- THE THEOREM, in general: a strategy that is right wherever `fixed`'s outcomes off the order are kept makes each of our
 -- probes there. The order has no repeats; nothing else is asked of the order or the formula.
@@ -30,13 +29,11 @@ pub optimal-count : (f : Formula) (order : List ℕ) → Once order → (S : Str
     → (a : Assignment) → length (trace f a order) ≤ length (run S a order)
 optimal-count f order o S R a = optimal-count-fixing f order o S a (λ q g. R q) a (λ d n. refl)
 
--- the same turn by turn: where `c` is due on `a`, a right strategy probes it in its turn on `a`
-pub optimal-turn : (f : Formula) (before : List ℕ) (c : ℕ) (later : List ℕ) → Once (before ++ (c ∷ later))
-    → (S : Strategy) → Right f (before ++ (c ∷ later)) S
-    → (a : Assignment) → Due f c later a → S .probe c (run S a before) ≡ true
-optimal-turn f before c later o S R a D =
-    must-probe f c later S a (run S a before) (once-later before c later o)
-    (right-later f S a before (c ∷ later) [] o (λ q g. R q)) D
+-- the same from the plain sentence, with no test: what is due at its turn is probed
+pub optimality : Optimality
+optimality f order o S R a before c later e D =
+    optimal f order o S R a c (subst (λ (l : List ℕ). Among c (predicates (trace f a l))) (sym e)
+    (trace-due f a before c later (subst Once e o) .1 D))
 
 sum-le : {R : Type 0} (m n : R → ℕ) → ((r : R) → m r ≤ n r) → (rows : List R) → sumOver m rows ≤ sumOver n rows
 unfolding sumOver

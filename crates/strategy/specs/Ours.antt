@@ -5,8 +5,8 @@ use mathlib.Core.Bool.{cond}
 use mathlib.Core.List.{List, [], _∷_}
 use lib.Dec.{eqb}
 use Rattle.strategy.specs.Assignment.{Assignment, allNo, update, AgreeOn}
-use Rattle.strategy.specs.Due.{Formula, due}
-use Rattle.strategy.specs.Strategy.{State, Strategy}
+use Rattle.strategy.specs.Strategy.{Formula, State, Strategy}
+use Rattle.strategy.specs.Trace.{due}
 
 -- `a` with the outcomes of a state put in
 unfoldable pub recall : Assignment → State → Assignment

@@ -7,9 +7,9 @@ use mathlib.Core.List.{List, [], _∷_, _++_, append-assoc, append-nil}
 use Rattle.strategy.specs.Bools.{iff-eq, eqb-self, eqb-ne}
 use Rattle.strategy.specs.Assignment.{Assignment, allNo, update, Among, Once, AgreeOff, AgreeOn, keepIf}
 use Rattle.strategy.specs.AssignmentLaws.{update-same, update-other, update-off, off-more, among?}
-use Rattle.strategy.specs.Due.{Formula, Due, due}
+use Rattle.strategy.specs.Strategy.{Formula, Due, State, Strategy, turn, runFrom, run, answerOf, Right}
+use Rattle.strategy.specs.Trace.{due, trace, RightFixing}
 use Rattle.strategy.specs.DueLaws.{due-law, idle}
-use Rattle.strategy.specs.Strategy.{State, Strategy, turn, runFrom, run, answerOf, trace, Right, RightFixing}
 use Rattle.strategy.specs.Ours.{recall, passedAsNo, after, ours, ReadsOnly}
 
 -- a probe adds its outcome to what the state tells

@@ -9,8 +9,8 @@ use lib.ListN.{length, getD, drop, drop-of-length-le}
 use lib.Seq.{drop-cons}
 use Rattle.strategy.specs.Bools.{which}
 use Rattle.strategy.specs.Assignment.{Assignment}
-use Rattle.strategy.specs.Due.{due}
-use Rattle.strategy.specs.Strategy.{State, trace}
+use Rattle.strategy.specs.Strategy.{State}
+use Rattle.strategy.specs.Trace.{due, trace}
 use Rattle.strategy.specs.Order.{Order}
 use Rattle.strategy.specs.Tree.{Tree, eval, size, Numbered, NonEmpty}
 use Rattle.strategy.specs.Live.{Live, Step, probed}
@@ -52,9 +52,8 @@ pub record Loop (t : Tree ℕ) (a : Assignment) (order : List ℕ) (i : ℕ) (li
   pub walk : Walk t a (drop i order) live
   pub told : made ++ trace (eval t) a (drop i order) ≡ trace (eval t) a order
 
-pub loop-start : (t : Tree ℕ) → Numbered t 0 → NonEmpty t → (a : Assignment) (order : List ℕ) → Order (size t) order
-    → (live : Live) → ((d : ℕ) → d < size t → live d ≡ true) → Loop t a order 0 live []
-loop-start t n u a order O live h = record { walk = walk-start t n u a order O live h; told = refl }
+pub loop-start : (t : Tree ℕ) (a : Assignment) (order : List ℕ) (live : Live) → Walk t a order live → Loop t a order 0 live []
+loop-start t a order live W = record { walk = W; told = refl }
 
 -- the places are never used up
 pub loop-end : (t : Tree ℕ) (a : Assignment) (order : List ℕ) (i : ℕ) (live : Live) (made : State) → length order ≤ i → Loop t a order i live made → ⊥
@@ -90,7 +89,7 @@ module _ (t : Tree ℕ) (n : Numbered t 0) (a : Assignment) (order : List ℕ) (
     told = ap (λ l. made ++ l) (sym (trace-pass t n a c cs live W h)) ∙ told;
   }
 
-  -- `v` is the outcome, `s` what the climb gives
+  -- probed, and the climb gives `s`
   module _ (h : live (getD order i 0) ≡ true) (s : Step)
       (e : climb (a (getD order i 0)) (enclosing t 0 (getD order i 0)) (probed (getD order i 0) live) ≡ s) where
     pub loop-probe : s .settled ≡ false → Loop t a order (i + 1) (s .live) (made ++ ((getD order i 0, a (getD order i 0)) ∷ []))

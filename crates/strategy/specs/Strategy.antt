@@ -1,17 +1,25 @@
--- Strategies, how one is worked on an assignment, and when it is right.
-use Prim.Native.Nat.{ℕ, _+_}
+-- Demand 3 on one screen: when a predicate is due, what a strategy is, when it is right, and what every right one does.
+use Prim.Native.Nat.{ℕ}
 use mathlib.Core.Path.{_≡_}
-use mathlib.Core.Bool.{Bool, cond}
+use mathlib.Core.Bool.{Bool, true, false, cond}
 use mathlib.Core.List.{List, [], _∷_, _++_}
-use Rattle.strategy.specs.Assignment.{Assignment, Among, AgreeOff, keepIf}
-use Rattle.strategy.specs.Due.{Formula, due}
+use Rattle.strategy.specs.Assignment.{Assignment, update, Among, Once, AgreeOff}
 
--- what was seen on a row: each predicate probed with its outcome, in the order probed
+-- a query as a function: its value on each assignment; a tree's value is one such
+abbrev pub Formula : Type 0
+Formula = Assignment → Bool
+
+-- document 01: with the conditions earlier in the order at their true outcomes, some outcomes of the later ones make
+-- this condition alone decide the tree. What is neither `c` nor later keeps its outcome in `a`.
+abbrev pub Due : Formula → ℕ → List ℕ → Assignment → Type 0
+Due f c later a = (q : Assignment) × AgreeOff later q a × (f (update q c true) ≡ f (update q c false) → ⊥)
+
+-- what was seen on a row: each predicate probed with its outcome, in the sequence probed; none at first
 abbrev pub State : Type 0
 State = List (ℕ × Bool)
 
--- document 01's way, for a query and an order: at its turn a predicate is probed (a look) or passed, by the predicate
--- and the state; after the last the answer comes from the state
+-- document 01's way, given for a query and an order: at its turn a predicate is probed (a look) or passed, by the
+-- predicate and the state; after the last the answer comes from the state
 pub record Strategy : Type 0 where
   pub probe : ℕ → State → Bool
   pub answer : State → Bool
@@ -20,19 +28,15 @@ pub record Strategy : Type 0 where
 unfoldable pub turn : Strategy → Assignment → ℕ → State → State
 turn S a c s = cond (S .probe c s) (s ++ ((c, a c) ∷ [])) s
 
--- the turns of a list, from a state
+-- the turns of a list in sequence, from a state; and of the whole order, from nothing seen
 unfoldable pub runFrom : Strategy → Assignment → List ℕ → State → State
 runFrom S a [] s = s
 runFrom S a (c ∷ cs) s = runFrom S a cs (turn S a c s)
 
--- the whole order, from nothing seen
 abbrev pub run : Strategy → Assignment → List ℕ → State
 run S a order = runFrom S a order []
 
-abbrev pub answerOf : Strategy → Assignment → List ℕ → Bool
-answerOf S a order = S .answer (run S a order)
-
--- the predicates of a state
+-- the predicates it probes, and its answer
 unfoldable pub predicates : State → List ℕ
 predicates [] = []
 predicates (x ∷ s) = x .0 ∷ predicates s
@@ -40,24 +44,15 @@ predicates (x ∷ s) = x .0 ∷ predicates s
 abbrev pub probes : Strategy → Assignment → List ℕ → List ℕ
 probes S a order = predicates (run S a order)
 
--- demand 2: the predicates that are due at their turns, with their outcomes, in the order's sequence
-unfoldable pub trace : Formula → Assignment → List ℕ → State
-trace f a [] = []
-trace f a (c ∷ cs) = keepIf (due f c cs a) (c, a c) (trace f a cs)
+abbrev pub answerOf : Strategy → Assignment → List ℕ → Bool
+answerOf S a order = S .answer (run S a order)
 
 -- right whatever the assignment
 abbrev pub Right : Formula → List ℕ → Strategy → Type 0
 Right f order S = (a : Assignment) → answerOf S a order ≡ f a
 
--- right on the assignments that have `fixed`'s outcomes off the order, for an order that leaves predicates out
-abbrev pub RightFixing : Assignment → Formula → List ℕ → Strategy → Type 0
-RightFixing fixed f order S = (a : Assignment) → AgreeOff order a fixed → answerOf S a order ≡ f a
-
--- demand 3 on one assignment: `S` makes each of our probes
-abbrev pub ProbesOurs : Formula → List ℕ → Strategy → Assignment → Type 0
-ProbesOurs f order S a = (c : ℕ) → Among c (predicates (trace f a order)) → Among c (probes S a order)
-
--- the sum of a number over rows
-unfoldable pub sumOver : {R : Type 0} → (R → ℕ) → List R → ℕ
-sumOver n [] = 0
-sumOver n (r ∷ rows) = n r + sumOver n rows
+-- DEMAND 3, proved as `optimality`: on every assignment a right strategy probes whatever is due at its turn
+abbrev pub Optimality : Type 0
+Optimality =
+    (f : Formula) (order : List ℕ) → Once order → (S : Strategy) → Right f order S → (a : Assignment)
+    → (before : List ℕ) (c : ℕ) (later : List ℕ) → order ≡ before ++ (c ∷ later) → Due f c later a → Among c (probes S a order)

@@ -9,9 +9,9 @@ use lib.Dec.{eqb}
 use lib.ListN.{length}
 use Rattle.strategy.specs.Assignment.{Assignment, Among, elem, Once, AgreeOn, keepIf}
 use Rattle.strategy.specs.AssignmentLaws.{off-more}
-use Rattle.strategy.specs.Due.{Formula, Due, due}
+use Rattle.strategy.specs.Strategy.{Formula, Due, State, predicates}
+use Rattle.strategy.specs.Trace.{due, trace}
 use Rattle.strategy.specs.DueLaws.{due-law}
-use Rattle.strategy.specs.Strategy.{State, predicates, trace}
 use Rattle.strategy.specs.Ours.{passedAsNo, ours, ReadsOnly}
 use Rattle.strategy.specs.OursLaws.{Same, due-eq, ours-trace, ours-right}
 

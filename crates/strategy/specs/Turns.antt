@@ -8,9 +8,9 @@ use mathlib.Core.List.{List, [], _∷_, _++_}
 use lib.ListN.{length, length-append}
 use Rattle.strategy.specs.Assignment.{Assignment, update, Among, Once, AgreeOn, AgreeOff, keepIf}
 use Rattle.strategy.specs.AssignmentLaws.{update-other, update-off, off-more}
-use Rattle.strategy.specs.Due.{Formula, Due, due}
+use Rattle.strategy.specs.Strategy.{Formula, Due, State, Strategy, turn, runFrom, predicates}
+use Rattle.strategy.specs.Trace.{due, trace}
 use Rattle.strategy.specs.DueLaws.{due-law, settled-none}
-use Rattle.strategy.specs.Strategy.{State, Strategy, turn, runFrom, predicates, trace}
 
 -- right from a state on, for the assignments that have `a`'s outcomes off the turns to come
 abbrev pub RightFrom : Formula → List ℕ → Strategy → Assignment → State → Type 0
@@ -22,20 +22,13 @@ unfolding runFrom turn
 run-agree S q r [] s g = refl
 run-agree S q r (c ∷ cs) s g = rw (g c (inl refl)) (run-agree S q r cs (turn S r c s) (λ d m. g d (inr m)))
 
-pub right-turn : (f : Formula) (c : ℕ) (cs : List ℕ) (S : Strategy) (a : Assignment) (s : State) → (Among c cs → ⊥)
+right-turn : (f : Formula) (c : ℕ) (cs : List ℕ) (S : Strategy) (a : Assignment) (s : State) → (Among c cs → ⊥)
     → RightFrom f (c ∷ cs) S a s → RightFrom f cs S a (turn S a c s)
 unfolding runFrom turn
 right-turn f c cs S a s n R q g = rw (← (g c n)) (R q (off-more c cs q a g))
 
--- right at the start, right at each later turn
-pub right-later : (f : Formula) (S : Strategy) (a : Assignment) (before cs : List ℕ) (s : State) → Once (before ++ cs)
-    → RightFrom f (before ++ cs) S a s → RightFrom f cs S a (runFrom S a before s)
-unfolding runFrom
-right-later f S a [] cs s o R = R
-right-later f S a (b ∷ bs) cs s o R = right-later f S a bs cs (turn S a b s) (o .1) (right-turn f b (bs ++ cs) S a s (o .0) R)
-
 -- what is due is probed: were it passed, two assignments that differ in it alone would give one answer for two values
-pub must-probe : (f : Formula) (c : ℕ) (cs : List ℕ) (S : Strategy) (a : Assignment) (s : State) → (Among c cs → ⊥)
+must-probe : (f : Formula) (c : ℕ) (cs : List ℕ) (S : Strategy) (a : Assignment) (s : State) → (Among c cs → ⊥)
     → RightFrom f (c ∷ cs) S a s → Due f c cs a → S .probe c s ≡ true
 unfolding runFrom turn
 must-probe f c cs S a s n R D = go (S .probe c s) refl

@@ -7,18 +7,18 @@ use mathlib.Core.List.{List, []}
 use lib.ListN.{length, getD}
 use Prim.Native.Nat.{ℕ}
 use Rattle.query.specs.Format.{depthLimit}
-use Rattle.query.specs.Run.{run}
-use Rattle.query.specs.Ladder.{rungOf, tables, LaddersSized, Closed}
+use Rattle.sets.specs.Set.{runSet}
+use Rattle.query.specs.Ladder.{taggedRung, tables, LaddersSized, Closed}
 use Rattle.query.proofs.Ladders.{closed-none, closed-more}
 use Rattle.query.proofs.ladder.close_group.Statement.{statement}
 use Rattle.query.proofs.ladder.close_group.Tie as tie
 use Rattle.query.proofs.ladder.close_group.Reads as reads
 use Rattle.query.proofs.ladder.close_group.Lts as lts
 use Rattle.query.proofs.ladder.narrow.Reads as narrow-reads
-use Rattle.query.proofs.run.run_of.Reads as run-of-reads
+use Rattle.sets.proofs.run_of.Reads as run-of-reads
 
 abbrev Inv-loop : tie.InvT-loop
-Inv-loop masks₀ sorts₀ heights₀ a m tag mask c₀ masks sorts heights c = (a ≤ c) × (c ≤ m) × LaddersSized masks sorts heights × (mask ≡ run a (m - a)) × ((P : List ℕ) → Closed a c m (rungOf tag mask) (tables P masks₀ sorts₀ heights₀) (tables P masks sorts heights))
+Inv-loop masks₀ sorts₀ heights₀ a m tag mask c₀ masks sorts heights c = (a ≤ c) × (c ≤ m) × LaddersSized masks sorts heights × (mask ≡ runSet a (m - a)) × ((P : List ℕ) → Closed a c m (taggedRung tag mask) (tables P masks₀ sorts₀ heights₀) (tables P masks sorts heights))
 
 abbrev μ-loop : tie.MeasureT-loop
 μ-loop masks₀ sorts₀ heights₀ a m tag mask c₀ masks sorts heights c = m - c
@@ -30,7 +30,7 @@ room c =
     let u = c .before .before .before .before .before .before .before .before .before .pre .1 .1 (l .c) (omega arith) (omega arith) in
     omega arith
 
-mask-is : (c : tie.After-run-of Inv-loop μ-loop) → c .run-of .result ≡ run (c .before .before .before .before .before .before .args .a) (c .before .before .before .before .before .before .args .m - c .before .before .before .before .before .before .args .a)
+mask-is : (c : tie.After-run-of Inv-loop μ-loop) → c .run-of .result ≡ runSet (c .before .before .before .before .before .before .args .a) (c .before .before .before .before .before .before .args .m - c .before .before .before .before .before .before .args .a)
 mask-is c = cc
 
 -- src/ladder.rt:29:35
@@ -99,9 +99,8 @@ loop-less c = search needs
 
 -- src/ladder.rt:31:5
 loop-again : tie.Need-loop-again Inv-loop μ-loop
-loop-again c = 
-    let l = c .before .before .loop in
-    (
+loop-again c =
+    let l = c .before .before .loop in (
       omega arith,
       omega arith,
       record { masks-size = search needs; sorts-size = search needs; heights-size = search needs },

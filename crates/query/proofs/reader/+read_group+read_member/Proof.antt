@@ -108,7 +108,7 @@ read-group-returns :
     read-group.Post
     read-group-Inv-loop
     read-group-μ-loop
-read-group-returns t c = 
+read-group-returns t c =
     let a = c .before .before .before .before .before .before .before .before .before .before .before .before .before .before .before .before .before .before .before .before .before .before .before .before .args in
     let l = c .before .before .before .before .before .before .before .before .before .before .before .before .before .before .before .before .before .loop in
     let m = c .before .before .before .before .before .before .before .before .before .before .before .read-member in
@@ -126,7 +126,7 @@ read-group-loop-less : (t : ℕ) → read-group-lts.Need-loop-less (
   read-member-below t,
   read-member.Post,
 ) (read-group-at t) read-group.Post read-group-Inv-loop read-group-μ-loop
-read-group-loop-less t c = 
+read-group-loop-less t c =
     let w = rw (c .before .next .given .1) at (c .before .before .before .before .before .before .before .before .before .before .before .read-member .ensures .0) in
     omega arith
 
@@ -135,7 +135,7 @@ read-group-loop-again : (t : ℕ) → read-group-lts.Need-loop-again (
   read-member-below t,
   read-member.Post,
 ) (read-group-at t) read-group.Post read-group-Inv-loop read-group-μ-loop
-read-group-loop-again t c = 
+read-group-loop-again t c =
     let a = c .before .before .before .before .before .before .before .before .before .before .before .before .before .before .before .before .before .before .before .before .before .before .before .before .args in
     let l = c .before .before .before .before .before .before .before .before .before .before .before .before .before .before .before .before .before .loop in
     let m = c .before .before .before .before .before .before .before .before .before .before .before .read-member in
@@ -177,7 +177,7 @@ read-group-returns-2 : (t : ℕ) → read-group-lts.Need-returns-2 (
   read-member-below t,
   read-member.Post,
 ) (read-group-at t) read-group.Post read-group-Inv-loop read-group-μ-loop
-read-group-returns-2 t c = 
+read-group-returns-2 t c =
     let a = c .before .before .before .before .before .before .before .before .args in
     let l = c .before .loop in
     in-group-end _ _ _ (a .end) (a .depth) _ (l .p) (l .m) (tables (now (a .table)) (now (a .masks)) (now (a .sorts)) (now (a .heights))) (tables (l .table) (l .masks) (l .sorts) (l .heights)) (l .inv) (omega arith)
@@ -240,7 +240,7 @@ read-member-record-of-requires : (t : ℕ) → read-member-lts.Need-record-of-re
   close-group-reads.Asked,
   close-group-reads.Learnt,
 ) (read-member-at t) read-member.Post
-read-member-record-of-requires t c κs = 
+read-member-record-of-requires t c κs =
     let w = rw (c .before .start .given .1) at (c .before .before .before .read-field .ensures .1) in
     (w .1, omega (arith, c .before .before .before .before .before .before .before .before .before .before .before .pre .1 .inside))
 
@@ -257,7 +257,7 @@ read-member-put-record-requires : (t : ℕ) → read-member-lts.Need-put-record-
   close-group-reads.Asked,
   close-group-reads.Learnt,
 ) (read-member-at t) read-member.Post
-read-member-put-record-requires t c κs = 
+read-member-put-record-requires t c κs =
     let w = rw (c .before .before .before .start .given .1) at (c .before .before .before .before .before .read-field .ensures .1) in
     (w .3, c .before .before .before .before .before .before .before .before .before .before .before .before .before .pre .1 .listed .sized)
 
@@ -274,7 +274,7 @@ read-member-mul-heights : (t : ℕ) → read-member-lts.Need-mul-heights (
   close-group-reads.Asked,
   close-group-reads.Learnt,
 ) (read-member-at t) read-member.Post
-read-member-mul-heights t c = 
+read-member-mul-heights t c =
     let w = rw (c .before .before .before .before .before .before .start .given .1) at (c .before .before .before .before .before .before .before .before .read-field .ensures .1) in
     omega (arith, c .before .before .before .before .before .before .before .before .before .before .before .before .before .before .before .before .pre .1 .ladders .heights-size)
 
@@ -291,7 +291,7 @@ read-member-slice-write-heights : (t : ℕ) → read-member-lts.Need-slice-write
   close-group-reads.Asked,
   close-group-reads.Learnt,
 ) (read-member-at t) read-member.Post
-read-member-slice-write-heights t c = 
+read-member-slice-write-heights t c =
     let w = rw (c .before .before .before .before .before .before .start .given .1) at (c .before .before .before .before .before .before .before .before .read-field .ensures .1) in
     omega (arith, c .before .before .before .before .before .before .before .before .before .before .before .before .before .before .before .before .pre .1 .ladders .heights-size)
 
@@ -308,7 +308,7 @@ read-member-add-t28 : (t : ℕ) → read-member-lts.Need-add-t28 (
   close-group-reads.Asked,
   close-group-reads.Learnt,
 ) (read-member-at t) read-member.Post
-read-member-add-t28 t c = 
+read-member-add-t28 t c =
     let w = rw (c .before .before .before .before .before .before .start .given .1) at (c .before .before .before .before .before .before .before .before .read-field .ensures .1) in
     omega (arith, c .before .before .before .before .before .before .before .before .before .before .before .before .before .before .before .before .pre .1 .ladders .heights-size)
 
@@ -340,7 +340,7 @@ read-member-add-read-group : (t : ℕ) → read-member-lts.Need-add-read-group (
   close-group-reads.Asked,
   close-group-reads.Learnt,
 ) (read-member-at t) read-member.Post
-read-member-add-read-group t c = 
+read-member-add-read-group t c =
     let w = rw (c .before .tag .given .1) at (c .before .before .before .read-field .ensures .1) in
     omega arith
 
@@ -357,7 +357,7 @@ read-member-read-group-requires : (t : ℕ) → read-member-lts.Need-read-group-
   close-group-reads.Asked,
   close-group-reads.Learnt,
 ) (read-member-at t) read-member.Post
-read-member-read-group-requires t c κs = 
+read-member-read-group-requires t c κs =
     let w = rw (c .before .before .before .before .before .tag .given .1) at (c .before .before .before .before .before .before .before .read-field .ensures .1) in
     let p = c .before .before .before .before .before .before .before .before .before .before .before .before .before .before .before .pre .1 in
     (omega arith, record { order = omega arith; inside = omega (arith, p .inside); deep = omega arith; listed = p .listed; ladders = p .ladders; low = p .low })
@@ -405,7 +405,7 @@ read-member-close-group-requires : (t : ℕ) → read-member-lts.Need-close-grou
   close-group-reads.Asked,
   close-group-reads.Learnt,
 ) (read-member-at t) read-member.Post
-read-member-close-group-requires t c κs = 
+read-member-close-group-requires t c κs =
     let g = c .before .before .before .before .before .before .before .before .before .before .before .before .before .before .read-group in
     let k = g .kept in
     let p = c .before .before .before .before .before .before .before .before .before .before .before .before .before .before .before .before .before .before .before .before .before .before .before .before .before .before .before .before .before .before .pre .1 .ladders in
@@ -440,10 +440,9 @@ read-member-returns : (t : ℕ) → read-member-lts.Need-returns (
   close-group-reads.Asked,
   close-group-reads.Learnt,
 ) (read-member-at t) read-member.Post
-read-member-returns t c = 
+read-member-returns t c =
     let a = c .before .before .before .before .before .before .before .before .before .before .before .args in
-    let f = c .before .before .before .read-field in
-    (
+    let f = c .before .before .before .read-field in (
       rw (c .before .e .given .1) at (f .ensures .1),
       member-refused _ _ (a .at) (a .end) (a .depth) (a .n) (tables (now (a .table)) (now (a .masks)) (now (a .sorts)) (now (a .heights))) (tables (now (a .table)) (now (a .masks)) (now (a .sorts)) (now (a .heights))) _ (f .ensures .0) _ (c .before .e .given .1),
     )
@@ -491,13 +490,12 @@ read-member-returns-2 : (t : ℕ) → read-member-lts.Need-returns-2 (
   close-group-reads.Asked,
   close-group-reads.Learnt,
 ) (read-member-at t) read-member.Post
-read-member-returns-2 t c = 
+read-member-returns-2 t c =
     let a = c .before .before .before .before .before .before .before .before .before .before .before .before .before .before .before .before .args in
     let f = c .before .before .before .before .before .before .before .before .read-field in
     let p = c .before .before .before .before .before .before .before .before .before .before .before .before .before .before .before .before .pre .1 in
     let w = rw (c .before .before .before .before .before .before .start .given .1) at (f .ensures .1) in
-    let put = rw (c .before .before .before .before .record-of .ensures) at (c .before .before .put-record .ensures) in
-    (
+    let put = rw (c .before .before .before .before .record-of .ensures) at (c .before .before .put-record .ensures) in (
       leaf-within (now (a .tags)) (now (a .q)) (a .at) (a .end) (a .depth) (a .n) (now (a .table)) (c .before .before .put-record .last .0) (now (a .masks)) (now (a .sorts)) (now (a .heights)) _ _ (w .1) (omega (arith, p .ladders .heights-size)) put (w .0) (w .2) (p .inside) (w .3) (p .deep) (p .listed .placed) (p .low),
       member-leaf (now (a .tags)) (now (a .q)) (a .at) (a .end) (a .depth) (a .n) (now (a .table)) (c .before .before .put-record .last .0) (now (a .masks)) (now (a .sorts)) (now (a .heights)) _ _ (w .1) (omega (arith, p .ladders .heights-size)) put _ (f .ensures .0) (c .before .before .before .before .before .before .start .given .1),
     )
@@ -575,12 +573,11 @@ read-member-returns-3 : (t : ℕ) → read-member-lts.Need-returns-3 (
   close-group-reads.Asked,
   close-group-reads.Learnt,
 ) (read-member-at t) read-member.Post
-read-member-returns-3 t c = 
+read-member-returns-3 t c =
     let a = c .before .before .before .before .before .before .before .before .before .before .before .before .before .before .before .before .before .before .before .before .before .before .before .before .before .before .before .args in
     let f = c .before .before .before .before .before .before .before .before .before .before .before .before .before .before .before .before .before .before .before .read-field in
     let g = c .before .before .before .before .before .before .before .before .before .before .before .read-group in
-    let w = rw (c .before .before .before .before .before .before .before .before .before .before .before .before .before .before .before .before .before .tag .given .1) at (f .ensures .1) in
-    (
+    let w = rw (c .before .before .before .before .before .before .before .before .before .before .before .before .before .before .before .before .before .tag .given .1) at (f .ensures .1) in (
       rw (c .before .e2 .given .1) at (g .ensures .0),
       member-group-refused _ _ (a .at) (a .end) (a .depth) (a .n) (tables (now (a .table)) (now (a .masks)) (now (a .sorts)) (now (a .heights))) (tables (g .last .1 .1 .1 .1 .1 .1 .0) (g .last .1 .1 .1 .1 .1 .1 .1 .0) (g .last .1 .1 .1 .1 .1 .1 .1 .1 .0) (g .last .1 .1 .1 .1 .1 .1 .1 .1 .1 .0)) _ (f .ensures .0) _ _ _ (c .before .before .before .before .before .before .before .before .before .before .before .before .before .before .before .before .before .tag .given .1) (w .0) (w .1) (w .2) _ (rw (c .before .e2 .given .1) at (g .ensures .1)),
     )
@@ -658,14 +655,13 @@ read-member-returns-4 : (t : ℕ) → read-member-lts.Need-returns-4 (
   close-group-reads.Asked,
   close-group-reads.Learnt,
 ) (read-member-at t) read-member.Post
-read-member-returns-4 t c = 
+read-member-returns-4 t c =
     let a = c .before .before .before .before .before .before .before .before .before .before .before .before .before .before .before .before .before .before .before .before .before .before .before .before .before .before .before .before .before .before .before .before .before .before .before .before .before .args in
     let f = c .before .before .before .before .before .before .before .before .before .before .before .before .before .before .before .before .before .before .before .before .before .before .before .before .before .before .before .before .before .read-field in
     let v = c .before .before .before .before .before .before .before .before .before .before .before .before .before .before .before .before .before .before .before .before .before .before .before .before .before .before .before .tag .given in
     let g = c .before .before .before .before .before .before .before .before .before .before .before .before .before .before .before .before .before .before .before .before .before .read-group in
     let k = c .before .before .before .before .before .before .close-group in
-    let w = rw (v .1) at (f .ensures .1) in
-    (
+    let w = rw (v .1) at (f .ensures .1) in (
       group-within (now (a .q)) (a .at) (a .end) (a .depth) (a .n) _ _ _ _ (v .0 .0) (tables (now (a .table)) (now (a .masks)) (now (a .sorts)) (now (a .heights))) (g .last .1 .1 .1 .1 .1 .1 .0) (g .last .1 .1 .1 .1 .1 .1 .1 .0) (g .last .1 .1 .1 .1 .1 .1 .1 .1 .0) (g .last .1 .1 .1 .1 .1 .1 .1 .1 .1 .0) (k .last .0) (k .last .1 .0) (k .last .1 .1 .0) (w .0) (w .2) (rw (c .before .before .before .before .before .before .before .before .before .before .before .next .given .1) at (g .ensures .0)) (k .ensures),
       member-group _ _ (a .at) (a .end) (a .depth) (a .n) (tables (now (a .table)) (now (a .masks)) (now (a .sorts)) (now (a .heights))) (tables (g .last .1 .1 .1 .1 .1 .1 .0) (g .last .1 .1 .1 .1 .1 .1 .1 .0) (g .last .1 .1 .1 .1 .1 .1 .1 .1 .0) (g .last .1 .1 .1 .1 .1 .1 .1 .1 .1 .0)) _ (f .ensures .0) _ _ _ (v .1) (w .0) (w .1) (w .2) _ _ (tables (g .last .1 .1 .1 .1 .1 .1 .0) (k .last .0) (k .last .1 .0) (k .last .1 .1 .0)) (rw (c .before .before .before .before .before .before .before .before .before .before .before .next .given .1) at (g .ensures .1)) refl (k .ensures (g .last .1 .1 .1 .1 .1 .1 .0)),
     )

@@ -40,7 +40,7 @@ same-length-4 c = search needs
 
 -- src/whole.rt:29:17
 returns : tie.Need-returns
-returns c = 
+returns c =
     let a = c .before .before .before .before .before .before .before .before .before .before .before .before .before .before .before .before .before .before .before .before .before .before .before .args in
     let m = c .before .before .before .before .before .before .before .before .before .before .before .before .read-member in
     whole-left (now (a .tags)) (now (a .q)) (tables (now (a .table)) (now (a .masks)) (now (a .sorts)) (now (a .heights))) (tables (m .last .1 .1 .1 .1 .1 .1 .0) (m .last .1 .1 .1 .1 .1 .1 .1 .0) (m .last .1 .1 .1 .1 .1 .1 .1 .1 .0) (m .last .1 .1 .1 .1 .1 .1 .1 .1 .1 .0)) _ _ (rw (c .before .before .at .given .1) at (m .ensures .1)) (c .if1 .taken)
@@ -63,7 +63,7 @@ same-length-8 c = search needs
 
 -- src/whole.rt:14:1
 returns-2 : tie.Need-returns-2
-returns-2 c = 
+returns-2 c =
     let a = c .before .before .before .before .before .before .before .before .before .before .before .before .before .before .before .before .before .before .before .before .before .before .args in
     let m = c .before .before .before .before .before .before .before .before .before .before .before .read-member in
     whole-refused (now (a .tags)) (now (a .q)) (tables (now (a .table)) (now (a .masks)) (now (a .sorts)) (now (a .heights))) (tables (m .last .1 .1 .1 .1 .1 .1 .0) (m .last .1 .1 .1 .1 .1 .1 .1 .0) (m .last .1 .1 .1 .1 .1 .1 .1 .1 .0) (m .last .1 .1 .1 .1 .1 .1 .1 .1 .1 .0)) _ (rw (c .before .e .given .1) at (m .ensures .1)) (rw (c .before .e .given .1) at (m .ensures .0))
@@ -86,7 +86,7 @@ same-length-12 c = search needs
 
 -- src/whole.rt:14:1
 returns-3 : tie.Need-returns-3
-returns-3 c = 
+returns-3 c =
     let a = c .before .before .before .before .before .before .before .before .before .before .before .before .before .before .before .before .before .before .before .before .before .before .before .args in
     let m = c .before .before .before .before .before .before .before .before .before .before .before .before .read-member in
     let p = c .before .before .before .before .before .before .before .before .before .before .before .before .before .before .before .before .before .before .before .before .before .before .before .pre in

@@ -1,23 +1,17 @@
--- `run_of` meets its contract: all numbers below the end without those below the start.
+-- `sets::run_of`: of all below the end those below the start drop out.
 use mathlib.Core.Path.{ap₂, _∙_}
 use lib.Bits.{bitXor}
-use Rattle.query.proofs.Runs.{run-to}
 use borrow.Author.Needs.{needs}
-use Rattle.query.proofs.run.run_of.Statement.{statement}
-use Rattle.query.proofs.run.run_of.Tie as tie
-use Rattle.query.proofs.run.run_of.Reads as reads
-use Rattle.query.proofs.run.run_of.Lts as lts
-use Rattle.query.proofs.run.below.Reads as below-reads
+use Rattle.sets.specs.RunLaws.{run-to}
+use Rattle.sets.proofs.run_of.Statement.{statement}
+use Rattle.sets.proofs.run_of.Tie as tie
 
--- src/run.rt:23:5
 below-requires : tie.Need-below-requires
 below-requires c κs = search needs
 
--- src/run.rt:23:16
 below-requires-2 : tie.Need-below-requires-2
 below-requires-2 c κs = search needs
 
--- src/run.rt:19:1
 returns : tie.Need-returns
 returns c = ap₂ bitXor (c .before .below .ensures) (c .below2 .ensures) ∙ run-to _ _ (c .before .before .pre .0)
 

@@ -1,0 +1,6 @@
+pub mod Set
+pub mod SetLaws
+pub mod RunLaws
+pub mod Rungs
+pub mod RungLaws
+pub mod OrderSet

@@ -1,0 +1,150 @@
+-- Membership in sets made by bit operations, and sets that have the same members.
+use Prim.Native.Nat.{ℕ, zero, suc, _-_, _*_, _/_, _%_, _^_, _≤_, _<_}
+use native.Mathlib.Nat.{mod-lt, pow-suc, zero-div, div-eq-of-lt}
+use native.Mathlib.Numerals.{one-add}
+use native.Mathlib.Omega.{arith}
+use mathlib.Core.Path.{_≡_, refl, sym, ap, _∙_, fun-ext}
+use mathlib.Core.Bool.{Bool, true, false, _&&_, _||_, xor, true≢false, false≢true}
+use mathlib.Core.Logic.{_⊎_, inl, inr}
+use lib.Dec.{eqb, ltb, leb·suc-suc, eqb·suc-suc}
+use lib.Pow.{pow-pos, pow-mono, pow-lt, shr-shr}
+use lib.Bits.{bitAnd, bitOr, bitXor, and-shr, and-mod, or-lt, or-shr, or-mod, xor-shr, xor-mod}
+use Rattle.strategy.specs.Bools.{which, iff-eq, eqb-self, eqb-eq, eqb-ne, ltb-yes, ltb-no, ltb-lt, ltb-le}
+use Rattle.strategy.specs.Order.{allBelow, add}
+use Rattle.strategy.specs.OrderLaws.{allBelow-gives, allBelow-of}
+use Rattle.sets.specs.Set.{member, oneSet, belowSet, setWith}
+
+-- one bit of each
+and-bits : (a b : ℕ) → a < 2 → b < 2 → eqb (bitAnd a b) 1 ≡ (eqb a 1 && eqb b 1)
+and-bits zero b h k = refl
+and-bits (suc zero) zero h k = refl
+and-bits (suc zero) (suc zero) h k = refl
+and-bits (suc zero) (suc (suc b)) h k = absurd (omega arith)
+and-bits (suc (suc a)) b h k = absurd (omega arith)
+
+or-bits : (a b : ℕ) → a < 2 → b < 2 → eqb (bitOr a b) 1 ≡ (eqb a 1 || eqb b 1)
+or-bits zero b h k = refl
+or-bits (suc zero) zero h k = refl
+or-bits (suc zero) (suc zero) h k = refl
+or-bits (suc zero) (suc (suc b)) h k = absurd (omega arith)
+or-bits (suc (suc a)) b h k = absurd (omega arith)
+
+xor-bits : (a b : ℕ) → a < 2 → b < 2 → eqb (bitXor a b) 1 ≡ xor (eqb a 1) (eqb b 1)
+unfolding xor
+xor-bits zero zero h k = refl
+xor-bits zero (suc zero) h k = refl
+xor-bits zero (suc (suc b)) h k = absurd (omega arith)
+xor-bits (suc zero) zero h k = refl
+xor-bits (suc zero) (suc zero) h k = refl
+xor-bits (suc zero) (suc (suc b)) h k = absurd (omega arith)
+xor-bits (suc (suc a)) b h k = absurd (omega arith)
+
+-- a law of bits carried to members: `shift` moves the operation to the bit's place, `last` to the bit
+bitwise : (o : ℕ → ℕ → ℕ) (p : Bool → Bool → Bool) → ((x y d : ℕ) → o x y / 2 ^ d ≡ o (x / 2 ^ d) (y / 2 ^ d))
+    → ((x y : ℕ) → o x y % 2 ≡ o (x % 2) (y % 2)) → ((a b : ℕ) → a < 2 → b < 2 → eqb (o a b) 1 ≡ p (eqb a 1) (eqb b 1))
+    → (x y d : ℕ) → member (o x y) d ≡ p (member x d) (member y d)
+unfolding member
+bitwise o p shift last bits x y d =
+    ap (λ (z : ℕ). eqb (z % 2) 1) (shift x y d) ∙ ap (λ (z : ℕ). eqb z 1) (last (x / 2 ^ d) (y / 2 ^ d))
+    ∙ bits (x / 2 ^ d % 2) (y / 2 ^ d % 2) (mod-lt (x / 2 ^ d) (omega arith)) (mod-lt (y / 2 ^ d) (omega arith))
+
+pub member-and : (x y d : ℕ) → member (bitAnd x y) d ≡ (member x d && member y d)
+member-and = bitwise bitAnd (λ p q. p && q) and-shr (λ x y. and-mod x y 1) and-bits
+
+pub member-or : (x y d : ℕ) → member (bitOr x y) d ≡ (member x d || member y d)
+member-or = bitwise bitOr (λ p q. p || q) or-shr (λ x y. or-mod x y 1) or-bits
+
+pub member-xor : (x y d : ℕ) → member (bitXor x y) d ≡ xor (member x d) (member y d)
+member-xor = bitwise bitXor xor xor-shr (λ x y. xor-mod x y 1) xor-bits
+
+-- a bit above the first is a bit of the half
+member-half : (x d : ℕ) → member x (suc d) ≡ member (x / 2) d
+unfolding member
+member-half x d = ap (λ (z : ℕ). eqb (z % 2) 1) (ap (λ (k : ℕ). x / 2 ^ k) (sym (one-add d)) ∙ sym (shr-shr x 1 d))
+
+pub member-none : (d : ℕ) → member 0 d ≡ false
+unfolding member
+member-none d = ap (λ (z : ℕ). eqb (z % 2) 1) (zero-div (2 ^ d))
+
+pub empty-member : member 0 ≡ (λ d. false)
+empty-member = fun-ext member-none
+
+pub member-below : (n d : ℕ) → member (belowSet n) d ≡ ltb d n
+unfolding member
+member-below zero d = member-none d ∙ sym (ltb-no d 0 (omega arith))
+member-below (suc n) zero =
+    let e : 2 ^ suc n ≡ 2 ^ n * 2 = pow-suc 2 n in
+    let p : 0 < 2 ^ n = pow-pos n in
+    let q : (2 ^ suc n - 1) / 2 ^ 0 % 2 ≡ 1 = omega arith in
+    ap (λ (z : ℕ). eqb z 1) q ∙ sym (ltb-yes 0 (suc n) (omega arith))
+member-below (suc n) (suc d) =
+    let e : 2 ^ suc n ≡ 2 ^ n * 2 = pow-suc 2 n in
+    let p : 0 < 2 ^ n = pow-pos n in
+    let q : (2 ^ suc n - 1) / 2 ≡ 2 ^ n - 1 = omega arith in
+    member-half (2 ^ suc n - 1) d ∙ ap (λ (z : ℕ). member z d) q ∙ member-below n d ∙ sym (leb·suc-suc (suc d) n)
+
+pub member-one : (c d : ℕ) → member (oneSet c) d ≡ eqb d c
+unfolding member
+member-one zero zero = refl
+member-one zero (suc d) = member-half 1 d ∙ member-none d ∙ sym (eqb-ne (suc d) 0 (λ e. omega arith))
+member-one (suc c) zero =
+    let e : 2 ^ suc c ≡ 2 ^ c * 2 = pow-suc 2 c in
+    let q : 2 ^ suc c / 2 ^ 0 % 2 ≡ 0 = omega arith in
+    ap (λ (z : ℕ). eqb z 1) q ∙ sym (eqb-ne 0 (suc c) (λ e. omega arith))
+member-one (suc c) (suc d) =
+    let e : 2 ^ suc c ≡ 2 ^ c * 2 = pow-suc 2 c in
+    let q : 2 ^ suc c / 2 ≡ 2 ^ c = omega arith in
+    member-half (2 ^ suc c) d ∙ ap (λ (z : ℕ). member z d) q ∙ member-one c d ∙ sym (eqb·suc-suc d c)
+
+-- with one number more, as a set of the order's check
+pub member-with : (x d : ℕ) → member (setWith x d) ≡ add d (member x)
+member-with x d = fun-ext (λ c. member-or x (oneSet d) c ∙ ap (λ b. member x c || b) (member-one d c))
+
+-- sets with the same members are the same number
+pub same-set : (k x y : ℕ) → x < 2 ^ k → y < 2 ^ k → ((d : ℕ) → member x d ≡ member y d) → x ≡ y
+unfolding member
+same-set zero x y h k e = omega arith
+same-set (suc n) x y h k e =
+    let p : 2 ^ suc n ≡ 2 ^ n * 2 = pow-suc 2 n in
+    let halves : x / 2 ≡ y / 2 = same-set n (x / 2) (y / 2) (omega arith) (omega arith) (λ d. sym (member-half x d) ∙ e (suc d) ∙ member-half y d) in
+    let bits : x / 2 ^ 0 % 2 ≡ y / 2 ^ 0 % 2 = bit (x / 2 ^ 0 % 2) (y / 2 ^ 0 % 2) (mod-lt (x / 2 ^ 0) (omega arith)) (mod-lt (y / 2 ^ 0) (omega arith)) (e 0) in
+    omega arith
+  where
+    bit : (a b : ℕ) → a < 2 → b < 2 → eqb a 1 ≡ eqb b 1 → a ≡ b
+    bit zero zero l m q = refl
+    bit zero (suc zero) l m q = absurd (false≢true q)
+    bit zero (suc (suc b)) l m q = absurd (omega arith)
+    bit (suc zero) zero l m q = absurd (true≢false q)
+    bit (suc zero) (suc zero) l m q = refl
+    bit (suc zero) (suc (suc b)) l m q = absurd (omega arith)
+    bit (suc (suc a)) b l m q = absurd (omega arith)
+
+pub empty-set : (k x : ℕ) → x < 2 ^ k → ((d : ℕ) → member x d ≡ false) → x ≡ 0
+empty-set k x h z = same-set k x 0 h (pow-pos k) (λ d. z d ∙ sym (member-none d))
+
+-- a set below `2 ^ n` holds only numbers below `n`
+member-high : (n x d : ℕ) → x < 2 ^ n → n ≤ d → member x d ≡ false
+unfolding member
+member-high n x d h l = ap (λ (z : ℕ). eqb (z % 2) 1) (div-eq-of-lt {n = x} {m = 2 ^ d} (omega (arith, pow-mono {i = n} {j = d} l)))
+
+pub with-lt : (n x c : ℕ) → x < 2 ^ n → c < n → setWith x c < 2 ^ n
+with-lt n x c h l = or-lt n x (oneSet c) h (pow-lt {i = c} {j = n} l)
+
+below-lt : (n : ℕ) → belowSet n < 2 ^ n
+below-lt n = omega (arith, pow-pos n)
+
+-- and holds all of them exactly if it is `belowSet n`
+pub all-seen : (n x : ℕ) → x < 2 ^ n → eqb x (belowSet n) ≡ allBelow n (member x)
+all-seen n x h = iff-eq (eqb x (belowSet n)) (allBelow n (member x)) to from
+  where
+    to : eqb x (belowSet n) ≡ true → allBelow n (member x) ≡ true
+    to e = allBelow-of n (member x) (λ d m. ap (λ (z : ℕ). member z d) (eqb-eq x (belowSet n) e) ∙ member-below n d ∙ ltb-yes d n m)
+
+    same : allBelow n (member x) ≡ true → (d : ℕ) → (ltb d n ≡ true) ⊎ (ltb d n ≡ false) → member x d ≡ member (belowSet n) d
+    same e d (inl y) = allBelow-gives n (member x) e d (ltb-lt d n y) ∙ sym (member-below n d ∙ y)
+    same e d (inr y) = member-high n x d h (ltb-le d n y) ∙ sym (member-below n d ∙ y)
+
+    from : allBelow n (member x) ≡ true → eqb x (belowSet n) ≡ true
+    from e =
+        let q : x ≡ belowSet n = same-set n x (belowSet n) h (below-lt n) (λ d. same e d (which (ltb d n))) in
+        ap (λ (z : ℕ). eqb z (belowSet n)) q ∙ eqb-self (belowSet n)

@@ -1,0 +1,92 @@
+// A set of numbers below 64, held as the bits of a u64, and the check of an order by such a set.
+ghost use mathlib.Core.Path.{_≡_};
+ghost use Prim.Native.Nat.{_-_, _≤_, _<_};
+ghost use Rattle.strategy.specs.Order.{isOrder};
+ghost use Rattle.sets.specs.Set.{member, oneSet, belowSet, runSet, setMinus, setsMeet, setWithout, setWith};
+
+// Is d in the set.
+pub fn has(x: u64, d: u8) -> bool
+    requires { ⌜ d < 64 ⌝ }
+    ensures { λ r. ⌜ r ≡ member x d ⌝ }
+{
+    x >> d & 1 == 1
+}
+
+// The set of d alone.
+pub fn single(d: u8) -> u64
+    requires { ⌜ d < 64 ⌝ }
+    ensures { λ r. ⌜ r ≡ oneSet d ⌝ }
+{
+    1u64 << d
+}
+
+// All numbers below n.
+pub fn below(n: u8) -> u64
+    requires { ⌜ n ≤ 64 ⌝ }
+    ensures { λ r. ⌜ r ≡ belowSet n ⌝ }
+{
+    if n == 64 {
+        0xffff_ffff_ffff_ffff
+    } else {
+        (1u64 << n) - 1
+    }
+}
+
+// The run of numbers from a up to, and without, e.
+pub fn run_of(a: u8, e: u8) -> u64
+    requires { ⌜ (a ≤ e) × (e ≤ 64) ⌝ }
+    ensures { λ r. ⌜ r ≡ runSet a (e - a) ⌝ }
+{
+    below(e) ^ below(a)
+}
+
+// The set x without the numbers of m.
+pub fn minus(x: u64, m: u64) -> u64
+    ensures { λ r. ⌜ r ≡ setMinus x m ⌝ }
+{
+    x ^ (x & m)
+}
+
+// Is some number in both sets.
+pub fn meets(x: u64, m: u64) -> bool
+    ensures { λ r. ⌜ r ≡ setsMeet x m ⌝ }
+{
+    x & m != 0
+}
+
+// The set without d.
+pub fn without(x: u64, d: u8) -> u64
+    requires { ⌜ d < 64 ⌝ }
+    ensures { λ r. ⌜ r ≡ setWithout x d ⌝ }
+{
+    minus(x, single(d))
+}
+
+// The set with d.
+pub fn with(x: u64, d: u8) -> u64
+    requires { ⌜ d < 64 ⌝ }
+    ensures { λ r. ⌜ r ≡ setWith x d ⌝ }
+{
+    x | single(d)
+}
+
+// Is the order n bytes holding each number below n once.
+pub fn is_order(order: &[u8], n: u8) -> bool
+    requires { ⌜ n ≤ 64 ⌝ }
+    ensures { λ r. ⌜ r ≡ isOrder n (now (order .entry)) ⌝ }
+{
+    let mut seen: u64 = 0;
+    let mut i: usize = 0;
+    while i < order.len() {
+        let c = order[i];
+        if n <= c {
+            return false;
+        }
+        if has(seen, c) {
+            return false;
+        }
+        seen = with(seen, c);
+        i += 1;
+    }
+    seen == below(n)
+}
