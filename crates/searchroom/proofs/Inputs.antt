@@ -1,0 +1,88 @@
+-- What the catalogue's layout and the reader's tables tell of the decoded input.
+use Prim.Native.Nat.{ℕ, _<_}
+use native.Mathlib.Omega.{arith}
+use mathlib.Core.Path.{_≡_, refl, sym, _∙_}
+use mathlib.Core.List.{List, []}
+use lib.ListN.{length, getD, take, length-take}
+use lib.Seq.{ext-getD, getD-take}
+use Rattle.fields.specs.Decoded.{Decoded, refused, accepted}
+use Rattle.catalogue.specs.Catalogue.{Column, numbers, texts, Catalogue}
+use Rattle.catalogue.specs.declared.layout.Layout.{Layout}
+use Rattle.catalogue.specs.Layout.{Shows, LaidOut}
+use Rattle.catalogue.specs.Decode.{decodeCatalogue}
+use Rattle.catalogue.proofs.Columns.{column-shown}
+use Rattle.predicate.specs.Payload.{tagOf, tagsOf}
+use Rattle.predicate.proofs.PayloadLaws.{tags-length, tags-at}
+use Rattle.query.specs.declared.whole.Reading.{Reading}
+use Rattle.query.specs.declared.whole.Reading.the-variants as reading
+use Rattle.query.specs.Query.{Query}
+use Rattle.query.specs.Ladder.{Tables}
+use Rattle.query.specs.Decode.{decodeTagged, decodeQuery}
+use Rattle.query.specs.Handed.{Tabled, Handed}
+use Rattle.searchroom.specs.Input.{Input, withQuery, thenQuestion, decodeInput}
+
+shown-tag : (b : List ℕ) (rows tag start : ℕ) (c : Column) → Shows b rows tag start c → tag ≡ tagOf c
+shown-tag b rows tag start (numbers ns) s = s .0
+shown-tag b rows tag start (texts ts) s = s .0
+
+-- the first tags of the layout are those of the catalogue's columns
+laid-tags : (b : List ℕ) (l : Layout) (C : Catalogue) → LaidOut b l (accepted C) → take (l .columns) (l .tags) ≡ tagsOf C
+laid-tags b l C h = ext-getD 0 (take (l .columns) (l .tags)) (tagsOf C) (omega (arith, many, tags-length (C .columns), h .2)) same
+  where
+    many : length (take (l .columns) (l .tags)) ≡ l .columns
+    many = rw length-take (omega (arith, h .4, h .6))
+
+    same : (i : ℕ) → i < length (take (l .columns) (l .tags)) → getD (take (l .columns) (l .tags)) i 0 ≡ getD (tagsOf C) i 0
+    same i k =
+        let j : i < l .columns = omega (arith, many) in
+        getD-take (l .columns) (l .tags) i 0 j
+        ∙ shown-tag b (l .rows) (getD (l .tags) i 0) (getD (l .starts) i 0) (getD (C .columns) i (numbers [])) (column-shown b l C i h j)
+        ∙ sym (tags-at (C .columns) i (numbers []) (omega (arith, h .2)))
+
+-- an accepted catalogue and question: the decoded input, and all that the layout and the tables show of it
+pub record Begun (b q : List ℕ) (l : Layout) (n : ℕ) (T : Tables) : Type 0 where
+  pub input : Input
+  pub decoded : decodeInput b q ≡ accepted input
+  pub laid : LaidOut b l (accepted (input .catalogue))
+  pub tabled : Tabled (tagsOf (input .catalogue)) q (input .query) n T
+
+module _ (b q : List ℕ) (l : Layout) (tags : List ℕ) (same : tags ≡ take (l .columns) (l .tags)) (r : Reading) (T : Tables) where
+  -- by what the catalogue and the question decode to
+  module _ (C : Catalogue) (e : decodeCatalogue b ≡ accepted C) (h : LaidOut b l (accepted C)) where
+    whole : decodeInput b q ≡ withQuery C (decodeTagged tags q)
+    unfolding decodeInput decodeQuery
+    whole = rw (e, same, laid-tags b l C h)
+
+    stopped : (d : Decoded Query) (k : ℕ) → decodeTagged tags q ≡ d → Handed tags q d r T → r ≡ reading.Refused k → (decodeInput b q ≡ refused k) × (k < 256)
+    stopped (refused x) k z w i = let y : x ≡ k = cc in (whole ∙ rw (z, y), omega (arith, w .1))
+    stopped (accepted Q) k z w i = let y : _≡_ {A = ℕ} 0 1 = cc in absurd (omega arith)
+
+    begun : (d : Decoded Query) (n : ℕ) → decodeTagged tags q ≡ d → Handed tags q d r T → r ≡ reading.Accepted n → Begun b q l n T
+    begun (refused x) n z w i = let y : _≡_ {A = ℕ} 0 1 = cc in absurd (omega arith)
+    begun (accepted Q) n z w i =
+        let y : length (Q .predicates) ≡ n = cc in
+        let t : tags ≡ tagsOf C = same ∙ laid-tags b l C h in
+        record { input = record { catalogue = C; query = Q }; decoded = whole ∙ rw z; laid = h; tabled = rw (← t, ← y) (w .1) }
+
+  -- a layout that refuses, a reader that refuses, and both accepting
+  pub layout-refuses : LaidOut b l (decodeCatalogue b) → (l .refusal ≡ 0 → ⊥) → (decodeInput b q ≡ refused (l .refusal)) × (l .refusal < 256)
+  unfolding decodeInput
+  layout-refuses h ne = go (decodeCatalogue b) h
+    where
+      go : (d : Decoded Catalogue) → LaidOut b l d → (thenQuestion d q ≡ refused (l .refusal)) × (l .refusal < 256)
+      go (refused x) w = (rw (w .0), omega arith)
+      go (accepted C) w = absurd (ne (w .0))
+
+  module _ (h : LaidOut b l (decodeCatalogue b)) (z : l .refusal ≡ 0) (w : Handed tags q (decodeTagged tags q) r T) where
+    by-catalogue : {A : Type 0} → ((C : Catalogue) → decodeCatalogue b ≡ accepted C → LaidOut b l (accepted C) → A) → A
+    by-catalogue {A} f = go (decodeCatalogue b) refl h
+      where
+        go : (d : Decoded Catalogue) → decodeCatalogue b ≡ d → LaidOut b l d → A
+        go (refused x) e v = absurd (omega (arith, v, z))
+        go (accepted C) e v = f C e v
+
+    pub question-refuses : (k : ℕ) → r ≡ reading.Refused k → (decodeInput b q ≡ refused k) × (k < 256)
+    question-refuses k i = by-catalogue (λ C e v. stopped C e v (decodeTagged tags q) k refl w i)
+
+    pub input-begun : (n : ℕ) → r ≡ reading.Accepted n → Begun b q l n T
+    input-begun n i = by-catalogue (λ C e v. begun C e v (decodeTagged tags q) n refl w i)
