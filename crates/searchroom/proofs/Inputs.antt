@@ -1,5 +1,5 @@
 -- What the catalogue's layout and the reader's tables tell of the decoded input.
-use Prim.Native.Nat.{ℕ, _<_}
+use Prim.Native.Nat.{ℕ, _≤_, _<_}
 use native.Mathlib.Omega.{arith}
 use mathlib.Core.Path.{_≡_, refl, sym, _∙_}
 use mathlib.Core.List.{List, []}
@@ -46,6 +46,23 @@ pub record Begun (b q : List ℕ) (l : Layout) (n : ℕ) (T : Tables) : Type 0 w
   pub laid : LaidOut b l (accepted (input .catalogue))
   pub tabled : Tabled (tagsOf (input .catalogue)) q (input .query) n T
 
+-- a layout has a tag for each column
+pub laid-columns-few : (b : List ℕ) (l : Layout) (d : Decoded Catalogue) → LaidOut b l d → l .columns ≤ length (l .tags)
+laid-columns-few b l (refused e) h = omega arith
+laid-columns-few b l (accepted C) h = omega (arith, h .4, h .6)
+
+pub laid-tags-length : (b : List ℕ) (l : Layout) (d : Decoded Catalogue) → LaidOut b l d → l .columns ≡ length (take (l .columns) (l .tags))
+laid-tags-length b l d h = rw length-take (omega (arith, laid-columns-few b l d h))
+
+-- a layout that refuses
+pub layout-refuses : (b q : List ℕ) (l : Layout) → LaidOut b l (decodeCatalogue b) → (l .refusal ≡ 0 → ⊥) → (decodeInput b q ≡ refused (l .refusal)) × (l .refusal < 256)
+unfolding decodeInput
+layout-refuses b q l h ne = go (decodeCatalogue b) h
+  where
+    go : (d : Decoded Catalogue) → LaidOut b l d → (thenQuestion d q ≡ refused (l .refusal)) × (l .refusal < 256)
+    go (refused x) w = (rw (w .0), omega arith)
+    go (accepted C) w = absurd (ne (w .0))
+
 module _ (b q : List ℕ) (l : Layout) (tags : List ℕ) (same : tags ≡ take (l .columns) (l .tags)) (r : Reading) (T : Tables) where
   -- by what the catalogue and the question decode to
   module _ (C : Catalogue) (e : decodeCatalogue b ≡ accepted C) (h : LaidOut b l (accepted C)) where
@@ -64,15 +81,7 @@ module _ (b q : List ℕ) (l : Layout) (tags : List ℕ) (same : tags ≡ take (
         let t : tags ≡ tagsOf C = same ∙ laid-tags b l C h in
         record { input = record { catalogue = C; query = Q }; decoded = whole ∙ rw z; laid = h; tabled = rw (← t, ← y) (w .1) }
 
-  -- a layout that refuses, a reader that refuses, and both accepting
-  pub layout-refuses : LaidOut b l (decodeCatalogue b) → (l .refusal ≡ 0 → ⊥) → (decodeInput b q ≡ refused (l .refusal)) × (l .refusal < 256)
-  unfolding decodeInput
-  layout-refuses h ne = go (decodeCatalogue b) h
-    where
-      go : (d : Decoded Catalogue) → LaidOut b l d → (thenQuestion d q ≡ refused (l .refusal)) × (l .refusal < 256)
-      go (refused x) w = (rw (w .0), omega arith)
-      go (accepted C) w = absurd (ne (w .0))
-
+  -- the layout and the reader both done, by what the catalogue decodes to
   module _ (h : LaidOut b l (decodeCatalogue b)) (z : l .refusal ≡ 0) (w : Handed tags q (decodeTagged tags q) r T) where
     by-catalogue : {A : Type 0} → ((C : Catalogue) → decodeCatalogue b ≡ accepted C → LaidOut b l (accepted C) → A) → A
     by-catalogue {A} f = go (decodeCatalogue b) refl h
