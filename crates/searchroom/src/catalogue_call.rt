@@ -1,0 +1,30 @@
+// Checking a catalogue.
+use crate::word::Answer;
+ghost use mathlib.Core.Path.{_≡_};
+ghost use Rattle.catalogue.specs.Decode.{decodeCatalogue};
+ghost use Rattle.searchroom.specs.Word.{packed};
+ghost use Rattle.searchroom.specs.Answers.{catalogueAnswer, CatalogueAnswered};
+
+fn check_catalogue(catalogue: &[u8]) -> Answer
+    ensures { λ r. ⌜ CatalogueAnswered (decodeCatalogue (now (catalogue .entry))) r ⌝ }
+{
+    let layout = catalogue::layout::lay_out(catalogue);
+    let refusal = layout.refusal;
+    let rows = layout.rows;
+    let columns = layout.columns;
+    if refusal != 0 {
+        return Answer::Refused(refusal);
+    }
+    Answer::Accepted {
+        first: rows as u64,
+        second: columns as u64,
+        third: 0,
+    }
+}
+
+#[no_mangle]
+pub extern "C" fn searchroom_check_catalogue(catalogue: &[u8]) -> u64
+    ensures { λ r. ⌜ r ≡ packed (catalogueAnswer (decodeCatalogue (now (catalogue .entry)))) ⌝ }
+{
+    crate::word::pack(check_catalogue(catalogue))
+}

@@ -1,0 +1,3 @@
+// The engine's exported calls: numbers and byte slices in, one packed word out.
+pub mod catalogue_call;
+pub mod word;
