@@ -1,5 +1,5 @@
-pub mod Tests
+pub mod Conjunctions
 pub mod Table
-pub mod Laws
+pub mod TextLaws
 pub mod PayloadLaws
 pub mod OutcomeLaws

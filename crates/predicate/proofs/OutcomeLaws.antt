@@ -6,10 +6,11 @@ use mathlib.Core.Bool.{Bool}
 use mathlib.Core.List.{List}
 use borrow.Author.Tests.{lt-ltb, le-ltb}
 use Rattle.catalogue.specs.Format.{numberTag, textTag}
-use Rattle.catalogue.specs.Catalogue.{Column, numbers, texts}
+use Rattle.catalogue.specs.Catalogue.{numbers, texts}
 use Rattle.catalogue.specs.Layout.{HasRow, NumberIs, TextIs}
 use Rattle.predicate.specs.declared.answer.Answer.{Answer}
-use Rattle.predicate.specs.Meaning.{oppositeFrom, plainKind, numberTest, textTest, answerOf, opposite, outcomeOf}
+use Rattle.predicate.specs.Kinds.{oppositeFrom, plainKind}
+use Rattle.predicate.specs.Meaning.{numberTest, textTest, answerOf, opposite, outcomeOf}
 use Rattle.predicate.specs.Outcome.{PlainIs, OutcomeIs}
 
 module _ (b : List ℕ) (tag start row : ℕ) where
@@ -36,10 +37,10 @@ module _ (b : List ℕ) (tag start row : ℕ) where
 
   module _ (kind : ℕ) (o : List ℕ) (plain : ℕ) (plain-is : plain ≡ plainKind kind) (a : Answer) (answered : PlainIs b tag start plain o row a) where
     pub outcome-plain : kind < oppositeFrom → OutcomeIs b tag start kind o row a
-    unfolding outcomeOf plainKind
-    outcome-plain h rows c s l = rw (lt-ltb kind oppositeFrom h) ((rw (plain-is, lt-ltb kind oppositeFrom h) at answered) rows c s l)
+    unfolding outcomeOf
+    outcome-plain h rows c s l = rw (lt-ltb kind oppositeFrom h) ((rw plain-is at answered) rows c s l)
 
     pub outcome-opposite : oppositeFrom ≤ kind → (r : Answer) → r ≡ opposite a → OutcomeIs b tag start kind o row r
-    unfolding outcomeOf plainKind
+    unfolding outcomeOf
     outcome-opposite h r turned rows c s l =
-        rw (le-ltb kind oppositeFrom h) (turned ∙ ap opposite ((rw (plain-is, le-ltb kind oppositeFrom h) at answered) rows c s l))
+        rw (le-ltb kind oppositeFrom h) (turned ∙ ap opposite ((rw plain-is at answered) rows c s l))

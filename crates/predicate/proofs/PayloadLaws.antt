@@ -1,18 +1,18 @@
 -- The check of a payload, path by path, and what a valid payload gives.
 use Prim.Native.Nat.{ℕ, zero, suc, _-_, _≤_, _<_}
 use native.Mathlib.Omega.{arith}
-use mathlib.Core.Path.{_≡_, refl, sym, ap, _∙_}
-use mathlib.Core.Bool.{Bool, true, false, _&&_}
+use mathlib.Core.Path.{_≡_, refl, ap}
+use mathlib.Core.Bool.{Bool, true, false}
 use mathlib.Core.List.{List, [], _∷_}
 use lib.ListN.{length, getD, take, drop, length-drop}
 use lib.Seq.{take-all}
-use lib.Dec.{ltb, leb, eqb}
+use lib.Dec.{ltb, leb}
 use borrow.Author.Tests.{lt-ltb, le-leb, le-ltb, lt-leb, eq-eqb, ltb-true, leb-true, eqb-true}
-use Rattle.catalogue.specs.Catalogue.{Catalogue, Column}
-use Rattle.predicate.specs.Meaning.{plainKind}
+use Rattle.catalogue.specs.Catalogue.{Catalogue, Column, numbers}
+use Rattle.predicate.specs.Kinds.{plainKind}
 use Rattle.predicate.specs.Outcome.{HasRange}
-use Rattle.predicate.specs.Payload.{tagOf, tagsIn, tagsOf, columnByte, kindByte, operandOf, kindFits, rangeFits, operandFits, validPayload}
-use Rattle.predicate.proofs.Tests.{and-left, and-right}
+use Rattle.predicate.specs.Payload.{tagOf, tagsIn, tagsOf, payloadHead, columnByte, kindByte, operandOf, kindFits, rangeFits, operandFits, validPayload, predicateOf, Fits}
+use Rattle.predicate.proofs.Conjunctions.{and-left, and-right}
 
 module _ (tags payload : List ℕ) where
   pub payload-short : length payload < 2 → false ≡ validPayload tags payload
@@ -41,11 +41,12 @@ module _ (tags payload : List ℕ) where
           rw (le-leb 2 (length payload) two, ← column-is, lt-ltb column (length tags) inside, ← kind-is, ← fits-is, h)
           (rw whole at r-is)
 
--- what a valid payload gives to the outcome
+-- what the check gives, over the tags alone
+
 pub record Valid (tags payload : List ℕ) : Type 0 where
-  pub head : 2 ≤ length payload
-  pub column : columnByte payload < length tags
-  pub kind : kindFits (getD tags (columnByte payload) 0) (plainKind (kindByte payload)) ≡ true
+  pub head : payloadHead ≤ length payload
+  pub column-in : columnByte payload < length tags
+  pub kind-fits : kindFits (getD tags (columnByte payload) 0) (plainKind (kindByte payload)) ≡ true
   pub range : HasRange (plainKind (kindByte payload)) (operandOf payload)
 
 range-size : (kind : ℕ) (o : List ℕ) → operandFits kind o ≡ true → HasRange kind o
@@ -61,12 +62,12 @@ valid-payload tags payload h =
     let after-kind = and-right (kindFits (getD tags (columnByte payload) 0) (plainKind (kindByte payload))) _ after-column in
     record {
       head = leb-true 2 (length payload) (and-left _ _ h);
-      column = ltb-true _ _ (and-left _ _ after-head);
-      kind = and-left _ _ after-column;
+      column-in = ltb-true _ _ (and-left _ _ after-head);
+      kind-fits = and-left _ _ after-column;
       range = range-size (plainKind (kindByte payload)) (operandOf payload) after-kind;
     }
 
--- the tags of a catalogue's columns, column by column
+-- and over the catalogue whose tags they are
 
 pub tags-length : (cs : List Column) → length (tagsIn cs) ≡ length cs
 unfolding tagsIn
@@ -78,3 +79,13 @@ unfolding tagsIn
 tags-at [] k other h = absurd (omega arith)
 tags-at (c ∷ cs) zero other h = refl
 tags-at (c ∷ cs) (suc k) other h = tags-at cs k other (omega arith)
+
+pub valid-fits : (c : Catalogue) (place : ℕ) (payload : List ℕ) → validPayload (tagsOf c) payload ≡ true → Fits c (predicateOf place payload)
+valid-fits c place payload h =
+    let valid : Valid (tagsOf c) payload = valid-payload (tagsOf c) payload h in
+    let column-in : columnByte payload < length (c .columns) = rw tags-length at (valid .column-in) in
+    record {
+      column-in = column-in;
+      kind-fits = rw (tags-at (c .columns) (columnByte payload) (numbers []) column-in) at (valid .kind-fits);
+      range = valid .range;
+    }

@@ -1,15 +1,15 @@
 -- The rule of a table, computed once over all of its entries and carried to each one.
 use Prim.Native.Nat.{ℕ, zero, suc, _+_, _<_}
 use native.Mathlib.Nat.{add-zero, zero-add, add-suc, suc-add, le-of-suc-le-suc, not-suc-le-zero}
-use mathlib.Core.Path.{_≡_, _∙_, refl, sym, subst}
-use mathlib.Core.Bool.{Bool, true, false, _&&_}
+use mathlib.Core.Path.{_≡_, _∙_, sym, subst}
+use mathlib.Core.Bool.{Bool, true, _&&_}
 use mathlib.Core.List.{List, [], _∷_}
 use lib.ListN.{length, getD}
 use lib.Dec.{eqb}
 use borrow.Author.Tests.{eqb-true}
 use Rattle.predicate.specs.Meaning.{fold}
 use Rattle.predicate.specs.Outcome.{Folds}
-use Rattle.predicate.proofs.Tests.{and-left, and-right}
+use Rattle.predicate.proofs.Conjunctions.{and-left, and-right}
 
 -- the rule holds of each entry and its place, the places counted from i
 abbrev pub every : (rule : ℕ → ℕ → Bool) (i : ℕ) → List ℕ → Bool

@@ -1,6 +1,6 @@
--- The whole meaning of a predicate, document 01's condition: over values only, with no trace of the catalogue's or the query's bytes.
--- A text and an operand are lists of bytes.
-use Prim.Native.Nat.{ℕ, _+_, _-_}
+-- The whole meaning of a predicate, document 01's condition, over values: a number, a text or an operand as a list of bytes.
+-- Nothing here knows how a catalogue or a query lies in its bytes.
+use Prim.Native.Nat.{ℕ, _+_}
 use mathlib.Core.Bool.{Bool, true, false, not, _&&_, _||_}
 use mathlib.Core.List.{List, [], _∷_}
 use lib.ListN.{length, getD}
@@ -9,6 +9,7 @@ use Rattle.fields.specs.Decoded.{either}
 use Rattle.fields.specs.Numbers.{numberAt}
 use Rattle.catalogue.specs.Format.{numberSize, blankNumber}
 use Rattle.catalogue.specs.Catalogue.{Catalogue, Column, numbers, texts}
+use Rattle.predicate.specs.Kinds.{rangeKind, numberBlankKind, equalsKind, beginsKind, containsKind, textBlankKind, oppositeFrom, plainKind}
 use Rattle.predicate.specs.declared.answer.Answer.{Answer}
 use Rattle.predicate.specs.declared.answer.Answer.the-variants.{No, Yes}
 
@@ -56,11 +57,11 @@ contains o t = occurs (folded o) (folded t)
 abbrev pub textBlank : List ℕ → Bool
 textBlank t = eqb (length t) 0
 
--- Tests of a number: "4,294,967,295 means blank"
+-- "4,294,967,295 means blank"
 abbrev pub numberBlank : ℕ → Bool
 numberBlank n = eqb n blankNumber
 
--- "number from low to high .. A blank gives no"
+-- "from low to high", both among them; "A blank gives no"
 abbrev pub inRange : (low high n : ℕ) → Bool
 inRange low high n = not (numberBlank n) && between low high n
 
@@ -74,38 +75,13 @@ lowOf o = numberAt o 0 numberSize
 abbrev pub highOf : (operand : List ℕ) → ℕ
 highOf o = numberAt o numberSize numberSize
 
--- The kinds 0 to 5
-abbrev pub rangeKind : ℕ
-rangeKind = 0
-
-abbrev pub numberBlankKind : ℕ
-numberBlankKind = 1
-
-abbrev pub equalsKind : ℕ
-equalsKind = 2
-
-abbrev pub beginsKind : ℕ
-beginsKind = 3
-
-abbrev pub containsKind : ℕ
-containsKind = 4
-
-abbrev pub textBlankKind : ℕ
-textBlankKind = 5
-
--- "Kinds 128 to 133: the opposite outcome of 0 to 5"
-abbrev pub oppositeFrom : ℕ
-oppositeFrom = 128
-
--- the kind that is answered, or whose opposite is
-unfoldable pub plainKind : (kind : ℕ) → ℕ
-plainKind kind = either (ltb kind oppositeFrom) kind (kind - oppositeFrom)
-
+-- "Kind 0, number from low to high", "Kind 1, number blank"
 unfoldable pub numberTest : (kind : ℕ) (operand : List ℕ) (n : ℕ) → Bool
 numberTest kind o n =
     either (eqb kind rangeKind) (inRange (lowOf o) (highOf o) n)
     (either (eqb kind numberBlankKind) (numberBlank n) false)
 
+-- "Kind 2 equals, 3 begins with, 4 contains", "Kind 5, text blank"
 unfoldable pub textTest : (kind : ℕ) (operand text : List ℕ) → Bool
 textTest kind o t =
     either (eqb kind equalsKind) (equals o t)
@@ -113,7 +89,6 @@ textTest kind o t =
     (either (eqb kind containsKind) (contains o t)
     (either (eqb kind textBlankKind) (textBlank t) false)))
 
--- Answers
 abbrev pub answerOf : Bool → Answer
 answerOf true = Yes
 answerOf false = No
@@ -127,16 +102,19 @@ abbrev pub truth : Answer → Bool
 truth No = false
 truth Yes = true
 
--- the answer of a kind below 128 at a row
+-- the answer of a kind from 0 to 5 at a row, document 01's entry
 abbrev pub plainOf : Column → (kind : ℕ) (operand : List ℕ) (row : ℕ) → Answer
 plainOf (numbers ns) kind o row = answerOf (numberTest kind o (getD ns row 0))
 plainOf (texts ts) kind o row = answerOf (textTest kind o (getD ts row []))
 
-unfoldable pub outcomeOf : Column → (kind : ℕ) (operand : List ℕ) (row : ℕ) → Answer
-outcomeOf c kind o row =
-    either (ltb kind oppositeFrom) (plainOf c kind o row) (opposite (plainOf c (kind - oppositeFrom) o row))
+-- "Kinds 128 to 133: the opposite outcome of 0 to 5, at every entry"
+abbrev pub turned : (kind : ℕ) → Answer → Answer
+turned kind a = either (ltb kind oppositeFrom) a (opposite a)
 
--- a condition of a query: "column, kind, operand's place (from the question's first byte)", and the operand itself
+unfoldable pub outcomeOf : Column → (kind : ℕ) (operand : List ℕ) (row : ℕ) → Answer
+outcomeOf c kind o row = turned kind (plainOf c (plainKind kind) o row)
+
+-- a condition of a query: "column, kind, operand's place (from the question's first byte)", with the operand itself
 pub record Predicate : Type 0 where
   pub column : ℕ
   pub kind : ℕ

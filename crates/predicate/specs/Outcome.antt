@@ -6,7 +6,8 @@ use lib.ListN.{length, getD}
 use Rattle.catalogue.specs.Catalogue.{Column}
 use Rattle.catalogue.specs.Layout.{Shows}
 use Rattle.predicate.specs.declared.answer.Answer.{Answer}
-use Rattle.predicate.specs.Meaning.{fold, rangeKind, rangeSize, plainOf, outcomeOf}
+use Rattle.predicate.specs.Kinds.{rangeKind}
+use Rattle.predicate.specs.Meaning.{fold, rangeSize, plainOf, outcomeOf}
 
 -- a fold table: 256 entries, each by the rule
 pub record Folds (table : List ℕ) : Type 0 where

@@ -1,14 +1,17 @@
 -- A condition's payload, "column byte, kind byte, operand", and the part of refusal 11 that concerns one payload:
 -- "payload under two bytes, no such column, unknown kind, kind not fitting the column, or operand of wrong length or range".
-use Prim.Native.Nat.{ℕ}
-use mathlib.Core.Bool.{Bool, _&&_, _||_}
+use Prim.Native.Nat.{ℕ, _≤_, _<_}
+use mathlib.Core.Path.{_≡_}
+use mathlib.Core.Bool.{Bool, true, _&&_, _||_}
 use mathlib.Core.List.{List, [], _∷_}
 use lib.ListN.{length, getD, drop}
 use lib.Dec.{ltb, leb, eqb}
 use Rattle.fields.specs.Decoded.{either}
 use Rattle.catalogue.specs.Format.{numberTag, textTag, blankNumber, textLimit}
 use Rattle.catalogue.specs.Catalogue.{Catalogue, Column, numbers, texts}
-use Rattle.predicate.specs.Meaning.{Predicate, rangeKind, rangeSize, numberBlankKind, textBlankKind, plainKind, lowOf, highOf}
+use Rattle.predicate.specs.Kinds.{rangeKind, numberBlankKind, textBlankKind, plainKind}
+use Rattle.predicate.specs.Meaning.{Predicate, rangeSize, lowOf, highOf}
+use Rattle.predicate.specs.Outcome.{HasRange}
 
 -- the tag of a column in the catalogue's format
 abbrev pub tagOf : Column → ℕ
@@ -40,7 +43,7 @@ abbrev pub predicateOf : (place : ℕ) (payload : List ℕ) → Predicate
 predicateOf place payload =
     record { column = columnByte payload; kind = kindByte payload; operand = operandOf payload; place = place }
 
--- kinds 0 and 1 are of a number column, 2 to 5 of a text column, and there are no more
+-- kinds 0 and 1 are a number column's, 2 to 5 a text column's, and there are no others
 unfoldable pub kindFits : (tag kind : ℕ) → Bool
 kindFits tag kind = either (leb kind numberBlankKind) (eqb tag numberTag) (leb kind textBlankKind && eqb tag textTag)
 
@@ -62,3 +65,9 @@ validPayload tags payload =
     (ltb (columnByte payload) (length tags) &&
     (kindFits (getD tags (columnByte payload) 0) (plainKind (kindByte payload)) &&
     operandFits (plainKind (kindByte payload)) (operandOf payload)))
+
+-- what the check gives to whoever works the predicate out
+pub record Fits (c : Catalogue) (p : Predicate) : Type 0 where
+  pub column-in : p .column < length (c .columns)
+  pub kind-fits : kindFits (tagOf (getD (c .columns) (p .column) (numbers []))) (plainKind (p .kind)) ≡ true
+  pub range : HasRange (plainKind (p .kind)) (p .operand)

@@ -1,6 +1,6 @@
 // The kinds of a predicate.
 ghost use mathlib.Core.Path.{_≡_};
-ghost use Rattle.predicate.specs.Meaning.{plainKind};
+ghost use Rattle.predicate.specs.Kinds.{plainKind};
 
 pub struct Kind;
 

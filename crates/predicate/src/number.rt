@@ -18,10 +18,7 @@ pub fn in_range(low: u32, high: u32, n: u32) -> bool
     if n == Blank::NUMBER {
         return false;
     }
-    if n < low {
-        return false;
-    }
-    n <= high
+    low <= n && n <= high
 }
 
 // The test of a kind below the opposites.

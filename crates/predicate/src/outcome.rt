@@ -3,7 +3,7 @@ use crate::answer::Answer;
 use crate::kind::Kind;
 use catalogue::format::Column;
 ghost use Rattle.catalogue.specs.Layout.{HasRow};
-ghost use Rattle.predicate.specs.Meaning.{plainKind};
+ghost use Rattle.predicate.specs.Kinds.{plainKind};
 ghost use Rattle.predicate.specs.Outcome.{Folds, HasRange, PlainIs, OutcomeIs};
 
 // The answer of a kind below the opposites.

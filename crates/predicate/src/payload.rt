@@ -23,10 +23,7 @@ fn kind_fits(tag: u8, kind: u8) -> bool
     if kind <= Kind::NUMBER_BLANK {
         return tag == Column::NUMBER_TAG;
     }
-    if kind <= Kind::TEXT_BLANK {
-        return tag == Column::TEXT_TAG;
-    }
-    false
+    kind <= Kind::TEXT_BLANK && tag == Column::TEXT_TAG
 }
 
 fn range_fits(operand: &[u8]) -> bool
@@ -37,10 +34,7 @@ fn range_fits(operand: &[u8]) -> bool
     }
     let low = fields::number::four_bytes(operand, 0);
     let high = fields::number::four_bytes(operand, Number::SIZE);
-    if high < low {
-        return false;
-    }
-    high < Blank::NUMBER
+    low <= high && high < Blank::NUMBER
 }
 
 // Whether an operand has the length and the range that its kind asks.
@@ -56,10 +50,7 @@ fn operand_fits(kind: u8, operand: &[u8]) -> bool
     if kind == Kind::TEXT_BLANK {
         return operand.len() == 0;
     }
-    if operand.len() == 0 {
-        return false;
-    }
-    operand.len() <= Text::LIMIT
+    1 <= operand.len() && operand.len() <= Text::LIMIT
 }
 
 // Whether a payload is a condition over columns with these tags.

@@ -1,6 +1,6 @@
 -- `plain_kind` meets its contract: each return is the case of `plainKind` that its test chooses.
 use Rattle.fields.proofs.Tests.{tests}
-use Rattle.predicate.specs.Meaning.{plainKind}
+use Rattle.predicate.specs.Kinds.{plainKind}
 use Rattle.predicate.proofs.kind.plain_kind.Statement.{statement}
 use Rattle.predicate.proofs.kind.plain_kind.Tie as tie
 

@@ -1,7 +1,4 @@
 -- `operand_fits` meets its contract: each return is the case of `operandFits` that its tests choose.
-use native.Mathlib.Omega.{arith}
-use lib.ListN.{length}
-use borrow.Author.Tests.{le-leb, lt-leb}
 use Rattle.fields.proofs.Tests.{tests}
 use Rattle.predicate.specs.Payload.{operandFits}
 use borrow.Author.Needs.{needs}
@@ -25,11 +22,11 @@ returns-3 c = search tests
 
 returns-4 : tie.Need-returns-4
 unfolding operandFits
-returns-4 c = search (tests, lt-leb 1 (length (c .before .before .before .before .before .args .operand .now)) (omega arith))
+returns-4 c = search tests
 
 returns-5 : tie.Need-returns-5
 unfolding operandFits
-returns-5 c = search (tests, le-leb 1 (length (c .before .before .before .before .before .args .operand .now)) (omega arith))
+returns-5 c = search tests
 
 pub operand-fits-spec : {M : Type 1} → statement M
 operand-fits-spec =

@@ -5,7 +5,7 @@ use lib.ListN.{length, drop}
 use native.Mathlib.Omega.{arith}
 use borrow.Author.Needs.{needs}
 use Rattle.predicate.specs.Meaning.{beginsWith}
-use Rattle.predicate.proofs.Laws.{begins-with-longer, begins-end, begins-differ, begins-more}
+use Rattle.predicate.proofs.TextLaws.{begins-with-longer, begins-end, begins-differ, begins-more}
 use Rattle.predicate.proofs.text.begins_with.Statement.{statement}
 use Rattle.predicate.proofs.text.begins_with.Tie as tie
 

@@ -5,7 +5,7 @@ use lib.ListN.{length, drop}
 use native.Mathlib.Omega.{arith}
 use borrow.Author.Needs.{needs}
 use Rattle.predicate.specs.Meaning.{contains}
-use Rattle.predicate.proofs.Laws.{contains-end, contains-longer, contains-found, contains-more}
+use Rattle.predicate.proofs.TextLaws.{contains-end, contains-longer, contains-found, contains-more}
 use Rattle.predicate.proofs.text.contains.Statement.{statement}
 use Rattle.predicate.proofs.text.contains.Tie as tie
 

@@ -1,5 +1,5 @@
 -- `equals` meets its contract: two texts of one length are equal where one begins with the other.
-use Rattle.predicate.proofs.Laws.{equals-begins, equals-other}
+use Rattle.predicate.proofs.TextLaws.{equals-begins, equals-other}
 use borrow.Author.Needs.{needs}
 use Rattle.predicate.proofs.text.equals.Statement.{statement}
 use Rattle.predicate.proofs.text.equals.Tie as tie

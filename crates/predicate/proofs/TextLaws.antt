@@ -1,5 +1,5 @@
 -- The tests of a text, one byte and one starting place after the other.
-use Prim.Native.Nat.{ℕ, zero, suc, _+_, _-_, _≤_, _<_}
+use Prim.Native.Nat.{ℕ, suc, _+_, _-_, _≤_, _<_}
 use native.Mathlib.Numerals.{add-one}
 use native.Mathlib.Omega.{arith}
 use mathlib.Core.Path.{_≡_, refl, sym, ap, _∙_}
@@ -30,7 +30,7 @@ occurs-longer o [] h = refl
 occurs-longer o (y ∷ t) h = rw (begins-longer o (y ∷ t) h) (occurs-longer o t (omega arith))
 
 pub begins-with-longer : (o t : List ℕ) → length t < length o → false ≡ beginsWith o t
-begins-with-longer o t h = sym (begins-longer (folded o) (folded t) (rw (folded-length, folded-length) h))
+begins-with-longer o t h = sym (begins-longer (folded o) (folded t) (rw (folded-length t, folded-length o) h))
 
 -- a loop over the operand's bytes: what is left to compare from place i on
 
@@ -82,7 +82,7 @@ module _ (o t : List ℕ) (a : ℕ) (so-far : contains o t ≡ contains o (drop 
 
   pub contains-longer : length t - a < length o → false ≡ contains o t
   contains-longer l =
-      rw so-far (sym (occurs-longer (folded o) (folded (drop a t)) (rw (folded-length, folded-length, length-drop) l)))
+      rw so-far (sym (occurs-longer (folded o) (folded (drop a t)) (rw (folded-length (drop a t), folded-length o, length-drop) l)))
 
   -- the tail is handed on as a part, up to the text's end
   module _ (inside : a < length t) (r : Bool) (tried : r ≡ beginsWith o (take (length t - a) (drop a t))) where

@@ -1,0 +1,30 @@
+-- The numbers of a predicate's kinds.
+use Prim.Native.Nat.{ℕ, _-_}
+use lib.Dec.{ltb}
+use Rattle.fields.specs.Decoded.{either}
+
+abbrev pub rangeKind : ℕ
+rangeKind = 0
+
+abbrev pub numberBlankKind : ℕ
+numberBlankKind = 1
+
+abbrev pub equalsKind : ℕ
+equalsKind = 2
+
+abbrev pub beginsKind : ℕ
+beginsKind = 3
+
+abbrev pub containsKind : ℕ
+containsKind = 4
+
+abbrev pub textBlankKind : ℕ
+textBlankKind = 5
+
+-- "Kinds 128 to 133: the opposite outcome of 0 to 5"
+abbrev pub oppositeFrom : ℕ
+oppositeFrom = 128
+
+-- the kind that is answered, or whose opposite is
+unfoldable pub plainKind : (kind : ℕ) → ℕ
+plainKind kind = either (ltb kind oppositeFrom) kind (kind - oppositeFrom)
