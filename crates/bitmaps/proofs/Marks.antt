@@ -1,9 +1,9 @@
 -- A byte with one bit more, put back in its place, is the table with that bit.
-use Prim.Native.Nat.{ℕ, _+_, _*_, _/_, _%_, _^_, _<_}
+use Prim.Native.Nat.{ℕ, _*_, _/_, _%_, _^_, _<_}
 use native.Mathlib.Nat.{one-mul, mod-lt}
 use native.Mathlib.Omega.{arith}
-use mathlib.Core.Path.{_≡_, refl, sym, ap, _∙_}
-use mathlib.Core.Bool.{Bool, true, false, _||_}
+use mathlib.Core.Path.{_≡_, ap, _∙_}
+use mathlib.Core.Bool.{Bool, _||_}
 use mathlib.Core.Logic.{_⊎_, inl, inr}
 use mathlib.Core.List.{List}
 use lib.ListN.{length, getD, set, length-set}
@@ -15,13 +15,10 @@ use Rattle.strategy.specs.Bools.{same?, eqb-self, eqb-ne}
 use Rattle.sets.specs.Set.{member, oneSet}
 use Rattle.sets.specs.SetLaws.{member-or, member-one}
 use Rattle.bitmaps.specs.Bit.{bit, Bytes, Marked}
+use Rattle.bitmaps.specs.BitLaws.{or-false}
 
 pub shift-one : (place : ℕ) → place < 8 → 1 * 2 ^ place % 2 ^ 8 ≡ 2 ^ place
 shift-one place h = shl-exact {a = 1} 1 place 8 (lit< tt) (omega arith) ∙ one-mul (2 ^ place)
-
-or-false : (a : Bool) → a ≡ (a || false)
-or-false true = refl
-or-false false = refl
 
 module _ (t : List ℕ) (k : ℕ) (h : k / 8 < length t) where
   abbrev byte : ℕ

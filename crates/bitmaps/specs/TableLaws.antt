@@ -1,22 +1,22 @@
 -- A run's own table: empty, with one bit more, read off as document 01's bitmaps, and its ones.
-use Prim.Native.Nat.{ℕ, zero, suc, _+_, _*_, _/_, _%_, _≤_, _<_}
-use native.Mathlib.Nat.{mul-le-mul-right}
+use Prim.Native.Nat.{ℕ, suc, _+_, _*_, _/_, _%_, _≤_, _<_}
+use native.Mathlib.Numerals.{add-one}
 use native.Mathlib.Omega.{arith}
-use mathlib.Core.Path.{_≡_, refl, sym, ap, ap₂, _∙_}
+use mathlib.Core.Path.{_≡_, refl, sym, ap, ap₂, _∙_, subst}
 use mathlib.Core.Bool.{Bool, true, false, _&&_, _||_}
 use mathlib.Core.Logic.{_⊎_, inl, inr}
-use mathlib.Core.List.{List, [], _∷_}
+use mathlib.Core.List.{List}
 use lib.ListN.{length, getD, take, drop, replicate, length-replicate, getD-replicate, length-drop, List·getD-eq-default}
 use lib.Seq.{getD-drop}
 use lib.Dec.{eqb, ltb}
-use Rattle.strategy.specs.Bools.{which, iff-eq, and-parts, both, eqb-self, eqb-eq, ltb-yes, ltb-no, ltb-lt, ltb-le}
+use Rattle.strategy.specs.Bools.{which, iff-eq, and-parts, eqb-self, eqb-eq, ltb-yes, ltb-no, ltb-lt, ltb-le}
 use Rattle.sets.specs.Set.{member}
 use Rattle.sets.specs.SetLaws.{member-none}
-use Rattle.bitmaps.specs.Sums.{sumOf, joined, digit, countOf}
+use Rattle.bitmaps.specs.Sums.{sumOf, digit, countOf}
 use Rattle.bitmaps.specs.SumLaws.{sum-below, sum-same, sum-zero, sum-lines, count-same, joined-same}
 use Rattle.bitmaps.specs.Bitmap.{bytesFor, bitmap, bitmaps, onesIn}
-use Rattle.bitmaps.specs.Bit.{bit, Bytes, Marked}
-use Rattle.bitmaps.specs.BitLaws.{ones-bits}
+use Rattle.bitmaps.specs.Bit.{bit, Marked}
+use Rattle.bitmaps.specs.BitLaws.{or-false, below-more, ones-bits}
 use Rattle.bitmaps.specs.BitmapLaws.{count-inside, bits-bitmap, bitmaps-one}
 use Rattle.bitmaps.specs.Table.{lineSize, lineBits, linesOf, Holds, within}
 
@@ -61,6 +61,60 @@ holds-mark {f} c e k h m = record {
   bytes = m .bytes (h .bytes);
   bits = λ d r l j. m .bits (d * lineBits + r) ∙ ap₂ _||_ (h .bits d r l j) (place c e d r k j);
 }
+
+-- a probe of predicate c more, where `probed` are those of the row so far
+pub holds-probe : (f : ℕ → ℕ → Bool) (probed : ℕ → Bool) {lines : ℕ} {t t′ : List ℕ} (c row : ℕ) → row < lineBits
+    → Holds (λ d e. f d e || (probed d && eqb e row)) lines t → Marked t (c * lineBits + row) t′
+    → Holds (λ d e. f d e || ((probed d || eqb d c) && eqb e row)) lines t′
+holds-probe f probed c row k h m = holds-same (λ d e l j. join (f d e) (probed d) (eqb d c) (eqb e row)) (holds-mark c row k h m)
+  where
+    join : (x p q b : Bool) → ((x || (p && b)) || (q && b)) ≡ (x || ((p || q) && b))
+    join true p q b = refl
+    join false true q true = refl
+    join false true true false = refl
+    join false true false false = refl
+    join false false q b = refl
+
+-- nothing is held before the first row
+pub holds-start : (f : ℕ → ℕ → Bool) (n lines : ℕ) → Holds (within f n 0) lines (replicate (lines * lineSize) 0)
+holds-start f n lines = holds-same (λ c e l k. go c e (ltb c n)) (holds-none lines)
+  where
+    go : (c e : ℕ) (b : Bool) → false ≡ (b && (ltb e 0 && f c e))
+    go c e true = sym (ap (λ (b : Bool). b && f c e) (ltb-no e 0 (omega arith)))
+    go c e false = refl
+
+-- one row more
+within-row : (f : ℕ → ℕ → Bool) (n row c e : ℕ) → (within f n row c e || ((ltb c n && f c row) && eqb e row)) ≡ within f n (row + 1) c e
+within-row f n row c e = rw (add-one row) (go (ltb c n))
+  where
+    go : (b : Bool) → ((b && (ltb e row && f c e)) || ((b && f c row) && eqb e row)) ≡ (b && (ltb e (suc row) && f c e))
+    go true = below-more (f c) row e
+    go false = refl
+
+pub holds-row : (f : ℕ → ℕ → Bool) (n row lines : ℕ) (t : List ℕ) (probed : ℕ → Bool) → ((c : ℕ) → c < lines → probed c ≡ (ltb c n && f c row))
+    → Holds (λ c e. within f n row c e || (probed c && eqb e row)) lines t → Holds (within f n (row + 1)) lines t
+holds-row f n row lines t probed s = holds-same (λ c e l k. ap (λ (b : Bool). within f n row c e || (b && eqb e row)) (s c l) ∙ within-row f n row c e)
+
+-- a table of one line: the row is marked where f holds
+module _ (f : ℕ → Bool) (row : ℕ) (t : List ℕ) (h : Holds (within (λ c. f) 1 row) 1 t) where
+  passed : (c : ℕ) → f row ≡ false → false ≡ (ltb c 1 && f row)
+  passed c y = rw y (go (ltb c 1))
+    where
+      go : (b : Bool) → false ≡ (b && false)
+      go true = refl
+      go false = refl
+
+  pub holds-passed : f row ≡ false → Holds (within (λ c. f) 1 (row + 1)) 1 t
+  holds-passed y = holds-row (λ c. f) 1 row 1 t (λ c. false) (λ c l. passed c y) (holds-same (λ c e l k. or-false (within (λ c. f) 1 row c e)) h)
+
+  selected : (c : ℕ) → c < 1 → f row ≡ true → eqb c 0 ≡ (ltb c 1 && f row)
+  selected c l y = let z : c ≡ 0 = omega arith in rw (z, y)
+
+  pub holds-selected : (t′ : List ℕ) → row < lineBits → f row ≡ true → Marked t row t′ → Holds (within (λ c. f) 1 (row + 1)) 1 t′
+  holds-selected t′ k y m =
+      let z : row ≡ 0 * lineBits + row = omega arith in
+      holds-row (λ c. f) 1 row 1 t′ (λ c. eqb c 0) (λ c l. selected c l y)
+      (holds-mark 0 row k h (subst (λ (p : ℕ). Marked t p t′) z m))
 
 line-bit : (t : List ℕ) (c e : ℕ) → bit (drop (c * lineSize) t) e ≡ bit t (c * lineBits + e)
 unfolding bit
