@@ -1,14 +1,14 @@
 -- How a reading goes on from what the parts of the reader answer: a law for each path of the code.
-use Prim.Native.Nat.{ℕ, zero, suc, _+_, _-_, _*_, _≤_, _<_}
+use Prim.Native.Nat.{ℕ, zero, suc, _+_, _-_, _≤_, _<_}
 use native.Mathlib.Nat.{add-assoc, add-zero}
 use native.Mathlib.Omega.{arith}
 use mathlib.Core.Path.{_≡_, refl, sym, ap, _∙_}
 use mathlib.Core.Logic.{_⊎_, inl, inr}
-use mathlib.Core.Bool.{Bool, true, false, cond}
+use mathlib.Core.Bool.{true, false, cond}
 use mathlib.Core.List.{List, [], _∷_, _++_, append-assoc, append-nil}
 use lib.ListN.{length, getD, set, length-append}
 use lib.Seq.{getD-set-same, getD-set-other}
-use lib.Dec.{ltb, eqb}
+use lib.Dec.{ltb}
 use Rattle.fields.specs.Header.{headerAt, headerSize}
 use Rattle.fields.proofs.Tests.{tests}
 use Rattle.strategy.specs.Bools.{which, ltb-lt, ltb-le}
@@ -18,13 +18,13 @@ use Rattle.sets.specs.Set.{runSet}
 use Rattle.sets.specs.Rungs.{rungs}
 use Rattle.sets.specs.RungLaws.{rungs-append}
 use Rattle.predicate.specs.Meaning.{Predicate}
-use Rattle.predicate.specs.Payload.{payloadHead, predicateOf}
+use Rattle.predicate.specs.Payload.{payloadHead}
 use Rattle.query.specs.declared.member.MemberField.{MemberField}
 use Rattle.query.specs.declared.member.MemberField.the-variants as field
 use Rattle.query.specs.declared.reader.Progress.{Progress}
 use Rattle.query.specs.declared.reader.Progress.the-variants.{Refused, Next}
 use Rattle.query.specs.Format.{predicateLimit, depthLimit}
-use Rattle.query.specs.Decode.{payloadAt, memberField, Read, stopped, read, settling, asGroup, putBefore, memberThen, member, members}
+use Rattle.query.specs.Decode.{memberField, Read, stopped, read, settling, asGroup, putBefore, memberThen, member, members}
 use Rattle.query.specs.Table.{tableSize, recordOf, listed, Placed, Put}
 use Rattle.query.specs.Ladder.{taggedRung, Tables, tables, LaddersSized, ladder, Low, Under, Kept, Closed, ClosedTo}
 use Rattle.query.specs.Reader.{Risen, Told, MemberRead, MembersRead, Within, Room}

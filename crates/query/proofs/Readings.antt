@@ -1,23 +1,22 @@
 -- What holds of every reading, by induction on its definition: it goes forward and stays within its end, it has 1 to 64
 -- predicates, numbered from left to right, no empty group, and each predicate is valid and lies in the query.
 use Prim.Native.Nat.{ℕ, zero, suc, _+_, _-_, _≤_, _<_}
-use native.Mathlib.Nat.{add-assoc, add-zero}
 use native.Mathlib.Omega.{arith}
-use mathlib.Core.Path.{_≡_, refl, sym, ap, _∙_}
+use mathlib.Core.Path.{_≡_, refl}
 use mathlib.Core.Bool.{Bool, true, false}
 use mathlib.Core.List.{List, [], _∷_, _++_}
 use lib.ListN.{length, take, drop, length-append, length-take, length-drop}
 use lib.Dec.{eqb}
 use borrow.Author.Tests.{eqb-true}
-use Rattle.fields.specs.Header.{headerAt, headerSize}
-use Rattle.strategy.specs.Tree.{Tree, leaf, group, Forest, none, more, size, sizes, Numbered, Numbereds, HasMember, NonEmpty, NonEmpties}
+use Rattle.fields.specs.Header.{headerAt}
+use Rattle.strategy.specs.Tree.{Tree, group, Forest, size, sizes, Numbered, Numbereds, HasMember, NonEmpty, NonEmpties}
 use Rattle.predicate.specs.Meaning.{Predicate}
 use Rattle.predicate.specs.Payload.{validPayload, predicateOf, payloadHead}
 use Rattle.predicate.proofs.PayloadLaws.{valid-payload}
 use Rattle.query.specs.declared.member.MemberField.{MemberField}
 use Rattle.query.specs.declared.member.MemberField.the-variants as field
 use Rattle.query.specs.Format.{predicateLimit}
-use Rattle.query.specs.Decode.{payloadAt, payloadOf, memberField, Read, stopped, read, settling, asGroup, fieldThen, putBefore, memberThen, unlessEnd, member, members}
+use Rattle.query.specs.Decode.{payloadAt, payloadOf, memberField, Read, stopped, read, asGroup, fieldThen, putBefore, memberThen, unlessEnd, member, members}
 use Rattle.query.specs.Sound.{SoundField}
 use Rattle.query.proofs.Records.{operand-bytes}
 use Rattle.query.proofs.Repeats.{payload-parts}

@@ -2,11 +2,11 @@
 use Prim.Native.Nat.{ℕ, zero, suc, _+_, _-_, _*_, _≤_, _<_}
 use native.Mathlib.Numerals.{add-one}
 use native.Mathlib.Omega.{arith}
-use mathlib.Core.Path.{_≡_, refl, sym, ap, ap₂, _∙_}
+use mathlib.Core.Path.{_≡_, refl, sym, ap, _∙_}
 use mathlib.Core.Logic.{_⊎_, inl, inr}
 use mathlib.Core.List.{List, [], _∷_, _++_}
-use lib.ListN.{length, getD, set, take, drop, length-set, length-append, length-take, length-drop}
-use lib.Seq.{getD-set-same, getD-set-other, getD-take, getD-drop, drop-drop, take-nil}
+use lib.ListN.{length, getD, set, take, drop, length-set, length-append, length-take, length-drop, List·getD-append}
+use lib.Seq.{getD-set-same, getD-set-other, getD-take, getD-drop, getD-at, drop-drop, take-nil}
 use Rattle.strategy.specs.Bools.{same?}
 use Rattle.predicate.specs.Meaning.{Predicate}
 use Rattle.predicate.specs.Payload.{payloadHead, predicateOf}
@@ -78,6 +78,18 @@ pub listed-length : (q T : List ℕ) (n : ℕ) → length (listed q T n) ≡ n
 unfolding listed
 listed-length q T zero = refl
 listed-length q T (suc n) = rw length-append (omega (arith, listed-length q T n))
+
+pub listed-at : (q T : List ℕ) (n c : ℕ) (other : Predicate) → c < n → getD (listed q T n) c other ≡ predicateIn q (recordAt T c)
+unfolding listed
+listed-at q T zero c other l = absurd (omega arith)
+listed-at q T (suc n) c other l =
+    let size : length (listed q T n) ≡ n = listed-length q T n in
+    let go : (c ≡ n) ⊎ (c ≡ n → ⊥) → getD (listed q T n ++ (predicateIn q (recordAt T n) ∷ [])) c other ≡ predicateIn q (recordAt T c)
+    = elim [
+      | inl e ↦ rw e (getD-at (listed q T n) (predicateIn q (recordAt T n)) [] other n size)
+      | inr e ↦ List·getD-append (listed q T n) (predicateIn q (recordAt T n) ∷ []) other c (omega arith) ∙ listed-at q T n c other (omega arith)
+    ] in
+    go (same? c n)
 
 listed-same : (q T T′ : List ℕ) (n : ℕ) → ((c : ℕ) → c < n → recordAt T′ c ≡ recordAt T c) → listed q T′ n ≡ listed q T n
 unfolding listed

@@ -73,16 +73,31 @@ repeated-last payload [] p = or-false (same payload (payloadOf p))
 repeated-last payload (o ∷ ps) p =
     ap (_||_ (same payload (payloadOf o))) (repeated-last payload ps p) ∙ sym (or-assoc (same payload (payloadOf o)) (isRepeated payload ps) (same payload (payloadOf p)))
 
-module _ (payload q T : List ℕ) (r : Bool) (c : ℕ) (r-is : r ≡ same payload (payloadOf (predicateIn q (recordAt T c)))) where
-  pub repeated-more : isRepeated payload (listed q T c) ≡ false → r ≡ false → isRepeated payload (listed q T (c + 1)) ≡ false
-  unfolding listed
-  repeated-more h e = rw (add-one c, repeated-last payload (listed q T c) (predicateIn q (recordAt T c)), h, ← r-is, e)
+-- the payload is that of none of the records from `c` up to `n`
+abbrev pub Unlike : (payload q table : List ℕ) → (c n : ℕ) → Type 0
+Unlike payload q T c n = (d : ℕ) → c ≤ d → d < n → same payload (payloadOf (predicateIn q (recordAt T d))) ≡ false
 
+pub repeated-none : (payload q T : List ℕ) (n : ℕ) → Unlike payload q T 0 n → isRepeated payload (listed q T n) ≡ false
+unfolding isRepeated listed
+repeated-none payload q T zero h = refl
+repeated-none payload q T (suc n) h =
+    repeated-last payload (listed q T n) (predicateIn q (recordAt T n))
+    ∙ rw (repeated-none payload q T n (λ d i j. h d i (omega arith)), h n (omega arith) (omega arith))
+
+module _ (payload q T : List ℕ) (r : Bool) (c : ℕ) (r-is : r ≡ same payload (payloadOf (predicateIn q (recordAt T c)))) where
   pub repeated-at : (n : ℕ) → c < n → r ≡ true → true ≡ isRepeated payload (listed q T n)
   unfolding listed
   repeated-at zero l e = absurd (omega arith)
-  repeated-at (suc n) l e = sym (repeated-last payload (listed q T n) (predicateIn q (recordAt T n)) ∙ go (λ l. repeated-at n l e) (same? c n))
+  repeated-at (suc n) l e = sym (repeated-last payload (listed q T n) (predicateIn q (recordAt T n)) ∙ go (λ k. repeated-at n k e) (same? c n))
     where
-      go : (c < n → true ≡ isRepeated payload (listed q T n)) → (c ≡ n) ⊎ (c ≡ n → ⊥) → (isRepeated payload (listed q T n) || same payload (payloadOf (predicateIn q (recordAt T n)))) ≡ true
+      go : (c < n → true ≡ isRepeated payload (listed q T n)) → (c ≡ n) ⊎ (c ≡ n → ⊥)
+          → (isRepeated payload (listed q T n) || same payload (payloadOf (predicateIn q (recordAt T n)))) ≡ true
       go h (inl z) = or-right (isRepeated payload (listed q T n)) (rw (← z) (sym r-is ∙ e))
       go h (inr z) = or-left (same payload (payloadOf (predicateIn q (recordAt T n)))) (sym (h (omega arith)))
+
+  pub unlike-more : (n : ℕ) → Unlike payload q T (c + 1) n → r ≡ false → Unlike payload q T c n
+  unlike-more n h e d i j = go (same? d c)
+    where
+      go : (d ≡ c) ⊎ (d ≡ c → ⊥) → same payload (payloadOf (predicateIn q (recordAt T d))) ≡ false
+      go (inl z) = rw z (sym r-is ∙ e)
+      go (inr z) = h d (omega arith) j

@@ -1,33 +1,33 @@
 -- The whole query: the reader's answer and tables are handed on as `decodeTagged` says.
 use Prim.Native.Nat.{ℕ, zero, suc, _+_, _-_, _*_, _≤_, _<_}
-use native.Mathlib.Nat.{zero-add}
 use native.Mathlib.Omega.{arith}
-use mathlib.Core.Path.{_≡_, refl, sym, ap, _∙_}
+use mathlib.Core.Path.{_≡_, refl, ap}
 use mathlib.Core.Bool.{Bool, true, false, _&&_}
 use mathlib.Core.Logic.{_⊎_, inl, inr}
 use mathlib.Core.List.{List, [], _∷_, _++_}
 use lib.ListN.{length, getD}
 use lib.Dec.{ltb, leb, eqb}
-use borrow.Author.Tests.{eq-eqb, ne-eqb, leb-true, ltb-true, ltb-false}
+use borrow.Author.Tests.{eq-eqb, ne-eqb, leb-true, ltb-true}
 use Rattle.fields.specs.Decoded.{either}
 use Rattle.strategy.specs.Bools.{same?}
 use Rattle.strategy.specs.Tree.{Tree}
 use Rattle.strategy.specs.Climb.{enclosing}
 use Rattle.predicate.specs.Meaning.{Predicate, plainKind, oppositeFrom}
-use Rattle.predicate.specs.Payload.{validPayload, kindFits, columnByte, kindByte}
+use Rattle.predicate.specs.Payload.{kindFits}
 use Rattle.predicate.proofs.Tests.{and-left}
 use Rattle.predicate.proofs.PayloadLaws.{valid-payload}
 use Rattle.query.specs.declared.reader.Progress.the-variants as progress
-use Rattle.query.specs.declared.whole.Reading.{Reading}
 use Rattle.query.specs.declared.whole.Reading.the-variants.{Refused, Accepted}
-use Rattle.query.specs.Format.{predicateLimit, bytesAfterQuery}
+use Rattle.query.specs.Format.{bytesAfterQuery}
+use Rattle.query.specs.Query.{Query}
 use Rattle.query.specs.Decode.{payloadOf, Read, stopped, read, member, wholeQuery, decodeTagged}
 use Rattle.query.specs.Table.{recordAt, predicateIn, listed, Placed}
 use Rattle.query.specs.Ladder.{Tables, Low}
 use Rattle.query.specs.Sound.{IsRefusal}
-use Rattle.query.specs.Reader.{Told, MemberRead, Within}
+use Rattle.query.specs.Reader.{Told, MemberRead}
 use Rattle.query.specs.Handed.{TablesSized, Recorded, Tabled, Handed}
-use Rattle.query.proofs.Readings.{Fits, Each, TreeSound, SoundTree, member-sound}
+use Rattle.query.proofs.Records.{listed-at}
+use Rattle.query.proofs.Readings.{Fits, Each, SoundTree, member-sound}
 
 -- a valid payload's kind is at most 133
 kind-small : (tag kind : ℕ) → kindFits tag (plainKind kind) ≡ true → kind < 256
@@ -112,3 +112,8 @@ module _ (tags q : List ℕ) (T T1 : Tables) where
               sized = s;
             },
           )
+
+-- predicate c of the query is the one that record c shows
+pub tabled-predicate : (tags q : List ℕ) (Q : Query) (n : ℕ) (T : Tables) → Tabled tags q Q n T → (c : ℕ) (other : Predicate) → c < n
+    → getD (Q .predicates) c other ≡ predicateIn q (recordAt (T .records) c)
+tabled-predicate tags q Q n T t c other l = rw (← (t .shown)) (listed-at q (T .records) n c other l)

@@ -3,7 +3,7 @@ use Prim.Native.Nat.{ℕ, _+_, _≤_, _<_}
 use mathlib.Core.Path.{_≡_}
 use mathlib.Core.Bool.{true}
 use mathlib.Core.List.{List}
-use lib.ListN.{length, getD}
+use lib.ListN.{length}
 use Rattle.fields.specs.Decoded.{Decoded, refused, accepted}
 use Rattle.strategy.specs.Tree.{size, Numbered, NonEmpty}
 use Rattle.strategy.specs.Climb.{enclosing}

@@ -45,12 +45,12 @@ pub fn is_repeated(payload: &[u8], q: &[u8], table: &[usize], n: usize) -> bool
     requires { ⌜ (payloadHead ≤ length (now payload)) × Listed (now q) (now table) n ⌝ }
     ensures { λ r. ⌜ r ≡ isRepeated (now (payload .entry)) (listed (now (q .entry)) (now (table .entry)) n) ⌝ }
 {
-    let mut c: usize = 0;
-    while c < n {
-        if is_payload_of(payload, q, crate::table::record_at(table, c)) {
+    let mut left = n;
+    while 0 < left {
+        if is_payload_of(payload, q, crate::table::record_at(table, left - 1)) {
             return true;
         }
-        c += 1;
+        left -= 1;
     }
     false
 }

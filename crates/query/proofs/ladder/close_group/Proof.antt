@@ -4,7 +4,7 @@ use native.Mathlib.Omega.{arith}
 use Prim.Native.Nat.{_<_, _≤_, _-_}
 use mathlib.Core.Path.{_≡_, refl}
 use mathlib.Core.List.{List, []}
-use lib.ListN.{length, getD}
+use lib.ListN.{getD}
 use Prim.Native.Nat.{ℕ}
 use Rattle.query.specs.Format.{depthLimit}
 use Rattle.sets.specs.Set.{runSet}
@@ -12,10 +12,6 @@ use Rattle.query.specs.Ladder.{taggedRung, tables, LaddersSized, Closed}
 use Rattle.query.proofs.Ladders.{closed-none, closed-more}
 use Rattle.query.proofs.ladder.close_group.Statement.{statement}
 use Rattle.query.proofs.ladder.close_group.Tie as tie
-use Rattle.query.proofs.ladder.close_group.Reads as reads
-use Rattle.query.proofs.ladder.close_group.Lts as lts
-use Rattle.query.proofs.ladder.narrow.Reads as narrow-reads
-use Rattle.sets.proofs.run_of.Reads as run-of-reads
 
 abbrev Inv-loop : tie.InvT-loop
 Inv-loop masks₀ sorts₀ heights₀ a m tag mask c₀ masks sorts heights c = (a ≤ c) × (c ≤ m) × LaddersSized masks sorts heights × (mask ≡ runSet a (m - a)) × ((P : List ℕ) → Closed a c m (taggedRung tag mask) (tables P masks₀ sorts₀ heights₀) (tables P masks sorts heights))
@@ -33,71 +29,54 @@ room c =
 mask-is : (c : tie.After-run-of Inv-loop μ-loop) → c .run-of .result ≡ runSet (c .before .before .before .before .before .before .args .a) (c .before .before .before .before .before .before .args .m - c .before .before .before .before .before .before .args .a)
 mask-is c = cc
 
--- src/ladder.rt:29:35
 narrow-requires : tie.Need-narrow-requires Inv-loop μ-loop
 narrow-requires c κs = search needs
 
--- src/ladder.rt:29:46
 narrow-requires-2 : tie.Need-narrow-requires-2 Inv-loop μ-loop
 narrow-requires-2 c κs = search needs
 
--- src/ladder.rt:29:9
 run-of-requires : tie.Need-run-of-requires Inv-loop μ-loop
 run-of-requires c κs = search needs
 
--- src/ladder.rt:31:5
 loop-holds : tie.Need-loop-holds Inv-loop μ-loop
 loop-holds c = (omega arith, omega arith, c .before .before .before .before .before .before .pre .0 .2, mask-is c, λ P. closed-none _ _ _ _ (c .before .before .before .before .before .before .pre .1 .0))
 
--- src/ladder.rt:32:17
 mul-h : tie.Need-mul-h Inv-loop μ-loop
 mul-h c = search needs
 
--- src/ladder.rt:32:17
 slice-read-h : tie.Need-slice-read-h Inv-loop μ-loop
 slice-read-h c = search needs
 
--- src/ladder.rt:33:17
 mul-i : tie.Need-mul-i Inv-loop μ-loop
 mul-i c = search needs
 
--- src/ladder.rt:33:17
 add-i : tie.Need-add-i Inv-loop μ-loop
 add-i c = omega (arith, room c)
 
--- src/ladder.rt:34:9
 mul-masks : tie.Need-mul-masks Inv-loop μ-loop
 mul-masks c = omega (arith, room c)
 
--- src/ladder.rt:34:9
 slice-write-masks : tie.Need-slice-write-masks Inv-loop μ-loop
 slice-write-masks c = omega (arith, room c)
 
--- src/ladder.rt:35:9
 slice-write-sorts : tie.Need-slice-write-sorts Inv-loop μ-loop
 slice-write-sorts c = omega (arith, room c)
 
--- src/ladder.rt:36:22
 add-heights : tie.Need-add-heights Inv-loop μ-loop
 add-heights c = omega (arith, room c)
 
--- src/ladder.rt:36:9
 mul-heights : tie.Need-mul-heights Inv-loop μ-loop
 mul-heights c = search needs
 
--- src/ladder.rt:36:9
 slice-write-heights : tie.Need-slice-write-heights Inv-loop μ-loop
 slice-write-heights c = search needs
 
--- src/ladder.rt:37:9
 add-c : tie.Need-add-c Inv-loop μ-loop
 add-c c = search needs
 
--- src/ladder.rt:31:5
 loop-less : tie.Need-loop-less Inv-loop μ-loop
 loop-less c = search needs
 
--- src/ladder.rt:31:5
 loop-again : tie.Need-loop-again Inv-loop μ-loop
 loop-again c =
     let l = c .before .before .loop in (
@@ -108,19 +87,15 @@ loop-again c =
       λ P. closed-more P (l .masks) (l .sorts) (l .heights) (l .c) _ _ _ refl (room c) (omega (arith, room c)) (omega (arith, room c)) (omega arith) _ _ _ (omega arith) (omega arith) (l .inv .4 P),
     )
 
--- src/ladder.rt:16:1
 same-length : tie.Need-same-length Inv-loop μ-loop
 same-length c = search needs
 
--- src/ladder.rt:16:1
 same-length-2 : tie.Need-same-length-2 Inv-loop μ-loop
 same-length-2 c = search needs
 
--- src/ladder.rt:16:1
 same-length-3 : tie.Need-same-length-3 Inv-loop μ-loop
 same-length-3 c = search needs
 
--- src/ladder.rt:16:1
 returns : tie.Need-returns Inv-loop μ-loop
 returns c = λ P.
     let l = c .before .loop in

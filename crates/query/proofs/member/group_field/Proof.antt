@@ -3,20 +3,15 @@ use Rattle.fields.proofs.Tests.{tests}
 use Rattle.query.specs.Decode.{groupField}
 use Rattle.query.proofs.member.group_field.Statement.{statement}
 use Rattle.query.proofs.member.group_field.Tie as tie
-use Rattle.query.proofs.member.group_field.Reads as reads
-use Rattle.query.proofs.member.group_field.Lts as lts
 
--- src/member.rt:26:9
 returns : tie.Need-returns
 unfolding groupField
 returns c = search tests
 
--- src/member.rt:29:9
 returns-2 : tie.Need-returns-2
 unfolding groupField
 returns-2 c = search tests
 
--- src/member.rt:22:1
 returns-3 : tie.Need-returns-3
 unfolding groupField
 returns-3 c = search tests

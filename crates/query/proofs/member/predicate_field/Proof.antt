@@ -7,56 +7,40 @@ use Rattle.query.proofs.Fields.{predicate-many, predicate-invalid, pred
 use borrow.Author.Needs.{needs}
 use Rattle.query.proofs.member.predicate_field.Statement.{statement}
 use Rattle.query.proofs.member.predicate_field.Tie as tie
-use Rattle.query.proofs.member.predicate_field.Reads as reads
-use Rattle.query.proofs.member.predicate_field.Lts as lts
-use Rattle.predicate.proofs.payload.payload_is_valid.Reads as payload-is-valid-reads
-use Rattle.query.proofs.repeated.is_repeated.Reads as is-repeated-reads
 
--- src/member.rt:47:9
 returns : tie.Need-returns
-returns c = predicate-many (c .before .before .before .before .args .tags .now) (c .before .before .before .before .args .q .now) (c .before .before .before .before .args .table .now) (c .before .before .before .before .args .n) (c .before .before .before .before .args .start) (c .before .before .before .before .args .end) (c .if1 .taken)
+returns c = predicate-many (c .before .before .before .before .args .tags .now) (c .before .before .before .before .args .q .now) (c .before .before .before .before .args .table .now) (c .before .before .before .before .args .n) (c .before .before .before .before .args .start) (c .before .before .before .before .args .end) (omega arith)
 
--- src/member.rt:49:52
 sub-payload-is-valid : tie.Need-sub-payload-is-valid
 sub-payload-is-valid c = search needs
 
--- src/member.rt:49:52
 part-payload-is-valid-start : tie.Need-part-payload-is-valid-start
 part-payload-is-valid-start c = search needs
 
--- src/member.rt:49:52
 part-payload-is-valid-end : tie.Need-part-payload-is-valid-end
 part-payload-is-valid-end c = search needs
 
--- src/member.rt:49:9
 payload-is-valid-requires : tie.Need-payload-is-valid-requires
 payload-is-valid-requires c κs = search needs
 
--- src/member.rt:50:9
 returns-2 : tie.Need-returns-2
 returns-2 c = predicate-invalid (c .before .before .before .before .before .before .before .args .tags .now) (c .before .before .before .before .before .before .before .args .q .now) (c .before .before .before .before .before .before .before .args .table .now) (c .before .before .before .before .before .before .before .args .n) (c .before .before .before .before .before .before .before .args .start) (c .before .before .before .before .before .before .before .args .end) (omega arith) _ (c .before .payload-is-valid .ensures) (not-true _ (c .if2 .taken))
 
--- src/member.rt:52:37
 sub-is-repeated : tie.Need-sub-is-repeated
 sub-is-repeated c = search needs
 
--- src/member.rt:52:37
 part-is-repeated-start : tie.Need-part-is-repeated-start
 part-is-repeated-start c = search needs
 
--- src/member.rt:52:37
 part-is-repeated-end : tie.Need-part-is-repeated-end
 part-is-repeated-end c = search needs
 
--- src/member.rt:52:8
 is-repeated-requires : tie.Need-is-repeated-requires
 is-repeated-requires c κs = (valid-payload _ _ (sym (c .before .before .payload-is-valid .ensures) ∙ not-false _ (c .before .if2 .left)) .head, c .before .before .before .before .before .before .before .before .pre .2)
 
--- src/member.rt:53:9
 returns-3 : tie.Need-returns-3
 returns-3 c = predicate-repeated (c .before .before .before .before .before .before .before .before .before .before .args .tags .now) (c .before .before .before .before .before .before .before .before .before .before .args .q .now) (c .before .before .before .before .before .before .before .before .before .before .args .table .now) (c .before .before .before .before .before .before .before .before .before .before .args .n) (c .before .before .before .before .before .before .before .before .before .before .args .start) (c .before .before .before .before .before .before .before .before .before .before .args .end) (omega arith) _ (c .before .before .before .before .payload-is-valid .ensures) (not-false _ (c .before .before .before .if2 .left)) _ (c .before .is-repeated .ensures) (c .if3 .taken)
 
--- src/member.rt:35:1
 returns-4 : tie.Need-returns-4
 returns-4 c = predicate-leaf (c .before .before .before .before .before .before .before .before .before .before .args .tags .now) (c .before .before .before .before .before .before .before .before .before .before .args .q .now) (c .before .before .before .before .before .before .before .before .before .before .args .table .now) (c .before .before .before .before .before .before .before .before .before .before .args .n) (c .before .before .before .before .before .before .before .before .before .before .args .start) (c .before .before .before .before .before .before .before .before .before .before .args .end) (omega arith) _ (c .before .before .before .before .payload-is-valid .ensures) (not-false _ (c .before .before .before .if2 .left)) _ (c .before .is-repeated .ensures) (c .if3 .left)
 

@@ -1,12 +1,11 @@
 -- The group reader and the member reader meet their contracts: the bytes left fall from call to call, and each path is a law of a reading.
 use borrow.Author.Needs.{needs}
 use native.Mathlib.Omega.{arith}
-use Prim.Native.Nat.{_+_, _-_, _*_}
+use Prim.Native.Nat.{ℕ, _+_, _-_, _*_, _<_}
 use mathlib.Core.Path.{refl}
 use denote.Ref.{now}
 use Rattle.query.specs.Ladder.{tables}
 use Rattle.query.proofs.Progress.{InGroup, in-group-none, in-group-end, in-group-refused, in-group-more, member-refused, member-leaf, leaf-within, member-group-refused, member-group, group-within}
-use Prim.Native.Nat.{ℕ, _<_}
 use borrow.Fn.Kinds.{In}
 use borrow.Fn.PlainCycle.{Measures, is, falls, and}
 use Rattle.query.proofs.reader.read_group.Reads as read-group
@@ -50,56 +49,48 @@ read-group-Inv-loop tags q at end depth n table₀ masks₀ sorts₀ heights₀ 
 abbrev read-group-μ-loop : read-group-lts.MeasureT-loop
 read-group-μ-loop tags q at end depth n table₀ masks₀ sorts₀ heights₀ p₀ m₀ table masks sorts heights p m = end - p
 
--- src/reader.rt:85:5
 read-group-loop-holds : (t : ℕ) → read-group-lts.Need-loop-holds (
   read-member-below t,
   read-member.Post,
 ) (read-group-at t) read-group.Post read-group-Inv-loop read-group-μ-loop
 read-group-loop-holds t c = in-group-none _ _ _ _ _ _ _ (c .before .before .before .before .before .before .pre .1)
 
--- src/reader.rt:86:15
 read-group-read-member-requires : (t : ℕ) → read-group-lts.Need-read-member-requires (
   read-member-below t,
   read-member.Post,
 ) (read-group-at t) read-group.Post read-group-Inv-loop read-group-μ-loop
 read-group-read-member-requires t c κs = (omega (arith, c .before .before .before .before .before .loop .inv .past), c .before .before .before .before .before .loop .inv .room)
 
--- src/reader.rt:87:31
 read-group-enum-known-e : (t : ℕ) → read-group-lts.Need-enum-known-e (
   read-member-below t,
   read-member.Post,
 ) (read-group-at t) read-group.Post read-group-Inv-loop read-group-μ-loop
 read-group-enum-known-e t c = search needs
 
--- src/reader.rt:88:17
 read-group-same-length : (t : ℕ) → read-group-lts.Need-same-length (
   read-member-below t,
   read-member.Post,
 ) (read-group-at t) read-group.Post read-group-Inv-loop read-group-μ-loop
 read-group-same-length t c = search needs
 
--- src/reader.rt:88:17
 read-group-same-length-2 : (t : ℕ) → read-group-lts.Need-same-length-2 (
   read-member-below t,
   read-member.Post,
 ) (read-group-at t) read-group.Post read-group-Inv-loop read-group-μ-loop
 read-group-same-length-2 t c = search needs
 
--- src/reader.rt:88:17
 read-group-same-length-3 : (t : ℕ) → read-group-lts.Need-same-length-3 (
   read-member-below t,
   read-member.Post,
 ) (read-group-at t) read-group.Post read-group-Inv-loop read-group-μ-loop
 read-group-same-length-3 t c = search needs
 
--- src/reader.rt:88:17
 read-group-same-length-4 : (t : ℕ) → read-group-lts.Need-same-length-4 (
   read-member-below t,
   read-member.Post,
 ) (read-group-at t) read-group.Post read-group-Inv-loop read-group-μ-loop
 read-group-same-length-4 t c = search needs
 
--- src/reader.rt:88:17
 read-group-returns :
     (t : ℕ) →
     read-group-lts.Need-returns
@@ -114,14 +105,12 @@ read-group-returns t c =
     let m = c .before .before .before .before .before .before .before .before .before .before .before .read-member in
     (rw (c .before .e .given .1) at (m .ensures .0), in-group-refused _ _ _ (a .end) (a .depth) _ (l .p) (l .m) (tables (now (a .table)) (now (a .masks)) (now (a .sorts)) (now (a .heights))) (tables (l .table) (l .masks) (l .sorts) (l .heights)) (l .inv) (tables (m .last .1 .1 .1 .1 .1 .1 .0) (m .last .1 .1 .1 .1 .1 .1 .1 .0) (m .last .1 .1 .1 .1 .1 .1 .1 .1 .0) (m .last .1 .1 .1 .1 .1 .1 .1 .1 .1 .0)) (omega arith) _ (rw (c .before .e .given .1) at (m .ensures .1)))
 
--- src/reader.rt:90:34
 read-group-enum-known-next : (t : ℕ) → read-group-lts.Need-enum-known-next (
   read-member-below t,
   read-member.Post,
 ) (read-group-at t) read-group.Post read-group-Inv-loop read-group-μ-loop
 read-group-enum-known-next t c = search needs
 
--- src/reader.rt:85:5
 read-group-loop-less : (t : ℕ) → read-group-lts.Need-loop-less (
   read-member-below t,
   read-member.Post,
@@ -130,7 +119,6 @@ read-group-loop-less t c =
     let w = rw (c .before .next .given .1) at (c .before .before .before .before .before .before .before .before .before .before .before .read-member .ensures .0) in
     omega arith
 
--- src/reader.rt:85:5
 read-group-loop-again : (t : ℕ) → read-group-lts.Need-loop-again (
   read-member-below t,
   read-member.Post,
@@ -144,35 +132,30 @@ read-group-loop-again t c =
     in-group-more _ _ _ (a .end) (a .depth) _ (l .p) (l .m) (tables (now (a .table)) (now (a .masks)) (now (a .sorts)) (now (a .heights))) (tables (l .table) (l .masks) (l .sorts) (l .heights)) (l .inv) (tables (m .last .1 .1 .1 .1 .1 .1 .0) (m .last .1 .1 .1 .1 .1 .1 .1 .0) (m .last .1 .1 .1 .1 .1 .1 .1 .1 .0) (m .last .1 .1 .1 .1 .1 .1 .1 .1 .1 .0)) (omega arith) _ _ (rw (c .before .next .given .1) at (m .ensures .0)) (rw (c .before .next .given .1) at (m .ensures .1)) (omega arith)
     (record { masks-size = omega arith; sorts-size = omega arith; heights-size = omega arith })
 
--- src/reader.rt:67:1
 read-group-same-length-5 : (t : ℕ) → read-group-lts.Need-same-length-5 (
   read-member-below t,
   read-member.Post,
 ) (read-group-at t) read-group.Post read-group-Inv-loop read-group-μ-loop
 read-group-same-length-5 t c = search needs
 
--- src/reader.rt:67:1
 read-group-same-length-6 : (t : ℕ) → read-group-lts.Need-same-length-6 (
   read-member-below t,
   read-member.Post,
 ) (read-group-at t) read-group.Post read-group-Inv-loop read-group-μ-loop
 read-group-same-length-6 t c = search needs
 
--- src/reader.rt:67:1
 read-group-same-length-7 : (t : ℕ) → read-group-lts.Need-same-length-7 (
   read-member-below t,
   read-member.Post,
 ) (read-group-at t) read-group.Post read-group-Inv-loop read-group-μ-loop
 read-group-same-length-7 t c = search needs
 
--- src/reader.rt:67:1
 read-group-same-length-8 : (t : ℕ) → read-group-lts.Need-same-length-8 (
   read-member-below t,
   read-member.Post,
 ) (read-group-at t) read-group.Post read-group-Inv-loop read-group-μ-loop
 read-group-same-length-8 t c = search needs
 
--- src/reader.rt:67:1
 read-group-returns-2 : (t : ℕ) → read-group-lts.Need-returns-2 (
   read-member-below t,
   read-member.Post,
@@ -182,7 +165,6 @@ read-group-returns-2 t c =
     let l = c .before .loop in
     in-group-end _ _ _ (a .end) (a .depth) _ (l .p) (l .m) (tables (now (a .table)) (now (a .masks)) (now (a .sorts)) (now (a .heights))) (tables (l .table) (l .masks) (l .sorts) (l .heights)) (l .inv) (omega arith)
 
--- src/reader.rt:31:11
 read-member-read-field-requires : (t : ℕ) → read-member-lts.Need-read-field-requires (
   read-field-reads.Asked,
   read-field-reads.Learnt,
@@ -197,7 +179,6 @@ read-member-read-field-requires : (t : ℕ) → read-member-lts.Need-read-field-
 ) (read-member-at t) read-member.Post
 read-member-read-field-requires t c κs = (c .before .before .before .before .before .before .before .pre .1 .order, c .before .before .before .before .before .before .before .pre .1 .inside, c .before .before .before .before .before .before .before .pre .1 .listed)
 
--- src/reader.rt:32:30
 read-member-enum-known-e : (t : ℕ) → read-member-lts.Need-enum-known-e (
   read-field-reads.Asked,
   read-field-reads.Learnt,
@@ -212,7 +193,6 @@ read-member-enum-known-e : (t : ℕ) → read-member-lts.Need-enum-known-e (
 ) (read-member-at t) read-member.Post
 read-member-enum-known-e t c = search needs
 
--- src/reader.rt:33:29
 read-member-enum-known-start : (t : ℕ) → read-member-lts.Need-enum-known-start (
   read-field-reads.Asked,
   read-field-reads.Learnt,
@@ -227,7 +207,6 @@ read-member-enum-known-start : (t : ℕ) → read-member-lts.Need-enum-known-sta
 ) (read-member-at t) read-member.Post
 read-member-enum-known-start t c = search needs
 
--- src/reader.rt:34:17
 read-member-record-of-requires : (t : ℕ) → read-member-lts.Need-record-of-requires (
   read-field-reads.Asked,
   read-field-reads.Learnt,
@@ -244,7 +223,6 @@ read-member-record-of-requires t c κs =
     let w = rw (c .before .start .given .1) at (c .before .before .before .read-field .ensures .1) in
     (w .1, omega (arith, c .before .before .before .before .before .before .before .before .before .before .before .pre .1 .inside))
 
--- src/reader.rt:35:13
 read-member-put-record-requires : (t : ℕ) → read-member-lts.Need-put-record-requires (
   read-field-reads.Asked,
   read-field-reads.Learnt,
@@ -261,7 +239,6 @@ read-member-put-record-requires t c κs =
     let w = rw (c .before .before .before .start .given .1) at (c .before .before .before .before .before .read-field .ensures .1) in
     (w .3, c .before .before .before .before .before .before .before .before .before .before .before .before .before .pre .1 .listed .sized)
 
--- src/reader.rt:36:13
 read-member-mul-heights : (t : ℕ) → read-member-lts.Need-mul-heights (
   read-field-reads.Asked,
   read-field-reads.Learnt,
@@ -278,7 +255,6 @@ read-member-mul-heights t c =
     let w = rw (c .before .before .before .before .before .before .start .given .1) at (c .before .before .before .before .before .before .before .before .read-field .ensures .1) in
     omega (arith, c .before .before .before .before .before .before .before .before .before .before .before .before .before .before .before .before .pre .1 .ladders .heights-size)
 
--- src/reader.rt:36:13
 read-member-slice-write-heights : (t : ℕ) → read-member-lts.Need-slice-write-heights (
   read-field-reads.Asked,
   read-field-reads.Learnt,
@@ -295,7 +271,6 @@ read-member-slice-write-heights t c =
     let w = rw (c .before .before .before .before .before .before .start .given .1) at (c .before .before .before .before .before .before .before .before .read-field .ensures .1) in
     omega (arith, c .before .before .before .before .before .before .before .before .before .before .before .before .before .before .before .before .pre .1 .ladders .heights-size)
 
--- src/reader.rt:37:43
 read-member-add-t28 : (t : ℕ) → read-member-lts.Need-add-t28 (
   read-field-reads.Asked,
   read-field-reads.Learnt,
@@ -312,7 +287,6 @@ read-member-add-t28 t c =
     let w = rw (c .before .before .before .before .before .before .start .given .1) at (c .before .before .before .before .before .before .before .before .read-field .ensures .1) in
     omega (arith, c .before .before .before .before .before .before .before .before .before .before .before .before .before .before .before .before .pre .1 .ladders .heights-size)
 
--- src/reader.rt:40:13
 read-member-enum-known-tag : (t : ℕ) → read-member-lts.Need-enum-known-tag (
   read-field-reads.Asked,
   read-field-reads.Learnt,
@@ -327,7 +301,6 @@ read-member-enum-known-tag : (t : ℕ) → read-member-lts.Need-enum-known-tag (
 ) (read-member-at t) read-member.Post
 read-member-enum-known-tag t c = search needs
 
--- src/reader.rt:49:17
 read-member-add-read-group : (t : ℕ) → read-member-lts.Need-add-read-group (
   read-field-reads.Asked,
   read-field-reads.Learnt,
@@ -344,7 +317,6 @@ read-member-add-read-group t c =
     let w = rw (c .before .tag .given .1) at (c .before .before .before .read-field .ensures .1) in
     omega arith
 
--- src/reader.rt:44:19
 read-member-read-group-requires : (t : ℕ) → read-member-lts.Need-read-group-requires (
   read-field-reads.Asked,
   read-field-reads.Learnt,
@@ -362,7 +334,6 @@ read-member-read-group-requires t c κs =
     let p = c .before .before .before .before .before .before .before .before .before .before .before .before .before .before .before .pre .1 in
     (omega arith, record { order = omega arith; inside = omega (arith, p .inside); deep = omega arith; listed = p .listed; ladders = p .ladders; low = p .low })
 
--- src/reader.rt:56:35
 read-member-enum-known-e-2 : (t : ℕ) → read-member-lts.Need-enum-known-e-2 (
   read-field-reads.Asked,
   read-field-reads.Learnt,
@@ -377,7 +348,6 @@ read-member-enum-known-e-2 : (t : ℕ) → read-member-lts.Need-enum-known-e-2 (
 ) (read-member-at t) read-member.Post
 read-member-enum-known-e-2 t c = search needs
 
--- src/reader.rt:57:38
 read-member-enum-known-next : (t : ℕ) → read-member-lts.Need-enum-known-next (
   read-field-reads.Asked,
   read-field-reads.Learnt,
@@ -392,7 +362,6 @@ read-member-enum-known-next : (t : ℕ) → read-member-lts.Need-enum-known-next
 ) (read-member-at t) read-member.Post
 read-member-enum-known-next t c = search needs
 
--- src/reader.rt:58:21
 read-member-close-group-requires : (t : ℕ) → read-member-lts.Need-close-group-requires (
   read-field-reads.Asked,
   read-field-reads.Learnt,
@@ -412,7 +381,6 @@ read-member-close-group-requires t c κs =
     let w = rw (c .before .before .before .before .next .given .1) at (g .ensures .0) in
     ((w .2, w .3, record { masks-size = omega arith; sorts-size = omega arith; heights-size = omega arith }), (w .5, λ k i j. (let u = w .6 k i j in omega arith)))
 
--- src/reader.rt:15:1
 read-member-same-length : (t : ℕ) → read-member-lts.Need-same-length (
   read-field-reads.Asked,
   read-field-reads.Learnt,
@@ -427,7 +395,6 @@ read-member-same-length : (t : ℕ) → read-member-lts.Need-same-length (
 ) (read-member-at t) read-member.Post
 read-member-same-length t c = search needs
 
--- src/reader.rt:15:1
 read-member-returns : (t : ℕ) → read-member-lts.Need-returns (
   read-field-reads.Asked,
   read-field-reads.Learnt,
@@ -447,7 +414,6 @@ read-member-returns t c =
       member-refused _ _ (a .at) (a .end) (a .depth) (a .n) (tables (now (a .table)) (now (a .masks)) (now (a .sorts)) (now (a .heights))) (tables (now (a .table)) (now (a .masks)) (now (a .sorts)) (now (a .heights))) _ (f .ensures .0) _ (c .before .e .given .1),
     )
 
--- src/reader.rt:15:1
 read-member-same-length-2 : (t : ℕ) → read-member-lts.Need-same-length-2 (
   read-field-reads.Asked,
   read-field-reads.Learnt,
@@ -462,7 +428,6 @@ read-member-same-length-2 : (t : ℕ) → read-member-lts.Need-same-length-2 (
 ) (read-member-at t) read-member.Post
 read-member-same-length-2 t c = search needs
 
--- src/reader.rt:15:1
 read-member-same-length-3 : (t : ℕ) → read-member-lts.Need-same-length-3 (
   read-field-reads.Asked,
   read-field-reads.Learnt,
@@ -477,7 +442,6 @@ read-member-same-length-3 : (t : ℕ) → read-member-lts.Need-same-length-3 (
 ) (read-member-at t) read-member.Post
 read-member-same-length-3 t c = search needs
 
--- src/reader.rt:15:1
 read-member-returns-2 : (t : ℕ) → read-member-lts.Need-returns-2 (
   read-field-reads.Asked,
   read-field-reads.Learnt,
@@ -500,7 +464,6 @@ read-member-returns-2 t c =
       member-leaf (now (a .tags)) (now (a .q)) (a .at) (a .end) (a .depth) (a .n) (now (a .table)) (c .before .before .put-record .last .0) (now (a .masks)) (now (a .sorts)) (now (a .heights)) _ _ (w .1) (omega (arith, p .ladders .heights-size)) put _ (f .ensures .0) (c .before .before .before .before .before .before .start .given .1),
     )
 
--- src/reader.rt:15:1
 read-member-same-length-4 : (t : ℕ) → read-member-lts.Need-same-length-4 (
   read-field-reads.Asked,
   read-field-reads.Learnt,
@@ -515,7 +478,6 @@ read-member-same-length-4 : (t : ℕ) → read-member-lts.Need-same-length-4 (
 ) (read-member-at t) read-member.Post
 read-member-same-length-4 t c = search needs
 
--- src/reader.rt:15:1
 read-member-same-length-5 : (t : ℕ) → read-member-lts.Need-same-length-5 (
   read-field-reads.Asked,
   read-field-reads.Learnt,
@@ -530,7 +492,6 @@ read-member-same-length-5 : (t : ℕ) → read-member-lts.Need-same-length-5 (
 ) (read-member-at t) read-member.Post
 read-member-same-length-5 t c = search needs
 
--- src/reader.rt:15:1
 read-member-same-length-6 : (t : ℕ) → read-member-lts.Need-same-length-6 (
   read-field-reads.Asked,
   read-field-reads.Learnt,
@@ -545,7 +506,6 @@ read-member-same-length-6 : (t : ℕ) → read-member-lts.Need-same-length-6 (
 ) (read-member-at t) read-member.Post
 read-member-same-length-6 t c = search needs
 
--- src/reader.rt:15:1
 read-member-same-length-7 : (t : ℕ) → read-member-lts.Need-same-length-7 (
   read-field-reads.Asked,
   read-field-reads.Learnt,
@@ -560,7 +520,6 @@ read-member-same-length-7 : (t : ℕ) → read-member-lts.Need-same-length-7 (
 ) (read-member-at t) read-member.Post
 read-member-same-length-7 t c = search needs
 
--- src/reader.rt:15:1
 read-member-returns-3 : (t : ℕ) → read-member-lts.Need-returns-3 (
   read-field-reads.Asked,
   read-field-reads.Learnt,
@@ -582,7 +541,6 @@ read-member-returns-3 t c =
       member-group-refused _ _ (a .at) (a .end) (a .depth) (a .n) (tables (now (a .table)) (now (a .masks)) (now (a .sorts)) (now (a .heights))) (tables (g .last .1 .1 .1 .1 .1 .1 .0) (g .last .1 .1 .1 .1 .1 .1 .1 .0) (g .last .1 .1 .1 .1 .1 .1 .1 .1 .0) (g .last .1 .1 .1 .1 .1 .1 .1 .1 .1 .0)) _ (f .ensures .0) _ _ _ (c .before .before .before .before .before .before .before .before .before .before .before .before .before .before .before .before .before .tag .given .1) (w .0) (w .1) (w .2) _ (rw (c .before .e2 .given .1) at (g .ensures .1)),
     )
 
--- src/reader.rt:15:1
 read-member-same-length-8 : (t : ℕ) → read-member-lts.Need-same-length-8 (
   read-field-reads.Asked,
   read-field-reads.Learnt,
@@ -597,7 +555,6 @@ read-member-same-length-8 : (t : ℕ) → read-member-lts.Need-same-length-8 (
 ) (read-member-at t) read-member.Post
 read-member-same-length-8 t c = search needs
 
--- src/reader.rt:15:1
 read-member-same-length-9 : (t : ℕ) → read-member-lts.Need-same-length-9 (
   read-field-reads.Asked,
   read-field-reads.Learnt,
@@ -612,7 +569,6 @@ read-member-same-length-9 : (t : ℕ) → read-member-lts.Need-same-length-9 (
 ) (read-member-at t) read-member.Post
 read-member-same-length-9 t c = search needs
 
--- src/reader.rt:15:1
 read-member-same-length-10 : (t : ℕ) → read-member-lts.Need-same-length-10 (
   read-field-reads.Asked,
   read-field-reads.Learnt,
@@ -627,7 +583,6 @@ read-member-same-length-10 : (t : ℕ) → read-member-lts.Need-same-length-10 (
 ) (read-member-at t) read-member.Post
 read-member-same-length-10 t c = search needs
 
--- src/reader.rt:15:1
 read-member-same-length-11 : (t : ℕ) → read-member-lts.Need-same-length-11 (
   read-field-reads.Asked,
   read-field-reads.Learnt,
@@ -642,7 +597,6 @@ read-member-same-length-11 : (t : ℕ) → read-member-lts.Need-same-length-11 (
 ) (read-member-at t) read-member.Post
 read-member-same-length-11 t c = search needs
 
--- src/reader.rt:15:1
 read-member-returns-4 : (t : ℕ) → read-member-lts.Need-returns-4 (
   read-field-reads.Asked,
   read-field-reads.Learnt,

@@ -8,8 +8,6 @@ use Rattle.predicate.specs.Meaning.{same}
 use Rattle.query.proofs.Repeats.{same-sizes, same-end, same-differ, same-more}
 use Rattle.query.proofs.repeated.same_bytes.Statement.{statement}
 use Rattle.query.proofs.repeated.same_bytes.Tie as tie
-use Rattle.query.proofs.repeated.same_bytes.Reads as reads
-use Rattle.query.proofs.repeated.same_bytes.Lts as lts
 
 abbrev Inv-loop : tie.InvT-loop
 Inv-loop a b i₀ i = (i ≤ length a) × (length a ≡ length b) × (same a b ≡ same (drop i a) (drop i b))
@@ -17,39 +15,30 @@ Inv-loop a b i₀ i = (i ≤ length a) × (length a ≡ length b) × (same a b �
 abbrev μ-loop : tie.MeasureT-loop
 μ-loop a b i₀ i = length a - i
 
--- src/repeated.rt:16:9
 returns : tie.Need-returns Inv-loop μ-loop
 returns c = sym (same-sizes _ _ (c .if1 .taken))
 
--- src/repeated.rt:19:5
 loop-holds : tie.Need-loop-holds Inv-loop μ-loop
 loop-holds c = (omega arith, c .if1 .left, refl)
 
--- src/repeated.rt:20:12
 shared-slice-read-if2 : tie.Need-shared-slice-read-if2 Inv-loop μ-loop
 shared-slice-read-if2 c = search needs
 
--- src/repeated.rt:20:20
 shared-slice-read-if2-2 : tie.Need-shared-slice-read-if2-2 Inv-loop μ-loop
 shared-slice-read-if2-2 c = search needs
 
--- src/repeated.rt:21:13
 returns-2 : tie.Need-returns-2 Inv-loop μ-loop
 returns-2 c = same-differ _ _ (c .before .before .before .before .loop .i) (c .before .before .before .before .loop .inv .2) (c .before .before .before .before .loop .inv .1) (omega arith) (c .if2 .taken)
 
--- src/repeated.rt:23:9
 add-i : tie.Need-add-i Inv-loop μ-loop
 add-i c = search needs
 
--- src/repeated.rt:19:5
 loop-less : tie.Need-loop-less Inv-loop μ-loop
 loop-less c = search needs
 
--- src/repeated.rt:19:5
 loop-again : tie.Need-loop-again Inv-loop μ-loop
 loop-again c = (omega arith, c .before .before .before .before .loop .inv .1, same-more _ _ (c .before .before .before .before .loop .i) (c .before .before .before .before .loop .inv .2) (c .before .before .before .before .loop .inv .1) (omega arith) (c .if2 .left))
 
--- src/repeated.rt:12:1
 returns-3 : tie.Need-returns-3 Inv-loop μ-loop
 returns-3 c = same-end _ _ (c .before .loop .i) (c .before .loop .inv .2) (c .before .loop .inv .1) (omega arith)
 

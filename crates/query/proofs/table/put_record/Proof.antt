@@ -5,62 +5,46 @@ use Rattle.query.proofs.Records.{put-stored}
 use borrow.Author.Needs.{needs}
 use Rattle.query.proofs.table.put_record.Statement.{statement}
 use Rattle.query.proofs.table.put_record.Tie as tie
-use Rattle.query.proofs.table.put_record.Reads as reads
-use Rattle.query.proofs.table.put_record.Lts as lts
 
--- src/table.rt:40:13
 mul-i : tie.Need-mul-i
 mul-i c = search needs
 
--- src/table.rt:41:5
 mul-table : tie.Need-mul-table
 mul-table c = search needs
 
--- src/table.rt:41:5
 slice-write-table : tie.Need-slice-write-table
 slice-write-table c = search needs
 
--- src/table.rt:42:11
 add-table : tie.Need-add-table
 add-table c = search needs
 
--- src/table.rt:42:5
 mul-table-2 : tie.Need-mul-table-2
 mul-table-2 c = search needs
 
--- src/table.rt:42:5
 slice-write-table-2 : tie.Need-slice-write-table-2
 slice-write-table-2 c = simp length-set (omega arith)
 
--- src/table.rt:43:11
 add-table-2 : tie.Need-add-table-2
 add-table-2 c = search needs
 
--- src/table.rt:43:5
 mul-table-3 : tie.Need-mul-table-3
 mul-table-3 c = search needs
 
--- src/table.rt:43:5
 slice-write-table-3 : tie.Need-slice-write-table-3
 slice-write-table-3 c = simp length-set (omega arith)
 
--- src/table.rt:44:11
 add-table-3 : tie.Need-add-table-3
 add-table-3 c = search needs
 
--- src/table.rt:44:5
 mul-table-4 : tie.Need-mul-table-4
 mul-table-4 c = search needs
 
--- src/table.rt:44:5
 slice-write-table-4 : tie.Need-slice-write-table-4
 slice-write-table-4 c = simp length-set (omega arith)
 
--- src/table.rt:36:1
 same-length : tie.Need-same-length
 same-length c = search needs
 
--- src/table.rt:36:1
 returns : tie.Need-returns
 returns c = put-stored _ _ _ (c .pre .1) (c .pre .0)
 

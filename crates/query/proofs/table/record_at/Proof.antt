@@ -4,58 +4,43 @@ use Rattle.query.specs.Table.{recordAt}
 use borrow.Author.Needs.{needs}
 use Rattle.query.proofs.table.record_at.Statement.{statement}
 use Rattle.query.proofs.table.record_at.Tie as tie
-use Rattle.query.proofs.table.record_at.Reads as reads
-use Rattle.query.proofs.table.record_at.Lts as lts
 
--- src/table.rt:27:13
 mul-i : tie.Need-mul-i
 mul-i c = search needs
 
--- src/table.rt:29:17
 mul-t4 : tie.Need-mul-t4
 mul-t4 c = search needs
 
--- src/table.rt:29:17
 shared-slice-read-t6 : tie.Need-shared-slice-read-t6
 shared-slice-read-t6 c = search needs
 
--- src/table.rt:30:21
 add-t7 : tie.Need-add-t7
 add-t7 c = search needs
 
--- src/table.rt:30:15
 mul-t8 : tie.Need-mul-t8
 mul-t8 c = search needs
 
--- src/table.rt:30:15
 shared-slice-read-t10 : tie.Need-shared-slice-read-t10
 shared-slice-read-t10 c = search needs
 
--- src/table.rt:31:22
 add-t11 : tie.Need-add-t11
 add-t11 c = search needs
 
--- src/table.rt:31:16
 mul-t12 : tie.Need-mul-t12
 mul-t12 c = search needs
 
--- src/table.rt:31:16
 shared-slice-read-t14 : tie.Need-shared-slice-read-t14
 shared-slice-read-t14 c = search needs
 
--- src/table.rt:32:21
 add-t15 : tie.Need-add-t15
 add-t15 c = search needs
 
--- src/table.rt:32:15
 mul-t16 : tie.Need-mul-t16
 mul-t16 c = search needs
 
--- src/table.rt:32:15
 shared-slice-read-t18 : tie.Need-shared-slice-read-t18
 shared-slice-read-t18 c = search needs
 
--- src/table.rt:23:1
 returns : tie.Need-returns
 unfolding recordAt
 returns c = refl

@@ -6,85 +6,64 @@ use Rattle.query.proofs.WholeQuery.{whole-refused, whole-left, whole-ac
 use borrow.Author.Needs.{needs}
 use Rattle.query.proofs.whole.read_query.Statement.{statement}
 use Rattle.query.proofs.whole.read_query.Tie as tie
-use Rattle.query.proofs.whole.read_query.Reads as reads
-use Rattle.query.proofs.whole.read_query.Lts as lts
-use Rattle.query.proofs.reader.read_member.Reads as read-member-reads
 
--- src/whole.rt:25:11
 read-member-requires : tie.Need-read-member-requires
 read-member-requires c κs = search needs
 
--- src/whole.rt:26:27
 enum-known-e : tie.Need-enum-known-e
 enum-known-e c = search needs
 
--- src/whole.rt:27:26
 enum-known-at : tie.Need-enum-known-at
 enum-known-at c = search needs
 
--- src/whole.rt:29:17
 same-length : tie.Need-same-length
 same-length c = search needs
 
--- src/whole.rt:29:17
 same-length-2 : tie.Need-same-length-2
 same-length-2 c = search needs
 
--- src/whole.rt:29:17
 same-length-3 : tie.Need-same-length-3
 same-length-3 c = search needs
 
--- src/whole.rt:29:17
 same-length-4 : tie.Need-same-length-4
 same-length-4 c = search needs
 
--- src/whole.rt:29:17
 returns : tie.Need-returns
 returns c =
     let a = c .before .before .before .before .before .before .before .before .before .before .before .before .before .before .before .before .before .before .before .before .before .before .before .args in
     let m = c .before .before .before .before .before .before .before .before .before .before .before .before .read-member in
     whole-left (now (a .tags)) (now (a .q)) (tables (now (a .table)) (now (a .masks)) (now (a .sorts)) (now (a .heights))) (tables (m .last .1 .1 .1 .1 .1 .1 .0) (m .last .1 .1 .1 .1 .1 .1 .1 .0) (m .last .1 .1 .1 .1 .1 .1 .1 .1 .0) (m .last .1 .1 .1 .1 .1 .1 .1 .1 .1 .0)) _ _ (rw (c .before .before .at .given .1) at (m .ensures .1)) (c .if1 .taken)
 
--- src/whole.rt:14:1
 same-length-5 : tie.Need-same-length-5
 same-length-5 c = search needs
 
--- src/whole.rt:14:1
 same-length-6 : tie.Need-same-length-6
 same-length-6 c = search needs
 
--- src/whole.rt:14:1
 same-length-7 : tie.Need-same-length-7
 same-length-7 c = search needs
 
--- src/whole.rt:14:1
 same-length-8 : tie.Need-same-length-8
 same-length-8 c = search needs
 
--- src/whole.rt:14:1
 returns-2 : tie.Need-returns-2
 returns-2 c =
     let a = c .before .before .before .before .before .before .before .before .before .before .before .before .before .before .before .before .before .before .before .before .before .before .args in
     let m = c .before .before .before .before .before .before .before .before .before .before .before .read-member in
     whole-refused (now (a .tags)) (now (a .q)) (tables (now (a .table)) (now (a .masks)) (now (a .sorts)) (now (a .heights))) (tables (m .last .1 .1 .1 .1 .1 .1 .0) (m .last .1 .1 .1 .1 .1 .1 .1 .0) (m .last .1 .1 .1 .1 .1 .1 .1 .1 .0) (m .last .1 .1 .1 .1 .1 .1 .1 .1 .1 .0)) _ (rw (c .before .e .given .1) at (m .ensures .1)) (rw (c .before .e .given .1) at (m .ensures .0))
 
--- src/whole.rt:14:1
 same-length-9 : tie.Need-same-length-9
 same-length-9 c = search needs
 
--- src/whole.rt:14:1
 same-length-10 : tie.Need-same-length-10
 same-length-10 c = search needs
 
--- src/whole.rt:14:1
 same-length-11 : tie.Need-same-length-11
 same-length-11 c = search needs
 
--- src/whole.rt:14:1
 same-length-12 : tie.Need-same-length-12
 same-length-12 c = search needs
 
--- src/whole.rt:14:1
 returns-3 : tie.Need-returns-3
 returns-3 c =
     let a = c .before .before .before .before .before .before .before .before .before .before .before .before .before .before .before .before .before .before .before .before .before .before .before .args in
