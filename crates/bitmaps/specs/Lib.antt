@@ -3,4 +3,5 @@ pub mod SumLaws
 pub mod Bitmap
 pub mod OnesLaws
 pub mod Table
-pub mod CopyLaws
+pub mod Bit
+pub mod BitLaws

@@ -12,9 +12,9 @@ use Rattle.bitmaps.specs.Sums.{sumOf, joined}
 use Rattle.bitmaps.specs.Bitmap.{onesIn}
 
 -- one byte more
-pub ones-step : (t : List ℕ) (i : ℕ) → i < length t → onesIn (drop i t) ≡ ones (getD t i 0) + onesIn (drop (i + 1) t)
+pub ones-next : (t : List ℕ) (i : ℕ) → i < length t → onesIn (drop i t) ≡ ones (getD t i 0) + onesIn (drop (i + 1) t)
 unfolding onesIn
-ones-step t i h = rw (add-one, drop-cons t i 0)
+ones-next t i h = rw (add-one, drop-cons t i 0)
 
 pub ones-end : (t : List ℕ) (i : ℕ) → length t ≤ i → onesIn (drop i t) ≡ 0
 unfolding onesIn

@@ -5,6 +5,15 @@ ghost use lib.ListN.{length};
 ghost use Rattle.bitmaps.specs.Bitmap.{putFront};
 ghost use Rattle.bitmaps.specs.Table.{lineSize, linesOf};
 
+// A line of a run's own tables, one bit for each row.
+pub struct Line;
+
+impl Line {
+    pub const SIZE: usize = 256;
+
+    pub const BITS: usize = 2048;
+}
+
 fn copy_part(from: &[u8], to: &mut [u8])
     requires { ⌜ length (now from) ≡ length (now to) ⌝ }
     ensures { λ _. ⌜ now (to .exit) ≡ now (from .entry) ⌝ }
@@ -28,7 +37,7 @@ pub fn copy_lines(from: &[u8], to: &mut [u8], n: usize, size: usize)
         let next = at + size;
         copy_part(&from[line..line + size], &mut to[at..next]);
         c += 1;
-        line += 256;
+        line += Line::SIZE;
         at = next;
     }
 }

@@ -4,13 +4,10 @@ use native.Mathlib.Omega.{arith}
 use mathlib.Core.Path.{_≡_}
 use lib.ListN.{length, drop}
 use Rattle.bitmaps.specs.Bitmap.{onesIn}
-use Rattle.bitmaps.specs.OnesLaws.{ones-step, ones-end}
+use Rattle.bitmaps.specs.OnesLaws.{ones-next, ones-end}
 use borrow.Author.Needs.{needs}
 use Rattle.bitmaps.proofs.ones.count_ones.Statement.{statement}
 use Rattle.bitmaps.proofs.ones.count_ones.Tie as tie
-use Rattle.bitmaps.proofs.ones.count_ones.Reads as reads
-use Rattle.bitmaps.proofs.ones.count_ones.Lts as lts
-use Rattle.bitmaps.proofs.ones.ones_of_byte.Reads as ones-of-byte-reads
 
 abbrev Inv-loop : tie.InvT-loop
 Inv-loop table sum₀ i₀ sum i = (i ≤ length table) × (sum ≤ 8 * i) × (sum + onesIn (drop i table) ≡ onesIn table)
@@ -18,35 +15,27 @@ Inv-loop table sum₀ i₀ sum i = (i ≤ length table) × (sum ≤ 8 * i) × (s
 abbrev μ-loop : tie.MeasureT-loop
 μ-loop table sum₀ i₀ sum i = length table - i
 
--- src/ones.rt:21:5
 loop-holds : tie.Need-loop-holds Inv-loop μ-loop
 loop-holds c = search needs
 
--- src/ones.rt:22:29
 shared-slice-read-ones-of-byte : tie.Need-shared-slice-read-ones-of-byte Inv-loop μ-loop
 shared-slice-read-ones-of-byte c = search needs
 
--- src/ones.rt:22:16
 ones-of-byte-requires : tie.Need-ones-of-byte-requires Inv-loop μ-loop
 ones-of-byte-requires c κs = search needs
 
--- src/ones.rt:22:9
 add-sum : tie.Need-add-sum Inv-loop μ-loop
 add-sum c = search needs
 
--- src/ones.rt:23:9
 add-i : tie.Need-add-i Inv-loop μ-loop
 add-i c = search needs
 
--- src/ones.rt:21:5
 loop-less : tie.Need-loop-less Inv-loop μ-loop
 loop-less c = search needs
 
--- src/ones.rt:21:5
 loop-again : tie.Need-loop-again Inv-loop μ-loop
-loop-again c = (search needs, search needs, omega (arith, ones-step (c .before .before .before .before .before .args .table .now) (c .before .before .before .loop .i) (omega arith)))
+loop-again c = (search needs, search needs, omega (arith, ones-next (c .before .before .before .before .before .args .table .now) (c .before .before .before .loop .i) (omega arith)))
 
--- src/ones.rt:15:1
 returns : tie.Need-returns Inv-loop μ-loop
 returns c = omega (arith, ones-end (c .before .before .before .args .table .now) (c .before .loop .i) (omega arith))
 

@@ -4,14 +4,10 @@ use mathlib.Core.Path.{refl}
 use lib.Count.{ones-le}
 use Rattle.bitmaps.proofs.ones.ones_of_byte.Statement.{statement}
 use Rattle.bitmaps.proofs.ones.ones_of_byte.Tie as tie
-use Rattle.bitmaps.proofs.ones.ones_of_byte.Reads as reads
-use Rattle.bitmaps.proofs.ones.ones_of_byte.Lts as lts
 
--- src/ones.rt:11:5
 cast-result : tie.Need-cast-result
 cast-result c = omega (arith, ones-le 8 (c .args .x) (c .fits .x .fits))
 
--- src/ones.rt:8:1
 returns : tie.Need-returns
 returns c = (refl, ones-le 8 (c .args .x) (c .fits .x .fits))
 
