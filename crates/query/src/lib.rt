@@ -1,3 +1,8 @@
 // Document 01's question: read, checked, numbered.
 pub mod format;
+pub mod ladder;
 pub mod member;
+pub mod reader;
+pub mod repeated;
+pub mod table;
+pub mod whole;

@@ -1,4 +1,15 @@
 // One field of a query.
+use crate::format::Group;
+use crate::format::Predicate;
+use crate::format::Refusal;
+use fields::header::Header;
+ghost use mathlib.Core.Path.{_≡_};
+ghost use Prim.Native.Nat.{_≤_};
+ghost use lib.ListN.{length};
+ghost use Rattle.fields.specs.Header.{headerAt};
+ghost use Rattle.query.specs.Decode.{groupField, predicateField, memberField};
+ghost use Rattle.query.specs.Table.{listed, Listed};
+ghost use Rattle.query.specs.Sound.{SoundField};
 
 // What stands where a member is expected, every check of it done but those of its own members; the payload is the
 // bytes from start up to end.
@@ -6,4 +17,74 @@ pub enum MemberField {
     Refused(u8),
     Leaf { start: usize, end: usize },
     Group { tag: u8, start: usize, end: usize },
+}
+
+fn group_field(depth: usize, tag: u8, start: usize, end: usize) -> MemberField
+    ensures { λ r. ⌜ r ≡ groupField depth tag start end ⌝ }
+{
+    if Group::DEPTH_LIMIT <= depth {
+        return MemberField::Refused(Refusal::TOO_DEEP);
+    }
+    if start == end {
+        return MemberField::Refused(Refusal::EMPTY_GROUP);
+    }
+    MemberField::Group { tag, start, end }
+}
+
+// The predicates before it are the first n of the table.
+fn predicate_field(
+    tags: &[u8],
+    q: &[u8],
+    start: usize,
+    end: usize,
+    n: usize,
+    table: &[usize],
+) -> MemberField
+    requires { ⌜ (start ≤ end) × (end ≤ length (now q)) × Listed (now q) (now table) n ⌝ }
+    ensures { λ r. ⌜ r ≡ predicateField (now (tags .entry)) (now (q .entry)) (listed (now (q .entry)) (now (table .entry)) n) start end ⌝ }
+{
+    if Predicate::LIMIT <= n {
+        return MemberField::Refused(Refusal::TOO_MANY_PREDICATES);
+    }
+    if !predicate::payload::payload_is_valid(tags, &q[start..end]) {
+        return MemberField::Refused(Refusal::INVALID_PAYLOAD);
+    }
+    if crate::repeated::is_repeated(&q[start..end], q, table, n) {
+        return MemberField::Refused(Refusal::REPEATED_PAYLOAD);
+    }
+    MemberField::Leaf { start, end }
+}
+
+// The member expected at a place inside an enclosing end, with depth groups around it.
+pub fn read_field(
+    tags: &[u8],
+    q: &[u8],
+    at: usize,
+    end: usize,
+    depth: usize,
+    n: usize,
+    table: &[usize],
+) -> MemberField
+    requires { ⌜ (at ≤ end) × (end ≤ length (now q)) × Listed (now q) (now table) n ⌝ }
+    ensures { λ r. ⌜ (r ≡ memberField (now (tags .entry)) (now (q .entry)) depth (listed (now (q .entry)) (now (table .entry)) n) (headerAt (now (q .entry)) at end)) × SoundField (now (tags .entry)) (now (q .entry)) at end depth n r ⌝ }
+{
+    match fields::header::read_header(q, at, end) {
+        Header::Cut => MemberField::Refused(Refusal::MEMBER_CUT),
+        Header::Field {
+            tag,
+            start,
+            end: stop,
+        } => {
+            if tag == Predicate::TAG {
+                return predicate_field(tags, q, start, stop, n, table);
+            }
+            if tag == Group::CONJUNCTION_TAG {
+                return group_field(depth, tag, start, stop);
+            }
+            if tag == Group::DISJUNCTION_TAG {
+                return group_field(depth, tag, start, stop);
+            }
+            MemberField::Refused(Refusal::UNKNOWN_TAG)
+        }
+    }
 }

@@ -3,3 +3,4 @@ pub mod SetLaws
 pub mod RunLaws
 pub mod Rungs
 pub mod RungLaws
+pub mod OrderSet

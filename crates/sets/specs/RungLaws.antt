@@ -51,11 +51,12 @@ pub climb-masks : (k : ℕ) (v : Bool) (gs : List Group) (x : ℕ) → x < 2 ^ k
 unfolding climb rungs
 climb-masks k v [] x h = ap asStep (sym (rungs-end v x))
 climb-masks k v (g ∷ gs) x h =
-    let m : ℕ = runSet (g .first) (g .count) in
-    let asks : settles (g .absorbing) v ≡ false → through (g .absorbing) v (g .first) (g .count) (start x) ≡ record { live = member x; settled = not (setsMeet x (runSet (g .first) (g .count))) }
+    let asks : settles (g .absorbing) v ≡ false
+    → through (g .absorbing) v (g .first) (g .count) (start x) ≡ record { live = member x; settled = not (setsMeet x (runSet (g .first) (g .count))) }
     = λ e. through-asks (g .absorbing) v (g .first) (g .count) (start x) refl (settles-no (g .absorbing) v e)
     ∙ ap (λ (b : Bool). record { live = member x; settled = not b }) (meets-run k x (g .first) (g .count) h) in
-    let go : (settles (g .absorbing) v ≡ true) ⊎ (settles (g .absorbing) v ≡ false) → (setsMeet x (runSet (g .first) (g .count)) ≡ true) ⊎ (setsMeet x (runSet (g .first) (g .count)) ≡ false)
+    let go : (settles (g .absorbing) v ≡ true) ⊎ (settles (g .absorbing) v ≡ false)
+    → (setsMeet x (runSet (g .first) (g .count)) ≡ true) ⊎ (setsMeet x (runSet (g .first) (g .count)) ≡ false)
     → climb v gs (through (g .absorbing) v (g .first) (g .count) (start x)) ≡ asStep (climbMasks v (rungOf g ∷ rungs gs) x)
     = elim [
       | inl e ↦ λ w.

@@ -1,7 +1,6 @@
 -- A set of numbers as one number: bit d tells whether d is in it.
-use Prim.Native.Nat.{ℕ, _+_, _-_, _/_, _%_, _^_, _<_}
-use mathlib.Core.Path.{_≡_}
-use mathlib.Core.Bool.{Bool, true, not}
+use Prim.Native.Nat.{ℕ, _+_, _-_, _/_, _%_, _^_}
+use mathlib.Core.Bool.{Bool, not}
 use lib.Dec.{eqb}
 use lib.Bits.{bitAnd, bitOr, bitXor}
 
@@ -31,7 +30,3 @@ setWithout x d = setMinus x (oneSet d)
 
 abbrev pub setWith : ℕ → ℕ → ℕ
 setWith x d = bitOr x (oneSet d)
-
--- a set that holds only numbers below `n`
-abbrev pub Within : ℕ → ℕ → Type 0
-Within n x = (d : ℕ) → member x d ≡ true → d < n

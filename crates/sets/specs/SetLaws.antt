@@ -1,18 +1,18 @@
 -- Membership in sets made by bit operations, and sets that have the same members.
 use Prim.Native.Nat.{ℕ, zero, suc, _-_, _*_, _/_, _%_, _^_, _≤_, _<_}
-use native.Mathlib.Nat.{mod-lt, pow-suc, zero-div}
+use native.Mathlib.Nat.{mod-lt, pow-suc, zero-div, div-eq-of-lt}
 use native.Mathlib.Numerals.{one-add}
 use native.Mathlib.Omega.{arith}
 use mathlib.Core.Path.{_≡_, refl, sym, ap, _∙_, fun-ext}
 use mathlib.Core.Bool.{Bool, true, false, _&&_, _||_, xor, true≢false, false≢true}
 use mathlib.Core.Logic.{_⊎_, inl, inr}
 use lib.Dec.{eqb, ltb, leb·suc-suc, eqb·suc-suc}
-use lib.Pow.{pow-pos, pow-mono, shr-shr}
-use lib.Bits.{bitAnd, bitOr, bitXor, and-shr, and-mod, or-shr, or-mod, xor-shr, xor-mod}
-use Rattle.strategy.specs.Bools.{which, clash, not-true, iff-eq, or-cases, eqb-self, eqb-eq, eqb-ne, ltb-yes, ltb-no, ltb-lt, ltb-le}
+use lib.Pow.{pow-pos, pow-mono, pow-lt, shr-shr}
+use lib.Bits.{bitAnd, bitOr, bitXor, and-shr, and-mod, or-lt, or-shr, or-mod, xor-shr, xor-mod}
+use Rattle.strategy.specs.Bools.{which, iff-eq, eqb-self, eqb-eq, eqb-ne, ltb-yes, ltb-no, ltb-lt, ltb-le}
 use Rattle.strategy.specs.Order.{allBelow, add}
 use Rattle.strategy.specs.OrderLaws.{allBelow-gives, allBelow-of}
-use Rattle.sets.specs.Set.{member, oneSet, belowSet, setWith, Within}
+use Rattle.sets.specs.Set.{member, oneSet, belowSet, setWith}
 
 -- one bit of each
 and-bits : (a b : ℕ) → a < 2 → b < 2 → eqb (bitAnd a b) 1 ≡ (eqb a 1 && eqb b 1)
@@ -65,6 +65,9 @@ member-half x d = ap (λ (z : ℕ). eqb (z % 2) 1) (ap (λ (k : ℕ). x / 2 ^ k)
 pub member-none : (d : ℕ) → member 0 d ≡ false
 unfolding member
 member-none d = ap (λ (z : ℕ). eqb (z % 2) 1) (zero-div (2 ^ d))
+
+pub empty-member : member 0 ≡ (λ d. false)
+empty-member = fun-ext member-none
 
 pub member-below : (n d : ℕ) → member (belowSet n) d ≡ ltb d n
 unfolding member
@@ -119,31 +122,29 @@ same-set (suc n) x y h k e =
 pub empty-set : (k x : ℕ) → x < 2 ^ k → ((d : ℕ) → member x d ≡ false) → x ≡ 0
 empty-set k x h z = same-set k x 0 h (pow-pos k) (λ d. z d ∙ sym (member-none d))
 
--- the set of an order's check: it holds only numbers below `n`, and at the end all of them exactly if it is `belowSet n`
-pub within-none : (n : ℕ) → Within n 0
-within-none n d e = clash e (member-none d)
+-- a set below `2 ^ n` holds only numbers below `n`
+member-high : (n x d : ℕ) → x < 2 ^ n → n ≤ d → member x d ≡ false
+unfolding member
+member-high n x d h l = ap (λ (z : ℕ). eqb (z % 2) 1) (div-eq-of-lt {n = x} {m = 2 ^ d} (omega (arith, pow-mono {i = n} {j = d} l)))
 
-pub within-with : (n x c : ℕ) → c < n → Within n x → Within n (setWith x c)
-within-with n x c l w d e = go (or-cases (member x d) (eqb d c) (sym (ap (λ (s : ℕ → Bool). s d) (member-with x c)) ∙ e))
-  where
-    go : (member x d ≡ true) ⊎ (eqb d c ≡ true) → d < n
-    go (inl y) = w d y
-    go (inr y) = let z : d ≡ c = eqb-eq d c y in omega arith
+pub with-lt : (n x c : ℕ) → x < 2 ^ n → c < n → setWith x c < 2 ^ n
+with-lt n x c h l = or-lt n x (oneSet c) h (pow-lt {i = c} {j = n} l)
 
-pub below-lt : (k n : ℕ) → n ≤ k → belowSet n < 2 ^ k
-below-lt k n l = omega (arith, pow-mono {i = n} {j = k} l, pow-pos n)
+below-lt : (n : ℕ) → belowSet n < 2 ^ n
+below-lt n = omega (arith, pow-pos n)
 
-pub all-seen : (k n x : ℕ) → n ≤ k → x < 2 ^ k → Within n x → eqb x (belowSet n) ≡ allBelow n (member x)
-all-seen k n x l h w = iff-eq (eqb x (belowSet n)) (allBelow n (member x)) to from
+-- and holds all of them exactly if it is `belowSet n`
+pub all-seen : (n x : ℕ) → x < 2 ^ n → eqb x (belowSet n) ≡ allBelow n (member x)
+all-seen n x h = iff-eq (eqb x (belowSet n)) (allBelow n (member x)) to from
   where
     to : eqb x (belowSet n) ≡ true → allBelow n (member x) ≡ true
     to e = allBelow-of n (member x) (λ d m. ap (λ (z : ℕ). member z d) (eqb-eq x (belowSet n) e) ∙ member-below n d ∙ ltb-yes d n m)
 
     same : allBelow n (member x) ≡ true → (d : ℕ) → (ltb d n ≡ true) ⊎ (ltb d n ≡ false) → member x d ≡ member (belowSet n) d
     same e d (inl y) = allBelow-gives n (member x) e d (ltb-lt d n y) ∙ sym (member-below n d ∙ y)
-    same e d (inr y) = not-true (member x d) (λ z. (let m : d < n = w d z in let j : n ≤ d = ltb-le d n y in omega arith)) ∙ sym (member-below n d ∙ y)
+    same e d (inr y) = member-high n x d h (ltb-le d n y) ∙ sym (member-below n d ∙ y)
 
     from : allBelow n (member x) ≡ true → eqb x (belowSet n) ≡ true
     from e =
-        let q : x ≡ belowSet n = same-set k x (belowSet n) h (below-lt k n l) (λ d. same e d (which (ltb d n))) in
+        let q : x ≡ belowSet n = same-set n x (belowSet n) h (below-lt n) (λ d. same e d (which (ltb d n))) in
         ap (λ (z : ℕ). eqb z (belowSet n)) q ∙ eqb-self (belowSet n)

@@ -1,6 +1,7 @@
-// A set of numbers below 64, held as the bits of a u64.
+// A set of numbers below 64, held as the bits of a u64, and the check of an order by such a set.
 ghost use mathlib.Core.Path.{_≡_};
 ghost use Prim.Native.Nat.{_-_, _≤_, _<_};
+ghost use Rattle.strategy.specs.Order.{isOrder};
 ghost use Rattle.sets.specs.Set.{member, oneSet, belowSet, runSet, setMinus, setsMeet, setWithout, setWith};
 
 // Is d in the set.
@@ -67,4 +68,25 @@ pub fn with(x: u64, d: u8) -> u64
     ensures { λ r. ⌜ r ≡ setWith x d ⌝ }
 {
     x | single(d)
+}
+
+// Is the order n bytes holding each number below n once.
+pub fn is_order(order: &[u8], n: u8) -> bool
+    requires { ⌜ n ≤ 64 ⌝ }
+    ensures { λ r. ⌜ r ≡ isOrder n (now (order .entry)) ⌝ }
+{
+    let mut seen: u64 = 0;
+    let mut i: usize = 0;
+    while i < order.len() {
+        let c = order[i];
+        if n <= c {
+            return false;
+        }
+        if has(seen, c) {
+            return false;
+        }
+        seen = with(seen, c);
+        i += 1;
+    }
+    seen == below(n)
 }

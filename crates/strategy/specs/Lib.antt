@@ -25,4 +25,6 @@ pub mod OrderCheck
 pub mod Walk
 pub mod Row
 pub mod RowLaws
+pub mod QueryLaws
+pub mod Parish
 pub mod Mistakes

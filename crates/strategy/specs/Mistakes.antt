@@ -13,6 +13,7 @@ use Rattle.strategy.specs.Alone.{Partial, hide, statusAs, alone}
 use Rattle.strategy.specs.Live.{Live, inRun, without, meets, probed, through}
 use Rattle.strategy.specs.Climb.{enclosing, climb}
 use Rattle.strategy.specs.Row.{walk}
+use Rattle.strategy.specs.Parish.{parish}
 
 abbrev two : Tree ℕ → Tree ℕ → Forest ℕ
 two s t = more s (more t none)
@@ -42,9 +43,6 @@ unfoldable mutual
   droppingIn (more t f) k m = join k (dropping t k m) (droppingIn f k m)
 
 -- Any of (all of (0, 1), 2), where 2 is no and the order leaves 0 and 1 out: dropping says yes, the value with them as no is no.
-abbrev parish : Tree ℕ
-parish = any (two (all (two (leaf 0) (leaf 1))) (leaf 2))
-
 pub dropped : (dropping parish true (hide (0 ∷ 1 ∷ []) allNo) ≡ true) × (answerOf (ours (eval parish) (2 ∷ [])) allNo (2 ∷ []) ≡ false)
 unfolding dropping hide elem ours recall runFrom turn after due decides someOutcomes xor update eval
 dropped = (refl, refl)

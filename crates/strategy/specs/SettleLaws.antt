@@ -57,7 +57,9 @@ module _ (f : Forest ℕ) (k : Bool) (i : ℕ) (n : Numbereds f i) (v : Bool) (m
   group-stopped st = rw (through-settles k v i (sizes f) s (st .member) (st .absorbs)) (record {
     off = λ d r. without-off i (sizes f) d (s .live) r ∙ off d r;
     holds = λ d r. without-in i (sizes f) d (s .live) r ∙ sym (not-true (isUnseen (m d) && aloneIn f k d m) (never d));
-    settled = λ _. each (λ w. evals f k (unseenAs w m) ≡ v) k (evals-toward f k k (unseenAs (not k) m) (unseenAs k m) (unseenAs-toward k m) (st .stops) ∙ sym (st .absorbs)) (st .stops ∙ sym (st .absorbs));
+    settled = λ _. each (λ w. evals f k (unseenAs w m) ≡ v) k
+        (evals-toward f k k (unseenAs (not k) m) (unseenAs k m) (unseenAs-toward k m) (st .stops) ∙ sym (st .absorbs))
+        (st .stops ∙ sym (st .absorbs));
     unsettled = λ e. clash refl e;
   })
     where
@@ -237,7 +239,8 @@ mutual
       }
   settle-after (group k f) i n c v m live u al h =
       let r = settleIn-after f k i n c v m live u al h in
-      let go : Going f k i v (see m c v) (settleIn f i c v live) ⊎ Stopped f k v (see m c v) (settleIn f i c v live) → TreeAfter (group k f) i v (see m c v) live (through k v i (sizes f) (settleIn f i c v live))
+      let go : Going f k i v (see m c v) (settleIn f i c v live) ⊎ Stopped f k v (see m c v) (settleIn f i c v live)
+      → TreeAfter (group k f) i v (see m c v) live (through k v i (sizes f) (settleIn f i c v live))
       = elim [
         | inl g ↦ group-going f k i n v (see m c v) live (settleIn f i c v live) (r .off) g
         | inr g ↦ group-stopped f k i n v (see m c v) live (settleIn f i c v live) (r .off) g

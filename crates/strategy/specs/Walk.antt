@@ -11,7 +11,6 @@ use Rattle.strategy.specs.AssignmentLaws.{among?}
 use Rattle.strategy.specs.Trace.{due, trace}
 use Rattle.strategy.specs.DueLaws.{due-passed}
 use Rattle.strategy.specs.Turns.{trace-settled}
-use Rattle.strategy.specs.Ours.{ReadsOnly}
 use Rattle.strategy.specs.Order.{Order}
 use Rattle.strategy.specs.Tree.{Tree, eval, size, Numbered, NonEmpty, InRun}
 use Rattle.strategy.specs.TreeLaws.{eval-toward, eval-run}
@@ -29,10 +28,6 @@ pub record Walk (t : Tree ℕ) (a : Assignment) (cs : List ℕ) (live : Live) : 
   pub unsettled : (v : Bool) → eval t (unseenAs v (hide cs a)) ≡ v
   pub once : Once cs
   pub inside : (d : ℕ) → Among d cs → d < size t
-
--- a tree's value hangs on the predicates of its order
-pub tree-reads : (t : Tree ℕ) → Numbered t 0 → (order : List ℕ) → Order (size t) order → ReadsOnly (eval t) order
-tree-reads t n order O q r g = eval-run t 0 n q r (λ d j. g d (O .every d (omega arith)))
 
 -- at the start all predicates are live
 pub walk-start : (t : Tree ℕ) → Numbered t 0 → NonEmpty t → (a : Assignment) (order : List ℕ) → Order (size t) order

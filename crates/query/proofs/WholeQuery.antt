@@ -1,0 +1,119 @@
+-- The whole query: the reader's answer and tables are handed on as `decodeTagged` says.
+use Prim.Native.Nat.{ℕ, zero, suc, _+_, _-_, _*_, _≤_, _<_}
+use native.Mathlib.Omega.{arith}
+use mathlib.Core.Path.{_≡_, refl, ap}
+use mathlib.Core.Bool.{Bool, true, false, _&&_}
+use mathlib.Core.Logic.{_⊎_, inl, inr}
+use mathlib.Core.List.{List, [], _∷_, _++_}
+use lib.ListN.{length, getD}
+use lib.Dec.{ltb, leb, eqb}
+use borrow.Author.Tests.{eq-eqb, ne-eqb, leb-true, ltb-true}
+use Rattle.fields.specs.Decoded.{either}
+use Rattle.strategy.specs.Bools.{same?}
+use Rattle.strategy.specs.Tree.{Tree}
+use Rattle.strategy.specs.Climb.{enclosing}
+use Rattle.predicate.specs.Meaning.{Predicate, plainKind, oppositeFrom}
+use Rattle.predicate.specs.Payload.{kindFits}
+use Rattle.predicate.proofs.Tests.{and-left}
+use Rattle.predicate.proofs.PayloadLaws.{valid-payload}
+use Rattle.query.specs.declared.reader.Progress.the-variants as progress
+use Rattle.query.specs.declared.whole.Reading.the-variants.{Refused, Accepted}
+use Rattle.query.specs.Format.{bytesAfterQuery}
+use Rattle.query.specs.Query.{Query}
+use Rattle.query.specs.Decode.{payloadOf, Read, stopped, read, member, wholeQuery, decodeTagged}
+use Rattle.query.specs.Table.{recordAt, predicateIn, listed, Placed}
+use Rattle.query.specs.Ladder.{Tables, Low}
+use Rattle.query.specs.Sound.{IsRefusal}
+use Rattle.query.specs.Reader.{Told, MemberRead}
+use Rattle.query.specs.Handed.{TablesSized, Recorded, Tabled, Handed}
+use Rattle.query.proofs.Records.{listed-at}
+use Rattle.query.proofs.Readings.{Fits, Each, SoundTree, member-sound}
+
+-- a valid payload's kind is at most 133
+kind-small : (tag kind : ℕ) → kindFits tag (plainKind kind) ≡ true → kind < 256
+unfolding kindFits plainKind
+kind-small tag kind h = opposite (ltb kind oppositeFrom) refl h
+  where
+    below : (x : Bool) (k t : ℕ) → leb k 1 ≡ x → either x (eqb t 78) (leb k 5 && eqb t 84) ≡ true → k ≤ 5
+    below true k t e g = let l = leb-true k 1 e in omega arith
+    below false k t e g = leb-true k 5 (and-left _ _ g)
+
+    opposite : (x : Bool) → ltb kind oppositeFrom ≡ x
+        → either (leb (either x kind (kind - 128)) 1) (eqb tag 78) (leb (either x kind (kind - 128)) 5 && eqb tag 84) ≡ true → kind < 256
+    opposite true e g = let l = ltb-true kind 128 e in omega arith
+    opposite false e g = let l = below (leb (kind - 128) 1) (kind - 128) tag refl g in omega arith
+
+each-last : (P : Predicate → Type 0) (ps : List Predicate) (p : Predicate) → Each P (ps ++ (p ∷ [])) → Each P ps × P p
+each-last P [] p h = (tt, h .0)
+each-last P (o ∷ ps) p h = let r = each-last P ps p (h .1) in ((h .0, r .0), r .1)
+
+-- what holds of each predicate listed holds at each number
+each-listed : (P : Predicate → Type 0) (q T : List ℕ) (n : ℕ) → Each P (listed q T n) → (c : ℕ) → c < n → P (predicateIn q (recordAt T c))
+unfolding listed
+each-listed P q T zero h c l = absurd (omega arith)
+each-listed P q T (suc n) h c l =
+    let s = each-last P (listed q T n) (predicateIn q (recordAt T n)) h in
+    let go : (c ≡ n) ⊎ (c ≡ n → ⊥) → P (predicateIn q (recordAt T c))
+    = elim [ inl e ↦ rw e (s .1) | inr e ↦ each-listed P q T n (s .0) c (omega arith) ] in
+    go (same? c n)
+
+recorded : (tags q T : List ℕ) (c : ℕ) → recordAt T c .place + recordAt T c .size ≤ length q → Fits tags q (predicateIn q (recordAt T c)) → Recorded tags q T c
+recorded tags q T c l f =
+    let v = valid-payload tags (payloadOf (predicateIn q (recordAt T c))) (f .valid) in
+    record { placed = l; valid = f .valid; column = v .column; kind = kind-small _ _ (v .kind) }
+
+module _ (tags q : List ℕ) (T T1 : Tables) where
+  told : (r : _) → MemberRead tags q 0 (length q) 0 0 r T T1 → Told q enclosing 0 (member (2 * length q + 1) tags q 0 (length q) 0 []) r T T1
+  unfolding listed
+  told r h = h (2 * length q + 1) (omega arith)
+
+  pub whole-refused : (e : ℕ) → MemberRead tags q 0 (length q) 0 0 (progress.Refused e) T T1 → IsRefusal e → Handed tags q (decodeTagged tags q) (Refused e) T1
+  unfolding decodeTagged
+  whole-refused e h i = go (member (2 * length q + 1) tags q 0 (length q) 0 []) (told (progress.Refused e) h)
+    where
+      go : (o : Read (Tree ℕ)) → Told q enclosing 0 o (progress.Refused e) T T1 → Handed tags q (wholeQuery q o) (Refused e) T1
+      go (stopped x) t = let z : e ≡ x = cc in (ap Refused z, rw z at i)
+      go (read t ps next) d = let z : _≡_ {A = ℕ} 0 1 = cc in absurd (omega arith)
+
+  pub whole-left : (p m : ℕ) → MemberRead tags q 0 (length q) 0 0 (progress.Next p m) T T1 → (p ≡ length q → ⊥) → Handed tags q (decodeTagged tags q) (Refused bytesAfterQuery) T1
+  unfolding decodeTagged
+  whole-left p m h n = go (member (2 * length q + 1) tags q 0 (length q) 0 []) (told (progress.Next p m) h)
+    where
+      go : (o : Read (Tree ℕ)) → Told q enclosing 0 o (progress.Next p m) T T1 → Handed tags q (wholeQuery q o) (Refused bytesAfterQuery) T1
+      go (stopped x) t = let z : _≡_ {A = ℕ} 0 1 = cc in absurd (omega arith)
+      go (read t ps next) d = let z : next ≡ p = cc in rw (z, ne-eqb _ _ n) (refl, (omega arith, omega arith))
+
+  pub whole-accepted : (p m : ℕ) → MemberRead tags q 0 (length q) 0 0 (progress.Next p m) T T1 → p ≡ length q → Placed q (T1 .records) m → Low m (T1 .heights) → TablesSized T1
+      → Handed tags q (decodeTagged tags q) (Accepted m) T1
+  unfolding decodeTagged listed
+  whole-accepted p m h e a b s =
+      go (member (2 * length q + 1) tags q 0 (length q) 0 []) (told (progress.Next p m) h) (member-sound (2 * length q + 1) tags q 0 (length q) 0 [])
+    where
+      go : (o : Read (Tree ℕ)) → Told q enclosing 0 o (progress.Next p m) T T1 → SoundTree tags q 0 (length q) 0 o → Handed tags q (wholeQuery q o) (Accepted m) T1
+      go (stopped x) t k = let z : _≡_ {A = ℕ} 0 1 = cc in absurd (omega arith)
+      go (read t ps next) d k =
+          let z : next ≡ p = cc in
+          let y : m ≡ length ps = (let w : m ≡ 0 + length ps = cc in omega arith) in
+          let l : listed q (T1 .records) (length ps) ≡ ps = (let w : 0 + length ps ≡ length ps = omega arith in rw w at (d .1)) in
+          let few = k .few (omega arith) in
+          rw (z, eq-eqb _ _ e) (
+            ap Accepted y,
+            record {
+              some = k .some;
+              few = omega arith;
+              count = refl;
+              leaves = k .counted;
+              numbered = k .numbered;
+              full = k .full;
+              shown = l;
+              each = λ c i. recorded tags q (T1 .records) c (a c (omega arith)) (each-listed (Fits tags q) q (T1 .records) (length ps) (rw l (k .each)) c i);
+              ladders = λ c i. d .2 .new c (omega arith, omega arith);
+              low = λ c i. b c (omega arith);
+              sized = s;
+            },
+          )
+
+-- predicate c of the query is the one that record c shows
+pub tabled-predicate : (tags q : List ℕ) (Q : Query) (n : ℕ) (T : Tables) → Tabled tags q Q n T → (c : ℕ) (other : Predicate) → c < n
+    → getD (Q .predicates) c other ≡ predicateIn q (recordAt (T .records) c)
+tabled-predicate tags q Q n T t c other l = rw (← (t .shown)) (listed-at q (T .records) n c other l)

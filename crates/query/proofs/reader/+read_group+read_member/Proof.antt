@@ -1,0 +1,690 @@
+-- The group reader and the member reader meet their contracts: the bytes left fall from call to call, and each path is a law of a reading.
+use borrow.Author.Needs.{needs}
+use native.Mathlib.Omega.{arith}
+use Prim.Native.Nat.{ℕ, _+_, _-_, _*_, _<_}
+use mathlib.Core.Path.{refl}
+use denote.Ref.{now}
+use Rattle.query.specs.Ladder.{tables}
+use Rattle.query.proofs.Progress.{InGroup, in-group-none, in-group-end, in-group-refused, in-group-more, member-refused, member-leaf, leaf-within, member-group-refused, member-group, group-within}
+use borrow.Fn.Kinds.{In}
+use borrow.Fn.PlainCycle.{Measures, is, falls, and}
+use Rattle.query.proofs.reader.read_group.Reads as read-group
+use Rattle.query.proofs.reader.read_group.Kinds as read-group-kinds
+use Rattle.query.proofs.reader.+read_group+read_member.Lts-read_group as read-group-lts
+use Rattle.query.proofs.reader.read_member.Reads as read-member
+use Rattle.query.proofs.reader.read_member.Kinds as read-member-kinds
+use Rattle.query.proofs.reader.+read_group+read_member.Lts-read_member as read-member-lts
+use Rattle.query.proofs.ladder.close_group.Reads as close-group-reads
+use Rattle.query.proofs.member.read_field.Reads as read-field-reads
+use Rattle.query.proofs.table.put_record.Reads as put-record-reads
+use Rattle.query.proofs.table.record_of.Reads as record-of-reads
+use Rattle.query.proofs.reader.+read_group+read_member.{statement}
+use Rattle.query.proofs.reader.+read_group+read_member.Tie.{close}
+
+abbrev μ-read-group : Measures 6 read-group-kinds.ps ℕ
+μ-read-group κs a = 2 * (a .1 .1 .1 .0 - a .1 .1 .0) + 1
+
+abbrev μ-read-member : Measures 6 read-member-kinds.ps ℕ
+μ-read-member κs a = 2 * (a .1 .1 .1 .0 - a .1 .1 .0)
+
+abbrev read-group-at : ℕ → In 6 read-group-kinds.ps
+read-group-at t =
+    and 6 read-group-kinds.ps (is 6 read-group-kinds.ps μ-read-group t) read-group.Pre
+
+abbrev read-group-below : ℕ → In 6 read-group-kinds.ps
+read-group-below t =
+    and 6 read-group-kinds.ps (falls 6 read-group-kinds.ps _<_ μ-read-group t) read-group.Pre
+
+abbrev read-member-at : ℕ → In 6 read-member-kinds.ps
+read-member-at t =
+    and 6 read-member-kinds.ps (is 6 read-member-kinds.ps μ-read-member t) read-member.Pre
+
+abbrev read-member-below : ℕ → In 6 read-member-kinds.ps
+read-member-below t =
+    and 6 read-member-kinds.ps (falls 6 read-member-kinds.ps _<_ μ-read-member t) read-member.Pre
+
+abbrev read-group-Inv-loop : read-group-lts.InvT-loop
+read-group-Inv-loop tags q at end depth n table₀ masks₀ sorts₀ heights₀ p₀ m₀ table masks sorts heights p m = InGroup tags q at end depth n p m (tables table₀ masks₀ sorts₀ heights₀) (tables table masks sorts heights)
+
+abbrev read-group-μ-loop : read-group-lts.MeasureT-loop
+read-group-μ-loop tags q at end depth n table₀ masks₀ sorts₀ heights₀ p₀ m₀ table masks sorts heights p m = end - p
+
+read-group-loop-holds : (t : ℕ) → read-group-lts.Need-loop-holds (
+  read-member-below t,
+  read-member.Post,
+) (read-group-at t) read-group.Post read-group-Inv-loop read-group-μ-loop
+read-group-loop-holds t c = in-group-none _ _ _ _ _ _ _ (c .before .before .before .before .before .before .pre .1)
+
+read-group-read-member-requires : (t : ℕ) → read-group-lts.Need-read-member-requires (
+  read-member-below t,
+  read-member.Post,
+) (read-group-at t) read-group.Post read-group-Inv-loop read-group-μ-loop
+read-group-read-member-requires t c κs = (omega (arith, c .before .before .before .before .before .loop .inv .past), c .before .before .before .before .before .loop .inv .room)
+
+read-group-enum-known-e : (t : ℕ) → read-group-lts.Need-enum-known-e (
+  read-member-below t,
+  read-member.Post,
+) (read-group-at t) read-group.Post read-group-Inv-loop read-group-μ-loop
+read-group-enum-known-e t c = search needs
+
+read-group-same-length : (t : ℕ) → read-group-lts.Need-same-length (
+  read-member-below t,
+  read-member.Post,
+) (read-group-at t) read-group.Post read-group-Inv-loop read-group-μ-loop
+read-group-same-length t c = search needs
+
+read-group-same-length-2 : (t : ℕ) → read-group-lts.Need-same-length-2 (
+  read-member-below t,
+  read-member.Post,
+) (read-group-at t) read-group.Post read-group-Inv-loop read-group-μ-loop
+read-group-same-length-2 t c = search needs
+
+read-group-same-length-3 : (t : ℕ) → read-group-lts.Need-same-length-3 (
+  read-member-below t,
+  read-member.Post,
+) (read-group-at t) read-group.Post read-group-Inv-loop read-group-μ-loop
+read-group-same-length-3 t c = search needs
+
+read-group-same-length-4 : (t : ℕ) → read-group-lts.Need-same-length-4 (
+  read-member-below t,
+  read-member.Post,
+) (read-group-at t) read-group.Post read-group-Inv-loop read-group-μ-loop
+read-group-same-length-4 t c = search needs
+
+read-group-returns :
+    (t : ℕ) →
+    read-group-lts.Need-returns
+    (read-member-below t, read-member.Post)
+    (read-group-at t)
+    read-group.Post
+    read-group-Inv-loop
+    read-group-μ-loop
+read-group-returns t c =
+    let a = c .before .before .before .before .before .before .before .before .before .before .before .before .before .before .before .before .before .before .before .before .before .before .before .before .args in
+    let l = c .before .before .before .before .before .before .before .before .before .before .before .before .before .before .before .before .before .loop in
+    let m = c .before .before .before .before .before .before .before .before .before .before .before .read-member in
+    (rw (c .before .e .given .1) at (m .ensures .0), in-group-refused _ _ _ (a .end) (a .depth) _ (l .p) (l .m) (tables (now (a .table)) (now (a .masks)) (now (a .sorts)) (now (a .heights))) (tables (l .table) (l .masks) (l .sorts) (l .heights)) (l .inv) (tables (m .last .1 .1 .1 .1 .1 .1 .0) (m .last .1 .1 .1 .1 .1 .1 .1 .0) (m .last .1 .1 .1 .1 .1 .1 .1 .1 .0) (m .last .1 .1 .1 .1 .1 .1 .1 .1 .1 .0)) (omega arith) _ (rw (c .before .e .given .1) at (m .ensures .1)))
+
+read-group-enum-known-next : (t : ℕ) → read-group-lts.Need-enum-known-next (
+  read-member-below t,
+  read-member.Post,
+) (read-group-at t) read-group.Post read-group-Inv-loop read-group-μ-loop
+read-group-enum-known-next t c = search needs
+
+read-group-loop-less : (t : ℕ) → read-group-lts.Need-loop-less (
+  read-member-below t,
+  read-member.Post,
+) (read-group-at t) read-group.Post read-group-Inv-loop read-group-μ-loop
+read-group-loop-less t c =
+    let w = rw (c .before .next .given .1) at (c .before .before .before .before .before .before .before .before .before .before .before .read-member .ensures .0) in
+    omega arith
+
+read-group-loop-again : (t : ℕ) → read-group-lts.Need-loop-again (
+  read-member-below t,
+  read-member.Post,
+) (read-group-at t) read-group.Post read-group-Inv-loop read-group-μ-loop
+read-group-loop-again t c =
+    let a = c .before .before .before .before .before .before .before .before .before .before .before .before .before .before .before .before .before .before .before .before .before .before .before .before .args in
+    let l = c .before .before .before .before .before .before .before .before .before .before .before .before .before .before .before .before .before .loop in
+    let m = c .before .before .before .before .before .before .before .before .before .before .before .read-member in
+    let k = m .kept in
+    let r = l .inv .room in
+    in-group-more _ _ _ (a .end) (a .depth) _ (l .p) (l .m) (tables (now (a .table)) (now (a .masks)) (now (a .sorts)) (now (a .heights))) (tables (l .table) (l .masks) (l .sorts) (l .heights)) (l .inv) (tables (m .last .1 .1 .1 .1 .1 .1 .0) (m .last .1 .1 .1 .1 .1 .1 .1 .0) (m .last .1 .1 .1 .1 .1 .1 .1 .1 .0) (m .last .1 .1 .1 .1 .1 .1 .1 .1 .1 .0)) (omega arith) _ _ (rw (c .before .next .given .1) at (m .ensures .0)) (rw (c .before .next .given .1) at (m .ensures .1)) (omega arith)
+    (record { masks-size = omega arith; sorts-size = omega arith; heights-size = omega arith })
+
+read-group-same-length-5 : (t : ℕ) → read-group-lts.Need-same-length-5 (
+  read-member-below t,
+  read-member.Post,
+) (read-group-at t) read-group.Post read-group-Inv-loop read-group-μ-loop
+read-group-same-length-5 t c = search needs
+
+read-group-same-length-6 : (t : ℕ) → read-group-lts.Need-same-length-6 (
+  read-member-below t,
+  read-member.Post,
+) (read-group-at t) read-group.Post read-group-Inv-loop read-group-μ-loop
+read-group-same-length-6 t c = search needs
+
+read-group-same-length-7 : (t : ℕ) → read-group-lts.Need-same-length-7 (
+  read-member-below t,
+  read-member.Post,
+) (read-group-at t) read-group.Post read-group-Inv-loop read-group-μ-loop
+read-group-same-length-7 t c = search needs
+
+read-group-same-length-8 : (t : ℕ) → read-group-lts.Need-same-length-8 (
+  read-member-below t,
+  read-member.Post,
+) (read-group-at t) read-group.Post read-group-Inv-loop read-group-μ-loop
+read-group-same-length-8 t c = search needs
+
+read-group-returns-2 : (t : ℕ) → read-group-lts.Need-returns-2 (
+  read-member-below t,
+  read-member.Post,
+) (read-group-at t) read-group.Post read-group-Inv-loop read-group-μ-loop
+read-group-returns-2 t c =
+    let a = c .before .before .before .before .before .before .before .before .args in
+    let l = c .before .loop in
+    in-group-end _ _ _ (a .end) (a .depth) _ (l .p) (l .m) (tables (now (a .table)) (now (a .masks)) (now (a .sorts)) (now (a .heights))) (tables (l .table) (l .masks) (l .sorts) (l .heights)) (l .inv) (omega arith)
+
+read-member-read-field-requires : (t : ℕ) → read-member-lts.Need-read-field-requires (
+  read-field-reads.Asked,
+  read-field-reads.Learnt,
+  record-of-reads.Asked,
+  record-of-reads.Learnt,
+  put-record-reads.Asked,
+  put-record-reads.Learnt,
+  read-group-below t,
+  read-group.Post,
+  close-group-reads.Asked,
+  close-group-reads.Learnt,
+) (read-member-at t) read-member.Post
+read-member-read-field-requires t c κs = (c .before .before .before .before .before .before .before .pre .1 .order, c .before .before .before .before .before .before .before .pre .1 .inside, c .before .before .before .before .before .before .before .pre .1 .listed)
+
+read-member-enum-known-e : (t : ℕ) → read-member-lts.Need-enum-known-e (
+  read-field-reads.Asked,
+  read-field-reads.Learnt,
+  record-of-reads.Asked,
+  record-of-reads.Learnt,
+  put-record-reads.Asked,
+  put-record-reads.Learnt,
+  read-group-below t,
+  read-group.Post,
+  close-group-reads.Asked,
+  close-group-reads.Learnt,
+) (read-member-at t) read-member.Post
+read-member-enum-known-e t c = search needs
+
+read-member-enum-known-start : (t : ℕ) → read-member-lts.Need-enum-known-start (
+  read-field-reads.Asked,
+  read-field-reads.Learnt,
+  record-of-reads.Asked,
+  record-of-reads.Learnt,
+  put-record-reads.Asked,
+  put-record-reads.Learnt,
+  read-group-below t,
+  read-group.Post,
+  close-group-reads.Asked,
+  close-group-reads.Learnt,
+) (read-member-at t) read-member.Post
+read-member-enum-known-start t c = search needs
+
+read-member-record-of-requires : (t : ℕ) → read-member-lts.Need-record-of-requires (
+  read-field-reads.Asked,
+  read-field-reads.Learnt,
+  record-of-reads.Asked,
+  record-of-reads.Learnt,
+  put-record-reads.Asked,
+  put-record-reads.Learnt,
+  read-group-below t,
+  read-group.Post,
+  close-group-reads.Asked,
+  close-group-reads.Learnt,
+) (read-member-at t) read-member.Post
+read-member-record-of-requires t c κs =
+    let w = rw (c .before .start .given .1) at (c .before .before .before .read-field .ensures .1) in
+    (w .1, omega (arith, c .before .before .before .before .before .before .before .before .before .before .before .pre .1 .inside))
+
+read-member-put-record-requires : (t : ℕ) → read-member-lts.Need-put-record-requires (
+  read-field-reads.Asked,
+  read-field-reads.Learnt,
+  record-of-reads.Asked,
+  record-of-reads.Learnt,
+  put-record-reads.Asked,
+  put-record-reads.Learnt,
+  read-group-below t,
+  read-group.Post,
+  close-group-reads.Asked,
+  close-group-reads.Learnt,
+) (read-member-at t) read-member.Post
+read-member-put-record-requires t c κs =
+    let w = rw (c .before .before .before .start .given .1) at (c .before .before .before .before .before .read-field .ensures .1) in
+    (w .3, c .before .before .before .before .before .before .before .before .before .before .before .before .before .pre .1 .listed .sized)
+
+read-member-mul-heights : (t : ℕ) → read-member-lts.Need-mul-heights (
+  read-field-reads.Asked,
+  read-field-reads.Learnt,
+  record-of-reads.Asked,
+  record-of-reads.Learnt,
+  put-record-reads.Asked,
+  put-record-reads.Learnt,
+  read-group-below t,
+  read-group.Post,
+  close-group-reads.Asked,
+  close-group-reads.Learnt,
+) (read-member-at t) read-member.Post
+read-member-mul-heights t c =
+    let w = rw (c .before .before .before .before .before .before .start .given .1) at (c .before .before .before .before .before .before .before .before .read-field .ensures .1) in
+    omega (arith, c .before .before .before .before .before .before .before .before .before .before .before .before .before .before .before .before .pre .1 .ladders .heights-size)
+
+read-member-slice-write-heights : (t : ℕ) → read-member-lts.Need-slice-write-heights (
+  read-field-reads.Asked,
+  read-field-reads.Learnt,
+  record-of-reads.Asked,
+  record-of-reads.Learnt,
+  put-record-reads.Asked,
+  put-record-reads.Learnt,
+  read-group-below t,
+  read-group.Post,
+  close-group-reads.Asked,
+  close-group-reads.Learnt,
+) (read-member-at t) read-member.Post
+read-member-slice-write-heights t c =
+    let w = rw (c .before .before .before .before .before .before .start .given .1) at (c .before .before .before .before .before .before .before .before .read-field .ensures .1) in
+    omega (arith, c .before .before .before .before .before .before .before .before .before .before .before .before .before .before .before .before .pre .1 .ladders .heights-size)
+
+read-member-add-t28 : (t : ℕ) → read-member-lts.Need-add-t28 (
+  read-field-reads.Asked,
+  read-field-reads.Learnt,
+  record-of-reads.Asked,
+  record-of-reads.Learnt,
+  put-record-reads.Asked,
+  put-record-reads.Learnt,
+  read-group-below t,
+  read-group.Post,
+  close-group-reads.Asked,
+  close-group-reads.Learnt,
+) (read-member-at t) read-member.Post
+read-member-add-t28 t c =
+    let w = rw (c .before .before .before .before .before .before .start .given .1) at (c .before .before .before .before .before .before .before .before .read-field .ensures .1) in
+    omega (arith, c .before .before .before .before .before .before .before .before .before .before .before .before .before .before .before .before .pre .1 .ladders .heights-size)
+
+read-member-enum-known-tag : (t : ℕ) → read-member-lts.Need-enum-known-tag (
+  read-field-reads.Asked,
+  read-field-reads.Learnt,
+  record-of-reads.Asked,
+  record-of-reads.Learnt,
+  put-record-reads.Asked,
+  put-record-reads.Learnt,
+  read-group-below t,
+  read-group.Post,
+  close-group-reads.Asked,
+  close-group-reads.Learnt,
+) (read-member-at t) read-member.Post
+read-member-enum-known-tag t c = search needs
+
+read-member-add-read-group : (t : ℕ) → read-member-lts.Need-add-read-group (
+  read-field-reads.Asked,
+  read-field-reads.Learnt,
+  record-of-reads.Asked,
+  record-of-reads.Learnt,
+  put-record-reads.Asked,
+  put-record-reads.Learnt,
+  read-group-below t,
+  read-group.Post,
+  close-group-reads.Asked,
+  close-group-reads.Learnt,
+) (read-member-at t) read-member.Post
+read-member-add-read-group t c =
+    let w = rw (c .before .tag .given .1) at (c .before .before .before .read-field .ensures .1) in
+    omega arith
+
+read-member-read-group-requires : (t : ℕ) → read-member-lts.Need-read-group-requires (
+  read-field-reads.Asked,
+  read-field-reads.Learnt,
+  record-of-reads.Asked,
+  record-of-reads.Learnt,
+  put-record-reads.Asked,
+  put-record-reads.Learnt,
+  read-group-below t,
+  read-group.Post,
+  close-group-reads.Asked,
+  close-group-reads.Learnt,
+) (read-member-at t) read-member.Post
+read-member-read-group-requires t c κs =
+    let w = rw (c .before .before .before .before .before .tag .given .1) at (c .before .before .before .before .before .before .before .read-field .ensures .1) in
+    let p = c .before .before .before .before .before .before .before .before .before .before .before .before .before .before .before .pre .1 in
+    (omega arith, record { order = omega arith; inside = omega (arith, p .inside); deep = omega arith; listed = p .listed; ladders = p .ladders; low = p .low })
+
+read-member-enum-known-e-2 : (t : ℕ) → read-member-lts.Need-enum-known-e-2 (
+  read-field-reads.Asked,
+  read-field-reads.Learnt,
+  record-of-reads.Asked,
+  record-of-reads.Learnt,
+  put-record-reads.Asked,
+  put-record-reads.Learnt,
+  read-group-below t,
+  read-group.Post,
+  close-group-reads.Asked,
+  close-group-reads.Learnt,
+) (read-member-at t) read-member.Post
+read-member-enum-known-e-2 t c = search needs
+
+read-member-enum-known-next : (t : ℕ) → read-member-lts.Need-enum-known-next (
+  read-field-reads.Asked,
+  read-field-reads.Learnt,
+  record-of-reads.Asked,
+  record-of-reads.Learnt,
+  put-record-reads.Asked,
+  put-record-reads.Learnt,
+  read-group-below t,
+  read-group.Post,
+  close-group-reads.Asked,
+  close-group-reads.Learnt,
+) (read-member-at t) read-member.Post
+read-member-enum-known-next t c = search needs
+
+read-member-close-group-requires : (t : ℕ) → read-member-lts.Need-close-group-requires (
+  read-field-reads.Asked,
+  read-field-reads.Learnt,
+  record-of-reads.Asked,
+  record-of-reads.Learnt,
+  put-record-reads.Asked,
+  put-record-reads.Learnt,
+  read-group-below t,
+  read-group.Post,
+  close-group-reads.Asked,
+  close-group-reads.Learnt,
+) (read-member-at t) read-member.Post
+read-member-close-group-requires t c κs =
+    let g = c .before .before .before .before .before .before .before .before .before .before .before .before .before .before .read-group in
+    let k = g .kept in
+    let p = c .before .before .before .before .before .before .before .before .before .before .before .before .before .before .before .before .before .before .before .before .before .before .before .before .before .before .before .before .before .before .pre .1 .ladders in
+    let w = rw (c .before .before .before .before .next .given .1) at (g .ensures .0) in
+    ((w .2, w .3, record { masks-size = omega arith; sorts-size = omega arith; heights-size = omega arith }), (w .5, λ k i j. (let u = w .6 k i j in omega arith)))
+
+read-member-same-length : (t : ℕ) → read-member-lts.Need-same-length (
+  read-field-reads.Asked,
+  read-field-reads.Learnt,
+  record-of-reads.Asked,
+  record-of-reads.Learnt,
+  put-record-reads.Asked,
+  put-record-reads.Learnt,
+  read-group-below t,
+  read-group.Post,
+  close-group-reads.Asked,
+  close-group-reads.Learnt,
+) (read-member-at t) read-member.Post
+read-member-same-length t c = search needs
+
+read-member-returns : (t : ℕ) → read-member-lts.Need-returns (
+  read-field-reads.Asked,
+  read-field-reads.Learnt,
+  record-of-reads.Asked,
+  record-of-reads.Learnt,
+  put-record-reads.Asked,
+  put-record-reads.Learnt,
+  read-group-below t,
+  read-group.Post,
+  close-group-reads.Asked,
+  close-group-reads.Learnt,
+) (read-member-at t) read-member.Post
+read-member-returns t c =
+    let a = c .before .before .before .before .before .before .before .before .before .before .before .args in
+    let f = c .before .before .before .read-field in (
+      rw (c .before .e .given .1) at (f .ensures .1),
+      member-refused _ _ (a .at) (a .end) (a .depth) (a .n) (tables (now (a .table)) (now (a .masks)) (now (a .sorts)) (now (a .heights))) (tables (now (a .table)) (now (a .masks)) (now (a .sorts)) (now (a .heights))) _ (f .ensures .0) _ (c .before .e .given .1),
+    )
+
+read-member-same-length-2 : (t : ℕ) → read-member-lts.Need-same-length-2 (
+  read-field-reads.Asked,
+  read-field-reads.Learnt,
+  record-of-reads.Asked,
+  record-of-reads.Learnt,
+  put-record-reads.Asked,
+  put-record-reads.Learnt,
+  read-group-below t,
+  read-group.Post,
+  close-group-reads.Asked,
+  close-group-reads.Learnt,
+) (read-member-at t) read-member.Post
+read-member-same-length-2 t c = search needs
+
+read-member-same-length-3 : (t : ℕ) → read-member-lts.Need-same-length-3 (
+  read-field-reads.Asked,
+  read-field-reads.Learnt,
+  record-of-reads.Asked,
+  record-of-reads.Learnt,
+  put-record-reads.Asked,
+  put-record-reads.Learnt,
+  read-group-below t,
+  read-group.Post,
+  close-group-reads.Asked,
+  close-group-reads.Learnt,
+) (read-member-at t) read-member.Post
+read-member-same-length-3 t c = search needs
+
+read-member-returns-2 : (t : ℕ) → read-member-lts.Need-returns-2 (
+  read-field-reads.Asked,
+  read-field-reads.Learnt,
+  record-of-reads.Asked,
+  record-of-reads.Learnt,
+  put-record-reads.Asked,
+  put-record-reads.Learnt,
+  read-group-below t,
+  read-group.Post,
+  close-group-reads.Asked,
+  close-group-reads.Learnt,
+) (read-member-at t) read-member.Post
+read-member-returns-2 t c =
+    let a = c .before .before .before .before .before .before .before .before .before .before .before .before .before .before .before .before .args in
+    let f = c .before .before .before .before .before .before .before .before .read-field in
+    let p = c .before .before .before .before .before .before .before .before .before .before .before .before .before .before .before .before .pre .1 in
+    let w = rw (c .before .before .before .before .before .before .start .given .1) at (f .ensures .1) in
+    let put = rw (c .before .before .before .before .record-of .ensures) at (c .before .before .put-record .ensures) in (
+      leaf-within (now (a .tags)) (now (a .q)) (a .at) (a .end) (a .depth) (a .n) (now (a .table)) (c .before .before .put-record .last .0) (now (a .masks)) (now (a .sorts)) (now (a .heights)) _ _ (w .1) (omega (arith, p .ladders .heights-size)) put (w .0) (w .2) (p .inside) (w .3) (p .deep) (p .listed .placed) (p .low),
+      member-leaf (now (a .tags)) (now (a .q)) (a .at) (a .end) (a .depth) (a .n) (now (a .table)) (c .before .before .put-record .last .0) (now (a .masks)) (now (a .sorts)) (now (a .heights)) _ _ (w .1) (omega (arith, p .ladders .heights-size)) put _ (f .ensures .0) (c .before .before .before .before .before .before .start .given .1),
+    )
+
+read-member-same-length-4 : (t : ℕ) → read-member-lts.Need-same-length-4 (
+  read-field-reads.Asked,
+  read-field-reads.Learnt,
+  record-of-reads.Asked,
+  record-of-reads.Learnt,
+  put-record-reads.Asked,
+  put-record-reads.Learnt,
+  read-group-below t,
+  read-group.Post,
+  close-group-reads.Asked,
+  close-group-reads.Learnt,
+) (read-member-at t) read-member.Post
+read-member-same-length-4 t c = search needs
+
+read-member-same-length-5 : (t : ℕ) → read-member-lts.Need-same-length-5 (
+  read-field-reads.Asked,
+  read-field-reads.Learnt,
+  record-of-reads.Asked,
+  record-of-reads.Learnt,
+  put-record-reads.Asked,
+  put-record-reads.Learnt,
+  read-group-below t,
+  read-group.Post,
+  close-group-reads.Asked,
+  close-group-reads.Learnt,
+) (read-member-at t) read-member.Post
+read-member-same-length-5 t c = search needs
+
+read-member-same-length-6 : (t : ℕ) → read-member-lts.Need-same-length-6 (
+  read-field-reads.Asked,
+  read-field-reads.Learnt,
+  record-of-reads.Asked,
+  record-of-reads.Learnt,
+  put-record-reads.Asked,
+  put-record-reads.Learnt,
+  read-group-below t,
+  read-group.Post,
+  close-group-reads.Asked,
+  close-group-reads.Learnt,
+) (read-member-at t) read-member.Post
+read-member-same-length-6 t c = search needs
+
+read-member-same-length-7 : (t : ℕ) → read-member-lts.Need-same-length-7 (
+  read-field-reads.Asked,
+  read-field-reads.Learnt,
+  record-of-reads.Asked,
+  record-of-reads.Learnt,
+  put-record-reads.Asked,
+  put-record-reads.Learnt,
+  read-group-below t,
+  read-group.Post,
+  close-group-reads.Asked,
+  close-group-reads.Learnt,
+) (read-member-at t) read-member.Post
+read-member-same-length-7 t c = search needs
+
+read-member-returns-3 : (t : ℕ) → read-member-lts.Need-returns-3 (
+  read-field-reads.Asked,
+  read-field-reads.Learnt,
+  record-of-reads.Asked,
+  record-of-reads.Learnt,
+  put-record-reads.Asked,
+  put-record-reads.Learnt,
+  read-group-below t,
+  read-group.Post,
+  close-group-reads.Asked,
+  close-group-reads.Learnt,
+) (read-member-at t) read-member.Post
+read-member-returns-3 t c =
+    let a = c .before .before .before .before .before .before .before .before .before .before .before .before .before .before .before .before .before .before .before .before .before .before .before .before .before .before .before .args in
+    let f = c .before .before .before .before .before .before .before .before .before .before .before .before .before .before .before .before .before .before .before .read-field in
+    let g = c .before .before .before .before .before .before .before .before .before .before .before .read-group in
+    let w = rw (c .before .before .before .before .before .before .before .before .before .before .before .before .before .before .before .before .before .tag .given .1) at (f .ensures .1) in (
+      rw (c .before .e2 .given .1) at (g .ensures .0),
+      member-group-refused _ _ (a .at) (a .end) (a .depth) (a .n) (tables (now (a .table)) (now (a .masks)) (now (a .sorts)) (now (a .heights))) (tables (g .last .1 .1 .1 .1 .1 .1 .0) (g .last .1 .1 .1 .1 .1 .1 .1 .0) (g .last .1 .1 .1 .1 .1 .1 .1 .1 .0) (g .last .1 .1 .1 .1 .1 .1 .1 .1 .1 .0)) _ (f .ensures .0) _ _ _ (c .before .before .before .before .before .before .before .before .before .before .before .before .before .before .before .before .before .tag .given .1) (w .0) (w .1) (w .2) _ (rw (c .before .e2 .given .1) at (g .ensures .1)),
+    )
+
+read-member-same-length-8 : (t : ℕ) → read-member-lts.Need-same-length-8 (
+  read-field-reads.Asked,
+  read-field-reads.Learnt,
+  record-of-reads.Asked,
+  record-of-reads.Learnt,
+  put-record-reads.Asked,
+  put-record-reads.Learnt,
+  read-group-below t,
+  read-group.Post,
+  close-group-reads.Asked,
+  close-group-reads.Learnt,
+) (read-member-at t) read-member.Post
+read-member-same-length-8 t c = search needs
+
+read-member-same-length-9 : (t : ℕ) → read-member-lts.Need-same-length-9 (
+  read-field-reads.Asked,
+  read-field-reads.Learnt,
+  record-of-reads.Asked,
+  record-of-reads.Learnt,
+  put-record-reads.Asked,
+  put-record-reads.Learnt,
+  read-group-below t,
+  read-group.Post,
+  close-group-reads.Asked,
+  close-group-reads.Learnt,
+) (read-member-at t) read-member.Post
+read-member-same-length-9 t c = search needs
+
+read-member-same-length-10 : (t : ℕ) → read-member-lts.Need-same-length-10 (
+  read-field-reads.Asked,
+  read-field-reads.Learnt,
+  record-of-reads.Asked,
+  record-of-reads.Learnt,
+  put-record-reads.Asked,
+  put-record-reads.Learnt,
+  read-group-below t,
+  read-group.Post,
+  close-group-reads.Asked,
+  close-group-reads.Learnt,
+) (read-member-at t) read-member.Post
+read-member-same-length-10 t c = search needs
+
+read-member-same-length-11 : (t : ℕ) → read-member-lts.Need-same-length-11 (
+  read-field-reads.Asked,
+  read-field-reads.Learnt,
+  record-of-reads.Asked,
+  record-of-reads.Learnt,
+  put-record-reads.Asked,
+  put-record-reads.Learnt,
+  read-group-below t,
+  read-group.Post,
+  close-group-reads.Asked,
+  close-group-reads.Learnt,
+) (read-member-at t) read-member.Post
+read-member-same-length-11 t c = search needs
+
+read-member-returns-4 : (t : ℕ) → read-member-lts.Need-returns-4 (
+  read-field-reads.Asked,
+  read-field-reads.Learnt,
+  record-of-reads.Asked,
+  record-of-reads.Learnt,
+  put-record-reads.Asked,
+  put-record-reads.Learnt,
+  read-group-below t,
+  read-group.Post,
+  close-group-reads.Asked,
+  close-group-reads.Learnt,
+) (read-member-at t) read-member.Post
+read-member-returns-4 t c =
+    let a = c .before .before .before .before .before .before .before .before .before .before .before .before .before .before .before .before .before .before .before .before .before .before .before .before .before .before .before .before .before .before .before .before .before .before .before .before .before .args in
+    let f = c .before .before .before .before .before .before .before .before .before .before .before .before .before .before .before .before .before .before .before .before .before .before .before .before .before .before .before .before .before .read-field in
+    let v = c .before .before .before .before .before .before .before .before .before .before .before .before .before .before .before .before .before .before .before .before .before .before .before .before .before .before .before .tag .given in
+    let g = c .before .before .before .before .before .before .before .before .before .before .before .before .before .before .before .before .before .before .before .before .before .read-group in
+    let k = c .before .before .before .before .before .before .close-group in
+    let w = rw (v .1) at (f .ensures .1) in (
+      group-within (now (a .q)) (a .at) (a .end) (a .depth) (a .n) _ _ _ _ (v .0 .0) (tables (now (a .table)) (now (a .masks)) (now (a .sorts)) (now (a .heights))) (g .last .1 .1 .1 .1 .1 .1 .0) (g .last .1 .1 .1 .1 .1 .1 .1 .0) (g .last .1 .1 .1 .1 .1 .1 .1 .1 .0) (g .last .1 .1 .1 .1 .1 .1 .1 .1 .1 .0) (k .last .0) (k .last .1 .0) (k .last .1 .1 .0) (w .0) (w .2) (rw (c .before .before .before .before .before .before .before .before .before .before .before .next .given .1) at (g .ensures .0)) (k .ensures),
+      member-group _ _ (a .at) (a .end) (a .depth) (a .n) (tables (now (a .table)) (now (a .masks)) (now (a .sorts)) (now (a .heights))) (tables (g .last .1 .1 .1 .1 .1 .1 .0) (g .last .1 .1 .1 .1 .1 .1 .1 .0) (g .last .1 .1 .1 .1 .1 .1 .1 .1 .0) (g .last .1 .1 .1 .1 .1 .1 .1 .1 .1 .0)) _ (f .ensures .0) _ _ _ (v .1) (w .0) (w .1) (w .2) _ _ (tables (g .last .1 .1 .1 .1 .1 .1 .0) (k .last .0) (k .last .1 .0) (k .last .1 .1 .0)) (rw (c .before .before .before .before .before .before .before .before .before .before .before .next .given .1) at (g .ensures .1)) refl (k .ensures (g .last .1 .1 .1 .1 .1 .1 .0)),
+    )
+
+pub +read-group+read-member-spec : {M : Type 1} → statement M
++read-group+read-member-spec = close μ-read-group μ-read-member (λ t. read-group-lts.spec (
+  read-member-below t,
+  read-member.Post,
+)
+    (read-group-at t)
+    read-group.Post
+    read-group-Inv-loop
+    read-group-μ-loop
+    (read-group-loop-holds t)
+    (read-group-read-member-requires t)
+    (read-group-enum-known-e t)
+    (read-group-same-length t)
+    (read-group-same-length-2 t)
+    (read-group-same-length-3 t)
+    (read-group-same-length-4 t)
+    (read-group-returns t)
+    (read-group-enum-known-next t)
+    (read-group-loop-less t)
+    (read-group-loop-again t)
+    (read-group-same-length-5 t)
+    (read-group-same-length-6 t)
+    (read-group-same-length-7 t)
+    (read-group-same-length-8 t)
+    (read-group-returns-2 t))
+    λ t. read-member-lts.spec (
+      read-field-reads.Asked,
+      read-field-reads.Learnt,
+      record-of-reads.Asked,
+      record-of-reads.Learnt,
+      put-record-reads.Asked,
+      put-record-reads.Learnt,
+      read-group-below t,
+      read-group.Post,
+      close-group-reads.Asked,
+      close-group-reads.Learnt,
+    )
+    (read-member-at t)
+    read-member.Post
+    (read-member-read-field-requires t)
+    (read-member-enum-known-e t)
+    (read-member-enum-known-start t)
+    (read-member-record-of-requires t)
+    (read-member-put-record-requires t)
+    (read-member-mul-heights t)
+    (read-member-slice-write-heights t)
+    (read-member-add-t28 t)
+    (read-member-enum-known-tag t)
+    (read-member-add-read-group t)
+    (read-member-read-group-requires t)
+    (read-member-enum-known-e-2 t)
+    (read-member-enum-known-next t)
+    (read-member-close-group-requires t)
+    (read-member-same-length t)
+    (read-member-returns t)
+    (read-member-same-length-2 t)
+    (read-member-same-length-3 t)
+    (read-member-returns-2 t)
+    (read-member-same-length-4 t)
+    (read-member-same-length-5 t)
+    (read-member-same-length-6 t)
+    (read-member-same-length-7 t)
+    (read-member-returns-3 t)
+    (read-member-same-length-8 t)
+    (read-member-same-length-9 t)
+    (read-member-same-length-10 t)
+    (read-member-same-length-11 t)
+    (read-member-returns-4 t)

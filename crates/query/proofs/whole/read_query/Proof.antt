@@ -1,0 +1,99 @@
+-- `read_query` meets its contract: the reading begins with the whole query and no predicates, and is handed on by its cases.
+use native.Mathlib.Omega.{arith}
+use denote.Ref.{now}
+use Rattle.query.specs.Ladder.{tables}
+use Rattle.query.proofs.WholeQuery.{whole-refused, whole-left, whole-accepted}
+use borrow.Author.Needs.{needs}
+use Rattle.query.proofs.whole.read_query.Statement.{statement}
+use Rattle.query.proofs.whole.read_query.Tie as tie
+
+read-member-requires : tie.Need-read-member-requires
+read-member-requires c κs = search needs
+
+enum-known-e : tie.Need-enum-known-e
+enum-known-e c = search needs
+
+enum-known-at : tie.Need-enum-known-at
+enum-known-at c = search needs
+
+same-length : tie.Need-same-length
+same-length c = search needs
+
+same-length-2 : tie.Need-same-length-2
+same-length-2 c = search needs
+
+same-length-3 : tie.Need-same-length-3
+same-length-3 c = search needs
+
+same-length-4 : tie.Need-same-length-4
+same-length-4 c = search needs
+
+returns : tie.Need-returns
+returns c =
+    let a = c .before .before .before .before .before .before .before .before .before .before .before .before .before .before .before .before .before .before .before .before .before .before .before .args in
+    let m = c .before .before .before .before .before .before .before .before .before .before .before .before .read-member in
+    whole-left (now (a .tags)) (now (a .q)) (tables (now (a .table)) (now (a .masks)) (now (a .sorts)) (now (a .heights))) (tables (m .last .1 .1 .1 .1 .1 .1 .0) (m .last .1 .1 .1 .1 .1 .1 .1 .0) (m .last .1 .1 .1 .1 .1 .1 .1 .1 .0) (m .last .1 .1 .1 .1 .1 .1 .1 .1 .1 .0)) _ _ (rw (c .before .before .at .given .1) at (m .ensures .1)) (c .if1 .taken)
+
+same-length-5 : tie.Need-same-length-5
+same-length-5 c = search needs
+
+same-length-6 : tie.Need-same-length-6
+same-length-6 c = search needs
+
+same-length-7 : tie.Need-same-length-7
+same-length-7 c = search needs
+
+same-length-8 : tie.Need-same-length-8
+same-length-8 c = search needs
+
+returns-2 : tie.Need-returns-2
+returns-2 c =
+    let a = c .before .before .before .before .before .before .before .before .before .before .before .before .before .before .before .before .before .before .before .before .before .before .args in
+    let m = c .before .before .before .before .before .before .before .before .before .before .before .read-member in
+    whole-refused (now (a .tags)) (now (a .q)) (tables (now (a .table)) (now (a .masks)) (now (a .sorts)) (now (a .heights))) (tables (m .last .1 .1 .1 .1 .1 .1 .0) (m .last .1 .1 .1 .1 .1 .1 .1 .0) (m .last .1 .1 .1 .1 .1 .1 .1 .1 .0) (m .last .1 .1 .1 .1 .1 .1 .1 .1 .1 .0)) _ (rw (c .before .e .given .1) at (m .ensures .1)) (rw (c .before .e .given .1) at (m .ensures .0))
+
+same-length-9 : tie.Need-same-length-9
+same-length-9 c = search needs
+
+same-length-10 : tie.Need-same-length-10
+same-length-10 c = search needs
+
+same-length-11 : tie.Need-same-length-11
+same-length-11 c = search needs
+
+same-length-12 : tie.Need-same-length-12
+same-length-12 c = search needs
+
+returns-3 : tie.Need-returns-3
+returns-3 c =
+    let a = c .before .before .before .before .before .before .before .before .before .before .before .before .before .before .before .before .before .before .before .before .before .before .before .args in
+    let m = c .before .before .before .before .before .before .before .before .before .before .before .before .read-member in
+    let p = c .before .before .before .before .before .before .before .before .before .before .before .before .before .before .before .before .before .before .before .before .before .before .before .pre in
+    let s = p .ladders in
+    let k = m .kept in
+    let w = rw (c .before .before .at .given .1) at (m .ensures .0) in
+    whole-accepted (now (a .tags)) (now (a .q)) (tables (now (a .table)) (now (a .masks)) (now (a .sorts)) (now (a .heights))) (tables (m .last .1 .1 .1 .1 .1 .1 .0) (m .last .1 .1 .1 .1 .1 .1 .1 .0) (m .last .1 .1 .1 .1 .1 .1 .1 .1 .0) (m .last .1 .1 .1 .1 .1 .1 .1 .1 .1 .0)) _ _ (rw (c .before .before .at .given .1) at (m .ensures .1)) (c .if1 .left) (w .4) (w .5)
+    (record { records = omega arith; ladders = record { masks-size = omega arith; sorts-size = omega arith; heights-size = omega arith } })
+
+pub read-query-spec : {M : Type 1} → statement M
+read-query-spec =
+    tie.close
+    (tie.spec
+    read-member-requires
+    enum-known-e
+    enum-known-at
+    same-length
+    same-length-2
+    same-length-3
+    same-length-4
+    returns
+    same-length-5
+    same-length-6
+    same-length-7
+    same-length-8
+    returns-2
+    same-length-9
+    same-length-10
+    same-length-11
+    same-length-12
+    returns-3)

@@ -1,0 +1,49 @@
+-- What a reading hands on: all that a caller needs of the engine's tables, and no fact about bytes.
+use Prim.Native.Nat.{ℕ, _+_, _≤_, _<_}
+use mathlib.Core.Path.{_≡_}
+use mathlib.Core.Bool.{true}
+use mathlib.Core.List.{List}
+use lib.ListN.{length}
+use Rattle.fields.specs.Decoded.{Decoded, refused, accepted}
+use Rattle.strategy.specs.Tree.{size, Numbered, NonEmpty}
+use Rattle.strategy.specs.Climb.{enclosing}
+use Rattle.sets.specs.Rungs.{rungs}
+use Rattle.predicate.specs.Payload.{validPayload}
+use Rattle.query.specs.declared.whole.Reading.{Reading}
+use Rattle.query.specs.declared.whole.Reading.the-variants.{Refused, Accepted}
+use Rattle.query.specs.Format.{predicateLimit}
+use Rattle.query.specs.Query.{Query}
+use Rattle.query.specs.Decode.{payloadOf}
+use Rattle.query.specs.Table.{tableSize, recordAt, predicateIn, listed}
+use Rattle.query.specs.Ladder.{Tables, LaddersSized, ladder, Low}
+use Rattle.query.specs.Sound.{IsRefusal}
+
+pub record TablesSized (T : Tables) : Type 0 where
+  pub records : length (T .records) ≡ tableSize
+  pub ladders : LaddersSized (T .masks) (T .sorts) (T .heights)
+
+-- one record: its operand lies in the query, and it is a condition over columns with these tags
+pub record Recorded (tags q table : List ℕ) (c : ℕ) : Type 0 where
+  pub placed : recordAt table c .place + recordAt table c .size ≤ length q
+  pub valid : validPayload tags (payloadOf (predicateIn q (recordAt table c))) ≡ true
+  pub column : recordAt table c .column < length tags
+  pub kind : recordAt table c .kind < 256
+
+-- the tables show this query, of n predicates
+pub record Tabled (tags q : List ℕ) (Q : Query) (n : ℕ) (T : Tables) : Type 0 where
+  pub some : 1 ≤ n
+  pub few : n ≤ predicateLimit
+  pub count : length (Q .predicates) ≡ n
+  pub leaves : size (Q .tree) ≡ n
+  pub numbered : Numbered (Q .tree) 0
+  pub full : NonEmpty (Q .tree)
+  pub shown : listed q (T .records) n ≡ Q .predicates
+  pub each : (c : ℕ) → c < n → Recorded tags q (T .records) c
+  pub ladders : (c : ℕ) → c < n → ladder T c ≡ rungs (enclosing (Q .tree) 0 c)
+  pub low : Low n (T .heights)
+  pub sized : TablesSized T
+
+-- a refusal is handed on by its number, an accepted query by its tables
+abbrev pub Handed : (tags q : List ℕ) → Decoded Query → Reading → Tables → Type 0
+Handed tags q (refused e) r T = (r ≡ Refused e) × IsRefusal e
+Handed tags q (accepted Q) r T = (r ≡ Accepted (length (Q .predicates))) × Tabled tags q Q (length (Q .predicates)) T

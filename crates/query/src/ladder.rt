@@ -1,0 +1,39 @@
+// The groups around each predicate: a ladder of at most eight rungs, the innermost group first.
+use crate::format::Group;
+ghost use mathlib.Core.Path.{_≡_};
+ghost use Prim.Native.Nat.{_≤_};
+ghost use Rattle.query.specs.Format.{predicateLimit};
+ghost use Rattle.query.specs.Ladder.{LaddersSized, Low, Under, ClosedTo};
+
+fn narrow(x: usize) -> u8
+    requires { ⌜ x ≤ predicateLimit ⌝ }
+    ensures { λ r. ⌜ r ≡ x ⌝ }
+{
+    x as u8
+}
+
+// Closes the group of the predicates from a up to m: one rung more for each of them.
+pub fn close_group(
+    masks: &mut [u64],
+    sorts: &mut [u8],
+    heights: &mut [usize],
+    a: usize,
+    m: usize,
+    tag: u8,
+)
+    requires { ⌜ (a ≤ m) × (m ≤ predicateLimit) × LaddersSized (now masks) (now sorts) (now heights) ⌝ }
+    requires { ⌜ Low m (now heights) ⌝ }
+    requires { ⌜ Under a m 1 (now heights) ⌝ }
+    ensures { λ _. ⌜ ClosedTo a m tag (now (masks .entry)) (now (sorts .entry)) (now (heights .entry)) (now (masks .exit)) (now (sorts .exit)) (now (heights .exit)) ⌝ }
+{
+    let mask = sets::run_of(narrow(a), narrow(m));
+    let mut c = a;
+    while c < m {
+        let h = heights[c];
+        let i = Group::DEPTH_LIMIT * c + h;
+        masks[i] = mask;
+        sorts[i] = tag;
+        heights[c] = h + 1;
+        c += 1;
+    }
+}

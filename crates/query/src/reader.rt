@@ -1,0 +1,97 @@
+// The reader of a query: a group holds members, and a member may be a group again.
+use crate::member::MemberField;
+ghost use Prim.Native.Nat.{_+_};
+ghost use Rattle.fields.specs.Header.{headerSize};
+ghost use Rattle.query.specs.Ladder.{tables};
+ghost use Rattle.query.specs.Reader.{Room, Within, MemberRead, MembersRead};
+
+// A refusal, or the place after what was read and the number of predicates up to there.
+pub enum Progress {
+    Refused(u8),
+    Next { at: usize, n: usize },
+}
+
+// The member at a place inside an enclosing end, with n predicates before it and depth groups around it.
+pub fn read_member(
+    tags: &[u8],
+    q: &[u8],
+    at: usize,
+    end: usize,
+    depth: usize,
+    n: usize,
+    table: &mut [usize],
+    masks: &mut [u64],
+    sorts: &mut [u8],
+    heights: &mut [usize],
+) -> Progress
+    requires { ⌜ Room at end depth n (now q) (tables (now table) (now masks) (now sorts) (now heights)) ⌝ }
+    ensures within { λ r. ⌜ Within (at + headerSize) end depth n (now (q .entry)) r (tables (now (table .entry)) (now (masks .entry)) (now (sorts .entry)) (now (heights .entry))) (tables (now (table .exit)) (now (masks .exit)) (now (sorts .exit)) (now (heights .exit))) ⌝ }
+    ensures exact { λ r. ⌜ MemberRead (now (tags .entry)) (now (q .entry)) at end depth n r (tables (now (table .entry)) (now (masks .entry)) (now (sorts .entry)) (now (heights .entry))) (tables (now (table .exit)) (now (masks .exit)) (now (sorts .exit)) (now (heights .exit))) ⌝ }
+{
+    match crate::member::read_field(tags, q, at, end, depth, n, table) {
+        MemberField::Refused(e) => Progress::Refused(e),
+        MemberField::Leaf { start, end: stop } => {
+            let r = crate::table::record_of(q, start, stop);
+            crate::table::put_record(table, n, r);
+            heights[n] = 0;
+            Progress::Next { at: stop, n: n + 1 }
+        }
+        MemberField::Group {
+            tag,
+            start,
+            end: stop,
+        } => {
+            match read_group(
+                tags,
+                q,
+                start,
+                stop,
+                depth + 1,
+                n,
+                table,
+                masks,
+                sorts,
+                heights,
+            ) {
+                Progress::Refused(e) => Progress::Refused(e),
+                Progress::Next { at: next, n: m } => {
+                    crate::ladder::close_group(masks, sorts, heights, n, m, tag);
+                    Progress::Next { at: next, n: m }
+                }
+            }
+        }
+    }
+}
+
+// The members from a place up to the end of their group.
+fn read_group(
+    tags: &[u8],
+    q: &[u8],
+    at: usize,
+    end: usize,
+    depth: usize,
+    n: usize,
+    table: &mut [usize],
+    masks: &mut [u64],
+    sorts: &mut [u8],
+    heights: &mut [usize],
+) -> Progress
+    requires { ⌜ Room at end depth n (now q) (tables (now table) (now masks) (now sorts) (now heights)) ⌝ }
+    ensures within { λ r. ⌜ Within at end depth n (now (q .entry)) r (tables (now (table .entry)) (now (masks .entry)) (now (sorts .entry)) (now (heights .entry))) (tables (now (table .exit)) (now (masks .exit)) (now (sorts .exit)) (now (heights .exit))) ⌝ }
+    ensures exact { λ r. ⌜ MembersRead (now (tags .entry)) (now (q .entry)) at end depth n r (tables (now (table .entry)) (now (masks .entry)) (now (sorts .entry)) (now (heights .entry))) (tables (now (table .exit)) (now (masks .exit)) (now (sorts .exit)) (now (heights .exit))) ⌝ }
+{
+    let mut p = at;
+    let mut m = n;
+    while p < end {
+        match read_member(tags, q, p, end, depth, m, table, masks, sorts, heights) {
+            Progress::Refused(e) => {
+                return Progress::Refused(e);
+            }
+            Progress::Next { at: next, n: k } => {
+                p = next;
+                m = k;
+            }
+        }
+    }
+    Progress::Next { at: p, n: m }
+}

@@ -1,0 +1,34 @@
+// A whole query read into the engine's tables.
+use crate::format::Refusal;
+use crate::reader::Progress;
+ghost use Rattle.query.specs.Decode.{decodeTagged};
+ghost use Rattle.query.specs.Ladder.{tables};
+ghost use Rattle.query.specs.Handed.{TablesSized, Handed};
+
+pub enum Reading {
+    Refused(u8),
+    Accepted { n: usize },
+}
+
+// Checks a query against a catalogue whose columns have these tags, and tables its n predicates.
+pub fn read_query(
+    tags: &[u8],
+    q: &[u8],
+    table: &mut [usize],
+    masks: &mut [u64],
+    sorts: &mut [u8],
+    heights: &mut [usize],
+) -> Reading
+    requires { ⌜ TablesSized (tables (now table) (now masks) (now sorts) (now heights)) ⌝ }
+    ensures { λ r. ⌜ Handed (now (tags .entry)) (now (q .entry)) (decodeTagged (now (tags .entry)) (now (q .entry))) r (tables (now (table .exit)) (now (masks .exit)) (now (sorts .exit)) (now (heights .exit))) ⌝ }
+{
+    match crate::reader::read_member(tags, q, 0, q.len(), 0, 0, table, masks, sorts, heights) {
+        Progress::Refused(e) => Reading::Refused(e),
+        Progress::Next { at, n } => {
+            if at != q.len() {
+                return Reading::Refused(Refusal::BYTES_AFTER_QUERY);
+            }
+            Reading::Accepted { n }
+        }
+    }
+}
