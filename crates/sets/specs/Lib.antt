@@ -4,3 +4,4 @@ pub mod RunLaws
 pub mod Rungs
 pub mod RungLaws
 pub mod OrderSet
+pub mod RowSet

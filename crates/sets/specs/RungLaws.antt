@@ -1,7 +1,7 @@
 -- The climb over masks is the climb over groups; its steps as a loop takes them.
 use Prim.Native.Nat.{ℕ, _^_, _<_}
 use mathlib.Core.Path.{_≡_, refl, sym, ap, _∙_}
-use mathlib.Core.Bool.{Bool, true, false, not}
+use mathlib.Core.Bool.{Bool, true, false, not, cond}
 use mathlib.Core.Logic.{_⊎_, inl, inr}
 use mathlib.Core.List.{List, [], _∷_, _++_}
 use Rattle.strategy.specs.Bools.{which}
@@ -76,6 +76,18 @@ climb-masks k v (g ∷ gs) x h =
       ]
     ] in
     go (which (settles (g .absorbing) v)) (which (setsMeet x (runSet (g .first) (g .count))))
+
+-- a climb only takes numbers out
+pub masks-lt : (k : ℕ) (v : Bool) (gs : List Rung) (x : ℕ) → x < 2 ^ k → (climbMasks v gs x) .live < 2 ^ k
+unfolding climbMasks
+masks-lt k v [] x h = h
+masks-lt k v (g ∷ gs) x h = go (settles (g .absorbing) v) (setsMeet x (g .mask)) (masks-lt k v gs x h) (masks-lt k v gs (setMinus x (g .mask)) (minus-lt k x (g .mask) h))
+  where
+    go : (p q : Bool) → (climbMasks v gs x) .live < 2 ^ k → (climbMasks v gs (setMinus x (g .mask))) .live < 2 ^ k
+        → (cond p (climbMasks v gs (setMinus x (g .mask))) (cond q (record { live = x; settled = false }) (climbMasks v gs x))) .live < 2 ^ k
+    go true q a b = b
+    go false true a b = h
+    go false false a b = a
 
 -- a probe of `c` and its climb, as a row's loop has them
 pub climb-probed : (k : ℕ) (v : Bool) (gs : List Group) (c x : ℕ) → setWithout x c < 2 ^ k

@@ -1,4 +1,4 @@
--- Document 01's parish of three entries: the traces of P1 and P2, by computation.
+-- Document 01's parish of three entries: its traces in both orders, by computation.
 use Prim.Native.Nat.{ℕ}
 use mathlib.Core.Path.{_≡_, refl}
 use mathlib.Core.Bool.{true, false, _||_, xor}
@@ -23,20 +23,20 @@ abbrev blank : Assignment
 blank c = eqb c 2
 
 -- order 00 01 02: entries 0 and 2, looks 3, 1, 2
-pub p1 :
+pub traces-012 :
     (trace (eval parish) ash (0 ∷ 1 ∷ 2 ∷ []) ≡ (0, true) ∷ (1, true) ∷ [])
     × (trace (eval parish) ashby (0 ∷ 1 ∷ 2 ∷ []) ≡ (0, false) ∷ (2, false) ∷ [])
     × (trace (eval parish) blank (0 ∷ 1 ∷ 2 ∷ []) ≡ (0, false) ∷ (2, true) ∷ [])
 unfolding trace due decides someOutcomes xor update eval
-p1 = (refl, refl, refl)
+traces-012 = (refl, refl, refl)
 
 -- order 02 01 00: the same list, looks 2, 2, 3
-pub p2 :
+pub traces-210 :
     (trace (eval parish) ash (2 ∷ 1 ∷ 0 ∷ []) ≡ (2, false) ∷ (1, true) ∷ (0, true) ∷ [])
     × (trace (eval parish) ashby (2 ∷ 1 ∷ 0 ∷ []) ≡ (2, false) ∷ (1, true) ∷ (0, false) ∷ [])
     × (trace (eval parish) blank (2 ∷ 1 ∷ 0 ∷ []) ≡ (2, true) ∷ [])
 unfolding trace due decides someOutcomes xor update eval
-p2 = (refl, refl, refl)
+traces-210 = (refl, refl, refl)
 
 pub listed : (eval parish ash ≡ true) × (eval parish ashby ≡ false) × (eval parish blank ≡ true)
 unfolding eval
