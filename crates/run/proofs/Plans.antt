@@ -1,0 +1,170 @@
+-- The plan: an access put, the loop over the predicates, and the outcome that an access gives.
+use Prim.Native.Nat.{ℕ, _+_, _-_, _*_, _≤_, _<_}
+use native.Mathlib.Omega.{arith}
+use mathlib.Core.Path.{_≡_, refl, sym, ap, ap₂, _∙_}
+use mathlib.Core.Bool.{Bool}
+use mathlib.Core.Logic.{_⊎_, inl, inr}
+use mathlib.Core.List.{List, [], _∷_}
+use lib.ListN.{length, getD, set, take, drop, length-set}
+use lib.Seq.{getD-set-same, getD-set-other}
+use Rattle.catalogue.specs.Catalogue.{Catalogue, numbers}
+use Rattle.catalogue.specs.Layout.{HasRow}
+use Rattle.predicate.specs.declared.answer.Answer.{Answer}
+use Rattle.predicate.specs.Meaning.{Predicate, plainKind, truth, outcomeOf}
+use Rattle.predicate.specs.Outcome.{HasRange, OutcomeIs}
+use Rattle.strategy.specs.Bools.{same?}
+use Rattle.query.specs.declared.table.PredicateRecord.{PredicateRecord}
+use Rattle.query.specs.Format.{predicateLimit}
+use Rattle.query.specs.Table.{recordAt}
+use Rattle.run.specs.Plan.{Access, accessWidth, planSize, accessAt, accessOf, HasColumn, HaveColumns, PutAccess, Planned}
+use Rattle.run.specs.Ready.{Accessed, HasOutcome, TruthIs}
+
+-- the five stores of an access
+module _ (P : List ℕ) (c a b k p s : ℕ) (sized : length P ≡ planSize) (inside : c < predicateLimit) where
+  first : List ℕ
+  first = set P (accessWidth * c) a
+
+  second : List ℕ
+  second = set first (accessWidth * c + 1) b
+
+  third : List ℕ
+  third = set second (accessWidth * c + 2) k
+
+  fourth : List ℕ
+  fourth = set third (accessWidth * c + 3) p
+
+  abbrev stored : List ℕ
+  stored =
+      set (set (set (set (set P (accessWidth * c) a) (accessWidth * c + 1) b) (accessWidth * c + 2) k) (accessWidth * c + 3) p) (accessWidth * c + 4) s
+
+  stored-off : (j : ℕ) → (j < accessWidth * c) ⊎ (accessWidth * c + 4 < j) → getD stored j 0 ≡ getD P j 0
+  unfolding first second third fourth
+  stored-off j w =
+      getD-set-other fourth (accessWidth * c + 4) j s 0 (λ e. ne w (omega arith) (omega arith)) ∙ getD-set-other third (accessWidth * c + 3) j p 0 (λ e. ne w (omega arith) (omega arith))
+      ∙ getD-set-other second (accessWidth * c + 2) j k 0 (λ e. ne w (omega arith) (omega arith)) ∙ getD-set-other first (accessWidth * c + 1) j b 0 (λ e. ne w (omega arith) (omega arith))
+      ∙ getD-set-other P (accessWidth * c) j a 0 (λ e. ne w (omega arith) (omega arith))
+    where
+      ne : (j < accessWidth * c) ⊎ (accessWidth * c + 4 < j) → accessWidth * c ≤ j → j ≤ accessWidth * c + 4 → ⊥
+      ne (inl l) x y = omega arith
+      ne (inr l) x y = omega arith
+
+  stored-tag : getD stored (accessWidth * c) 0 ≡ a
+  unfolding first second third fourth
+  stored-tag =
+      getD-set-other fourth (accessWidth * c + 4) (accessWidth * c) s 0 (λ e. omega arith) ∙ getD-set-other third (accessWidth * c + 3) (accessWidth * c) p 0 (λ e. omega arith)
+      ∙ getD-set-other second (accessWidth * c + 2) (accessWidth * c) k 0 (λ e. omega arith) ∙ getD-set-other first (accessWidth * c + 1) (accessWidth * c) b 0 (λ e. omega arith)
+      ∙ getD-set-same P (accessWidth * c) a 0 (omega arith)
+
+  stored-start : getD stored (accessWidth * c + 1) 0 ≡ b
+  unfolding first second third fourth
+  stored-start =
+      getD-set-other fourth (accessWidth * c + 4) (accessWidth * c + 1) s 0 (λ e. omega arith) ∙ getD-set-other third (accessWidth * c + 3) (accessWidth * c + 1) p 0 (λ e. omega arith)
+      ∙ getD-set-other second (accessWidth * c + 2) (accessWidth * c + 1) k 0 (λ e. omega arith) ∙ getD-set-same first (accessWidth * c + 1) b 0 (simp length-set (omega arith))
+
+  stored-kind : getD stored (accessWidth * c + 2) 0 ≡ k
+  unfolding first second third fourth
+  stored-kind =
+      getD-set-other fourth (accessWidth * c + 4) (accessWidth * c + 2) s 0 (λ e. omega arith) ∙ getD-set-other third (accessWidth * c + 3) (accessWidth * c + 2) p 0 (λ e. omega arith)
+      ∙ getD-set-same second (accessWidth * c + 2) k 0 (simp length-set (omega arith))
+
+  stored-place : getD stored (accessWidth * c + 3) 0 ≡ p
+  unfolding first second third fourth
+  stored-place =
+      getD-set-other fourth (accessWidth * c + 4) (accessWidth * c + 3) s 0 (λ e. omega arith) ∙ getD-set-same third (accessWidth * c + 3) p 0 (simp length-set (omega arith))
+
+  stored-size : getD stored (accessWidth * c + 4) 0 ≡ s
+  unfolding first second third fourth
+  stored-size = getD-set-same fourth (accessWidth * c + 4) s 0 (simp length-set (omega arith))
+
+  apart : (d r : ℕ) → r ≤ 4 → (d < c) ⊎ (c < d) → (accessWidth * d + r < accessWidth * c) ⊎ (accessWidth * c + 4 < accessWidth * d + r)
+  apart d r l (inl h) = inl (omega arith)
+  apart d r l (inr h) = inr (omega arith)
+
+  apart-first : (d : ℕ) → (d < c) ⊎ (c < d) → (accessWidth * d < accessWidth * c) ⊎ (accessWidth * c + 4 < accessWidth * d)
+  apart-first d (inl h) = inl (omega arith)
+  apart-first d (inr h) = inr (omega arith)
+
+  pub put-stored : (x : Access) → record { tag = a; start = b; kind = k; place = p; size = s } ≡ x → PutAccess c x P stored
+  unfolding accessAt
+  put-stored x e = record {
+    here = rw (stored-tag, stored-start, stored-kind, stored-place, stored-size) e;
+    elsewhere = λ d n. let w : (d < c) ⊎ (c < d) = side d n in rw (
+      stored-off (accessWidth * d) (apart-first d w),
+      stored-off (accessWidth * d + 1) (apart d 1 (omega arith) w),
+      stored-off (accessWidth * d + 2) (apart d 2 (omega arith) w),
+      stored-off (accessWidth * d + 3) (apart d 3 (omega arith) w),
+      stored-off (accessWidth * d + 4) (apart d 4 (omega arith) w),
+    );
+  }
+    where
+      side : (d : ℕ) → (d ≡ c → ⊥) → (d < c) ⊎ (c < d)
+      side d n = go (same? (d - c) 0)
+        where
+          go : (d - c ≡ 0) ⊎ (d - c ≡ 0 → ⊥) → (d < c) ⊎ (c < d)
+          go (inl z) = inl (omega (arith, n))
+          go (inr z) = inr (omega (arith, z))
+
+pub planned-none : (tags starts table P : List ℕ) → Planned tags starts table P 0
+planned-none tags starts table P c l = absurd (omega arith)
+
+pub planned-more : (tags starts table P P′ : List ℕ) (n : ℕ) → PutAccess n (accessOf tags starts (recordAt table n)) P P′
+    → Planned tags starts table P n → Planned tags starts table P′ (n + 1)
+planned-more tags starts table P P′ n p h c l = go (same? c n)
+  where
+    go : (c ≡ n) ⊎ (c ≡ n → ⊥) → accessAt P′ c ≡ accessOf tags starts (recordAt table c)
+    go (inl e) = rw (e, p .here)
+    go (inr e) = p .elsewhere c e ∙ h c (omega (arith, e))
+
+pub planned-all : (tags starts table P : List ℕ) (c n : ℕ) → c ≡ n → Planned tags starts table P c → Planned tags starts table P n
+planned-all tags starts table P c n e h = rw (← e) h
+
+pub has-column : (tags starts table : List ℕ) (c n : ℕ) (r : PredicateRecord) → c < n → r ≡ recordAt table c → HaveColumns tags starts table n
+    → HasColumn tags starts r
+has-column tags starts table c n r l e h = rw e (h c l)
+
+pub put-record : (tags starts table P P′ : List ℕ) (c : ℕ) (r : PredicateRecord) → r ≡ recordAt table c
+    → PutAccess c (accessOf tags starts r) P P′ → PutAccess c (accessOf tags starts (recordAt table c)) P P′
+put-record tags starts table P P′ c r e p = rw e at p
+
+-- the outcome by the plan: what the code hands to `outcome_at` is what the access shows
+module _ (b q P : List ℕ) (c row : ℕ) where
+  abbrev x : Access
+  x = accessAt P c
+
+  -- the fields as the code reads them
+  pub tag-byte : HasOutcome b q (accessAt P c) row → getD P (accessWidth * c) 0 < 256
+  unfolding accessAt
+  tag-byte h = h .2 .tag-byte
+
+  pub kind-byte : HasOutcome b q (accessAt P c) row → getD P (accessWidth * c + 2) 0 < 256
+  unfolding accessAt
+  kind-byte h = h .2 .kind-byte
+
+  pub operand-inside : HasOutcome b q (accessAt P c) row → getD P (accessWidth * c + 3) 0 + getD P (accessWidth * c + 4) 0 ≤ length q
+  unfolding accessAt
+  operand-inside h = h .2 .placed
+
+  module _ (tag kind : ℕ) (t : tag ≡ getD P (accessWidth * c) 0) (k : kind ≡ getD P (accessWidth * c + 2) 0) where
+    abbrev from : ℕ
+    from = getD P (accessWidth * c + 3) 0
+
+    abbrev size : ℕ
+    size = getD P (accessWidth * c + 4) 0
+
+    same-operand : take (from + size - from) (drop from q) ≡ take size (drop from q)
+    same-operand = let e : from + size - from ≡ size = omega arith in rw e
+
+    pub has-row : HasOutcome b q (accessAt P c) row → HasRow b tag (getD P (accessWidth * c + 1) 0) row
+    unfolding accessAt
+    has-row h = rw t (h .0 .rows, getD (h .0 .columns) (h .1 .column) (numbers []), h .2 .shown, h .3)
+
+    pub has-range : HasOutcome b q (accessAt P c) row → HasRange (plainKind kind) (take (from + size - from) (drop from q))
+    unfolding accessAt
+    has-range h = rw (k, same-operand) (h .2 .range)
+
+    pub truth-is : (a : Answer) (r : Bool) → OutcomeIs b tag (getD P (accessWidth * c + 1) 0) kind (take (from + size - from) (drop from q)) row a
+        → r ≡ truth a → TruthIs b q (accessAt P c) row r
+    unfolding accessAt
+    truth-is a r o e C p A l =
+        e ∙ ap truth (o (C .rows) (getD (C .columns) (p .column) (numbers [])) (rw t (A .shown)) l
+        ∙ ap₂ (λ (z : ℕ) (y : List ℕ). outcomeOf (getD (C .columns) (p .column) (numbers [])) z y row) (k ∙ A .kind) (same-operand ∙ A .operand))

@@ -1,0 +1,78 @@
+// The plan of a run: five numbers for each predicate, filled once, so that no row looks up a column.
+use query::table::PredicateRecord;
+ghost use mathlib.Core.Path.{_≡_};
+ghost use Prim.Native.Nat.{_≤_, _<_};
+ghost use lib.ListN.{length};
+ghost use Rattle.predicate.specs.Outcome.{Folds};
+ghost use Rattle.query.specs.Format.{predicateLimit};
+ghost use Rattle.query.specs.Table.{tableSize};
+ghost use Rattle.run.specs.Plan.{planSize, accessAt, accessOf, HasColumn, HaveColumns, PutAccess, Planned};
+ghost use Rattle.run.specs.Ready.{HasOutcome, TruthIs};
+
+pub struct Plan;
+
+impl Plan {
+    // The numbers of a predicate: its column's tag and start, its kind, its operand's place and size.
+    pub const WIDTH: usize = 5;
+}
+
+fn put_access(tags: &[u8], starts: &[usize], r: PredicateRecord, c: usize, plan: &mut [usize])
+    requires { ⌜ (c < predicateLimit) × (length (now plan) ≡ planSize) × HasColumn (now tags) (now starts) r ⌝ }
+    ensures { λ _. ⌜ PutAccess c (accessOf (now (tags .entry)) (now (starts .entry)) r) (now (plan .entry)) (now (plan .exit)) ⌝ }
+{
+    let i = Plan::WIDTH * c;
+    let column = r.column;
+    plan[i] = fields::number::widen(tags[column]);
+    plan[i + 1] = starts[column];
+    plan[i + 2] = r.kind;
+    plan[i + 3] = r.place;
+    plan[i + 4] = r.size;
+}
+
+// Plans the first n predicates of the table, over columns with these tags and starts.
+pub fn fill_plan(tags: &[u8], starts: &[usize], table: &[usize], n: usize, plan: &mut [usize])
+    requires { ⌜ (n ≤ predicateLimit) × (length (now plan) ≡ planSize) × (length (now table) ≡ tableSize) × HaveColumns (now tags) (now starts) (now table) n ⌝ }
+    ensures { λ _. ⌜ Planned (now (tags .entry)) (now (starts .entry)) (now (table .entry)) (now (plan .exit)) n ⌝ }
+{
+    let mut c: usize = 0;
+    while c < n {
+        put_access(tags, starts, query::table::record_at(table, c), c, plan);
+        c += 1;
+    }
+}
+
+fn narrow(x: usize) -> u8
+    requires { ⌜ x < 256 ⌝ }
+    ensures { λ r. ⌜ r ≡ x ⌝ }
+{
+    x as u8
+}
+
+// The outcome of predicate c at a row.
+pub fn outcome_of(
+    fold: &[u8],
+    catalogue: &[u8],
+    question: &[u8],
+    plan: &[usize],
+    c: usize,
+    row: usize,
+) -> bool
+    requires { ⌜ Folds (now fold) × (c < predicateLimit) × (length (now plan) ≡ planSize) × HasOutcome (now catalogue) (now question) (accessAt (now plan) c) row ⌝ }
+    ensures { λ r. ⌜ TruthIs (now (catalogue .entry)) (now (question .entry)) (accessAt (now (plan .entry)) c) row r ⌝ }
+{
+    let i = Plan::WIDTH * c;
+    let tag = narrow(plan[i]);
+    let start = plan[i + 1];
+    let kind = narrow(plan[i + 2]);
+    let from = plan[i + 3];
+    let to = from + plan[i + 4];
+    predicate::answer::truth_of(predicate::outcome::outcome_at(
+        fold,
+        catalogue,
+        tag,
+        start,
+        kind,
+        &question[from..to],
+        row,
+    ))
+}
