@@ -12,9 +12,10 @@ use Rattle.fields.specs.Decoded.{either}
 use Rattle.strategy.specs.Bools.{same?}
 use Rattle.strategy.specs.Tree.{Tree}
 use Rattle.strategy.specs.Climb.{enclosing}
-use Rattle.predicate.specs.Meaning.{Predicate, plainKind, oppositeFrom}
+use Rattle.predicate.specs.Kinds.{plainKind, oppositeFrom}
+use Rattle.predicate.specs.Meaning.{Predicate}
 use Rattle.predicate.specs.Payload.{kindFits}
-use Rattle.predicate.proofs.Tests.{and-left}
+use Rattle.predicate.proofs.Conjunctions.{and-left}
 use Rattle.predicate.proofs.PayloadLaws.{valid-payload}
 use Rattle.query.specs.declared.reader.Progress.the-variants as progress
 use Rattle.query.specs.declared.whole.Reading.the-variants.{Refused, Accepted}
@@ -60,7 +61,7 @@ each-listed P q T (suc n) h c l =
 recorded : (tags q T : List ℕ) (c : ℕ) → recordAt T c .place + recordAt T c .size ≤ length q → Fits tags q (predicateIn q (recordAt T c)) → Recorded tags q T c
 recorded tags q T c l f =
     let v = valid-payload tags (payloadOf (predicateIn q (recordAt T c))) (f .valid) in
-    record { placed = l; valid = f .valid; column = v .column; kind = kind-small _ _ (v .kind) }
+    record { placed = l; valid = f .valid; column = v .column-in; kind = kind-small _ _ (v .kind-fits) }
 
 module _ (tags q : List ℕ) (T T1 : Tables) where
   told : (r : _) → MemberRead tags q 0 (length q) 0 0 r T T1 → Told q enclosing 0 (member (2 * length q + 1) tags q 0 (length q) 0 []) r T T1

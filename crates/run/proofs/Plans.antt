@@ -10,7 +10,8 @@ use lib.Seq.{getD-set-same, getD-set-other}
 use Rattle.catalogue.specs.Catalogue.{Catalogue, numbers}
 use Rattle.catalogue.specs.Layout.{HasRow}
 use Rattle.predicate.specs.declared.answer.Answer.{Answer}
-use Rattle.predicate.specs.Meaning.{Predicate, plainKind, truth, outcomeOf}
+use Rattle.predicate.specs.Kinds.{plainKind}
+use Rattle.predicate.specs.Meaning.{Predicate, truth, outcomeOf}
 use Rattle.predicate.specs.Outcome.{HasRange, OutcomeIs}
 use Rattle.strategy.specs.Bools.{same?}
 use Rattle.query.specs.declared.table.PredicateRecord.{PredicateRecord}

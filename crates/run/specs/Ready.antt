@@ -7,7 +7,8 @@ use lib.ListN.{length, getD, take, drop}
 use Rattle.catalogue.specs.Format.{rowLimit}
 use Rattle.catalogue.specs.Catalogue.{Catalogue, numbers}
 use Rattle.catalogue.specs.Layout.{Shows}
-use Rattle.predicate.specs.Meaning.{Predicate, plainKind, outcome, truth}
+use Rattle.predicate.specs.Kinds.{plainKind}
+use Rattle.predicate.specs.Meaning.{Predicate, outcome, truth}
 use Rattle.predicate.specs.Outcome.{Folds, HasRange}
 use Rattle.strategy.specs.Tree.{size, Numbered, NonEmpty}
 use Rattle.strategy.specs.Order.{isOrder}

@@ -8,7 +8,8 @@ use Rattle.fields.specs.Numbers.{numberAt, bytesOf}
 use Rattle.fields.specs.Header.{headerAt}
 use Rattle.catalogue.specs.Slots.{textAt, textsAt, zerosAt, validSlot, validSlots}
 use Rattle.catalogue.specs.Decode.{numbersAt, countsAt, firstOf, columnOf, columnsAt, decodeCatalogue}
-use Rattle.predicate.specs.Meaning.{folded, same, begins, occurs, plainKind, numberTest, textTest, outcomeOf}
+use Rattle.predicate.specs.Kinds.{plainKind}
+use Rattle.predicate.specs.Meaning.{folded, same, begins, occurs, numberTest, textTest, outcomeOf}
 use Rattle.predicate.specs.Payload.{tagsIn, kindFits, rangeFits, operandFits, validPayload}
 use Rattle.query.specs.Decode.{payloadAt, isRepeated, predicateField, groupField, memberField, decodeTagged, decodeQuery, member}
 use Rattle.strategy.specs.Assignment.{update, elem}

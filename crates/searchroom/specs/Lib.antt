@@ -3,5 +3,6 @@ pub mod Refusals
 pub mod Input
 pub mod Answers
 pub mod Run
+pub mod Finish
 pub mod Parish
 pub mod Cases

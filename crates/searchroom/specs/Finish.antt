@@ -1,0 +1,26 @@
+-- How a run ends, from the tables of its own.
+use Prim.Native.Nat.{ℕ, _*_, _≤_}
+use mathlib.Core.List.{List}
+use lib.ListN.{length}
+use Rattle.fields.specs.Decoded.{either}
+use Rattle.fields.specs.Numbers.{bytesOf}
+use Rattle.bitmaps.specs.Bitmap.{bytesFor, onesIn, putFront}
+use Rattle.bitmaps.specs.Table.{linesOf}
+use Rattle.searchroom.specs.declared.word.Answer.the-variants.{Accepted}
+use Rattle.searchroom.specs.Word.{packed}
+use Rattle.searchroom.specs.Refusals.{counterRefused}
+use Rattle.searchroom.specs.Run.{Ran, ran, refuse, counterSize, counterAfter, counterFits}
+
+-- the lent tables are long enough: refusal 16 otherwise
+abbrev pub HasRoom : (n rows : ℕ) → (listed looks : List ℕ) → Type 0
+HasRoom n rows listed looks = (bytesFor rows ≤ length listed) × (n * bytesFor rows ≤ length looks)
+
+-- the front of each line goes out, if the counter takes the looks
+unfoldable pub finished : (selected probes : List ℕ) → (n rows : ℕ) → (listed looks tally : List ℕ) → Ran
+finished S P n rows listed looks tally =
+    either (counterFits tally (onesIn P))
+    (ran (packed (Accepted (onesIn S) 0 (onesIn P)))
+    (putFront (linesOf (bytesFor rows) S 1) listed)
+    (putFront (linesOf (bytesFor rows) P n) looks)
+    (bytesOf counterSize (counterAfter tally (onesIn P))))
+    (refuse counterRefused listed looks tally)

@@ -1,0 +1,62 @@
+// How a run ends: its own tables counted, the counter tested, and only then the lent tables written.
+use crate::refusal::Refusal;
+use crate::word::Answer;
+ghost use mathlib.Core.Path.{_≡_};
+ghost use Prim.Native.Nat.{_*_, _≤_};
+ghost use lib.ListN.{length};
+ghost use Rattle.catalogue.specs.Format.{rowLimit};
+ghost use Rattle.query.specs.Format.{predicateLimit};
+ghost use Rattle.bitmaps.specs.Bitmap.{bytesFor};
+ghost use Rattle.bitmaps.specs.Table.{lineSize};
+ghost use Rattle.searchroom.specs.Word.{packed, FitsWord};
+ghost use Rattle.searchroom.specs.Run.{ran};
+ghost use Rattle.searchroom.specs.Finish.{finished, HasRoom};
+
+pub struct Counter;
+
+impl Counter {
+    pub const SIZE: usize = 8;
+
+    pub const LIMIT: u64 = 0xffff_ffff_ffff_ffff;
+}
+
+// Document 01's ceiling(E / 8).
+pub fn bitmap_size(rows: usize) -> usize
+    requires { ⌜ rows ≤ rowLimit ⌝ }
+    ensures { λ r. ⌜ r ≡ bytesFor rows ⌝ }
+{
+    (rows + 7) / 8
+}
+
+pub fn finish(
+    selected: &[u8],
+    probes: &[u8],
+    n: usize,
+    rows: usize,
+    listed: &mut [u8],
+    looks: &mut [u8],
+    tally: &mut [u8],
+) -> Answer
+    requires { ⌜ (length (now selected) ≡ lineSize) × (length (now probes) ≡ predicateLimit * lineSize) × (n ≤ predicateLimit) × (rows ≤ rowLimit) ⌝ }
+    requires { ⌜ HasRoom n rows (now listed) (now looks) ⌝ }
+    ensures { λ r. ⌜ (ran (packed r) (now (listed .exit)) (now (looks .exit)) (now (tally .exit)) ≡ finished (now (selected .entry)) (now (probes .entry)) n rows (now (listed .entry)) (now (looks .entry)) (now (tally .entry))) × FitsWord r ⌝ }
+{
+    if tally.len() != Counter::SIZE {
+        return Answer::Refused(Refusal::COUNTER_REFUSED);
+    }
+    let found = bitmaps::ones::count_ones(selected);
+    let looked = bitmaps::ones::count_ones(probes);
+    let before = fields::counter::eight_bytes(tally);
+    if Counter::LIMIT - before < looked {
+        return Answer::Refused(Refusal::COUNTER_REFUSED);
+    }
+    let size = bitmap_size(rows);
+    bitmaps::copy::copy_lines(selected, listed, 1, size);
+    bitmaps::copy::copy_lines(probes, looks, n, size);
+    fields::counter::put_eight_bytes(tally, before + looked);
+    Answer::Accepted {
+        first: found,
+        second: 0,
+        third: looked,
+    }
+}
