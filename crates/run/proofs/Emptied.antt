@@ -5,16 +5,17 @@ use mathlib.Core.Path.{_≡_, refl, sym, ap, _∙_, subst}
 use mathlib.Core.Bool.{Bool, true, false, _&&_, not, xor, true≢false, false≢true}
 use mathlib.Core.Logic.{_⊎_, inl, inr}
 use mathlib.Core.List.{List, [], _∷_, _++_}
-use lib.Dec.{eqb}
+use lib.Dec.{eqb, ltb}
 use lib.Bits.{bitAnd, and-le-l}
-use Rattle.strategy.specs.Bools.{which, clash, not-true, not-of-false, both, eqb-eq, eqb-ne}
-use Rattle.strategy.specs.Tree.{Tree, leaf, group, Forest, settles, size}
-use Rattle.strategy.specs.LiveLaws.{inRun-yes, without-in, without-off}
+use Rattle.strategy.specs.Bools.{which, clash, not-true, not-of-false, both, eqb-eq, eqb-ne, ltb-lt, ltb-le}
+use Rattle.strategy.specs.Tree.{Tree, leaf, group, settles, size}
+use Rattle.strategy.specs.LiveLaws.{inRun-yes, without-in}
 use Rattle.strategy.specs.Climb.{Group, enclosing, enclosingIn}
-use Rattle.sets.specs.Set.{member, oneSet, runSet, setMinus, setsMeet, setWithout, Within}
+use Rattle.sets.specs.Set.{member, oneSet, setMinus, setsMeet, setWithout}
 use Rattle.sets.specs.SetLaws.{member-and, member-xor, member-none, empty-set}
 use Rattle.sets.specs.RunLaws.{member-run, member-without, minus-lt}
 use Rattle.sets.specs.Rungs.{Rung, rungOf, rungs, Climbed, climbMasks}
+use Rattle.bitmaps.specs.BitLaws.{member-high}
 use Rattle.sets.specs.RungLaws.{rung-settles, rung-stops, rung-passes, rungs-append}
 
 minus-bit : (a b : Bool) → xor a (a && b) ≡ true → (a ≡ true) × (b ≡ false)
@@ -27,9 +28,6 @@ minus-bit false b h = absurd (false≢true h)
 minus-member : (x m d : ℕ) → member (setMinus x m) d ≡ true → (member x d ≡ true) × (member m d ≡ false)
 minus-member x m d h =
     minus-bit (member x d) (member m d) (ap (xor (member x d)) (sym (member-and x m d)) ∙ sym (member-xor x (bitAnd x m) d) ∙ h)
-
-pub within-minus : (n x m : ℕ) → Within n x → Within n (setMinus x m)
-within-minus n x m w d h = w d (minus-member x m d h .0)
 
 -- the set of the outermost rung
 unfoldable pub outermost : Rung → List Rung → ℕ
@@ -76,17 +74,6 @@ module _ (k : ℕ) where
           (sym (eqb-ne x 0 (λ e. let z : bitAnd x (g .mask) ≡ 0 = omega (arith, and-le-l x (g .mask)) in true≢false (sym m ∙ rw z))))
       go (inr s) (inr m) rest = subst Emptied (sym (rung-passes v g gs x s m)) (rest x f (inside-passes g gs x f m i))
 
-pub climb-within : (n : ℕ) (v : Bool) (gs : List Rung) (x : ℕ) → Within n x → Within n (climbMasks v gs x .live)
-unfolding climbMasks
-climb-within n v [] x w = w
-climb-within n v (g ∷ gs) x w = go (which (settles (g .absorbing) v)) (which (setsMeet x (g .mask))) (λ y u. climb-within n v gs y u)
-  where
-    go : (settles (g .absorbing) v ≡ true) ⊎ (settles (g .absorbing) v ≡ false) → (setsMeet x (g .mask) ≡ true) ⊎ (setsMeet x (g .mask) ≡ false)
-        → ((y : ℕ) → Within n y → Within n (climbMasks v gs y .live)) → Within n (climbMasks v (g ∷ gs) x .live)
-    go (inl s) m rest = subst (λ (c : Climbed). Within n (c .live)) (sym (rung-settles v g gs x s)) (rest (setMinus x (g .mask)) (within-minus n x (g .mask) w))
-    go (inr s) (inl m) rest = subst (λ (c : Climbed). Within n (c .live)) (sym (rung-stops v g gs x s m)) w
-    go (inr s) (inr m) rest = subst (λ (c : Climbed). Within n (c .live)) (sym (rung-passes v g gs x s m)) (rest x w)
-
 outermost-last : (g : Rung) (gs : List Rung) (h : Rung) → outermost g (gs ++ (h ∷ [])) ≡ h .mask
 unfolding outermost
 outermost-last g [] h = refl
@@ -97,19 +84,28 @@ unfolding outermost
 inside-last [] h x i = i
 inside-last (g ∷ gs) h x i = λ d y. ap (λ (m : ℕ). member m d) (outermost-last g gs h) ∙ i d y
 
+small-member : (n x d : ℕ) → x < 2 ^ n → member x d ≡ true → d < n
+small-member n x d f y = go (which (ltb d n))
+  where
+    go : (ltb d n ≡ true) ⊎ (ltb d n ≡ false) → d < n
+    go (inl e) = ltb-lt d n e
+    go (inr e) = clash y (member-high n x d f (ltb-le d n e))
+
 -- a probed tree: its root is the outermost group; a tree of one leaf has none, and its only number is taken out
-pub inside-tree : (t : Tree ℕ) (c x : ℕ) → c < size t → x < 2 ^ 64 → Within (size t) x → Inside (rungs (enclosing t 0 c)) (setWithout x c)
+pub inside-tree : (t : Tree ℕ) (c x : ℕ) → c < size t → x < 2 ^ size t → Inside (rungs (enclosing t 0 c)) (setWithout x c)
 unfolding size enclosing rungs
-inside-tree (leaf e) c x l f w =
-    empty-set 64 (setWithout x c) (minus-lt 64 x (oneSet c) f)
-    (λ d. not-true (member (setWithout x c) d) (λ y. true≢false (sym y ∙ ap (λ (s : ℕ → Bool). s d) (member-without x c) ∙ without-in c 1 d (member x) (at d (w d (minus-member x (oneSet c) d y .0))))))
+inside-tree (leaf e) c x l f =
+    empty-set 1 (setWithout x c) (minus-lt 1 x (oneSet c) f)
+    (λ d. not-true (member (setWithout x c) d) (λ y.
+    true≢false (sym y ∙ ap (λ (s : ℕ → Bool). s d) (member-without x c) ∙ without-in c 1 d (member x) (at d (small-member 1 (setWithout x c) d (minus-lt 1 x (oneSet c) f) y)))))
   where
     at : (d : ℕ) → d < 1 → (c ≤ d) × (d < c + 1)
     at d h = (omega arith, omega arith)
-inside-tree (group b f) c x l g w =
+inside-tree (group b f) c x l g =
     subst (λ (gs : List Rung). Inside gs (setWithout x c)) (sym (rungs-append (enclosingIn f 0 c) (root ∷ [])))
     (inside-last (rungs (enclosingIn f 0 c)) (rungOf root) (setWithout x c)
-    (λ d y. member-run 0 (size (group b f)) d ∙ inRun-yes 0 (size (group b f)) d (omega arith, omega (arith, w d (minus-member x (oneSet c) d y .0)))))
+    (λ d y. member-run 0 (size (group b f)) d
+    ∙ inRun-yes 0 (size (group b f)) d (omega arith, omega (arith, small-member (size (group b f)) (setWithout x c) d (minus-lt (size (group b f)) x (oneSet c) g) y))))
   where
     root : Group
     root = record { absorbing = b; first = 0; count = size (group b f) }

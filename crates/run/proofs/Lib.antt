@@ -1,6 +1,6 @@
-pub mod Orders
 pub mod Climbs
 pub mod Emptied
 pub mod Plans
 pub mod RowLoop
 pub mod RowsLoop
+pub mod Prepared

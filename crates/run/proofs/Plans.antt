@@ -1,24 +1,24 @@
 -- The plan: an access put, the loop over the predicates, and the outcome that an access gives.
 use Prim.Native.Nat.{ℕ, _+_, _-_, _*_, _≤_, _<_}
 use native.Mathlib.Omega.{arith}
-use mathlib.Core.Path.{_≡_, refl, sym, ap, ap₂, _∙_}
+use mathlib.Core.Path.{_≡_, ap, ap₂, _∙_}
 use mathlib.Core.Bool.{Bool}
 use mathlib.Core.Logic.{_⊎_, inl, inr}
-use mathlib.Core.List.{List, [], _∷_}
+use mathlib.Core.List.{List, []}
 use lib.ListN.{length, getD, set, take, drop, length-set}
 use lib.Seq.{getD-set-same, getD-set-other}
-use Rattle.catalogue.specs.Catalogue.{Catalogue, numbers}
+use Rattle.catalogue.specs.Catalogue.{numbers}
 use Rattle.catalogue.specs.Layout.{HasRow}
 use Rattle.predicate.specs.declared.answer.Answer.{Answer}
 use Rattle.predicate.specs.Kinds.{plainKind}
-use Rattle.predicate.specs.Meaning.{Predicate, truth, outcomeOf}
+use Rattle.predicate.specs.Meaning.{truth, outcomeOf}
 use Rattle.predicate.specs.Outcome.{HasRange, OutcomeIs}
 use Rattle.strategy.specs.Bools.{same?}
 use Rattle.query.specs.declared.table.PredicateRecord.{PredicateRecord}
 use Rattle.query.specs.Format.{predicateLimit}
 use Rattle.query.specs.Table.{recordAt}
 use Rattle.run.specs.Plan.{Access, accessWidth, planSize, accessAt, accessOf, HasColumn, HaveColumns, PutAccess, Planned}
-use Rattle.run.specs.Ready.{Accessed, HasOutcome, TruthIs}
+use Rattle.run.specs.Ready.{HasOutcome, TruthIs}
 
 -- the five stores of an access
 module _ (P : List ℕ) (c a b k p s : ℕ) (sized : length P ≡ planSize) (inside : c < predicateLimit) where

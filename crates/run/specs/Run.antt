@@ -2,7 +2,7 @@
 use Prim.Native.Nat.{ℕ}
 use mathlib.Core.Bool.{Bool}
 use mathlib.Core.List.{List, []}
-use lib.ListN.{length, getD}
+use lib.ListN.{getD}
 use Rattle.catalogue.specs.Catalogue.{Catalogue}
 use Rattle.predicate.specs.Meaning.{Predicate, outcome, truth}
 use Rattle.strategy.specs.Assignment.{Assignment, elem}

@@ -12,13 +12,10 @@ use Rattle.query.specs.Query.{Query}
 use Rattle.run.specs.Run.{isSelected, isProbed}
 use Rattle.run.specs.Ready.{Ready}
 
--- what a table holds, with bit `row` set besides in each line c with f c
-abbrev pub withRow : (held : ℕ → ℕ → Bool) → (row : ℕ) → (f : ℕ → Bool) → ℕ → ℕ → Bool
-withRow held row f c e = held c e || (eqb e row && f c)
-
--- a table of probes, a line for each predicate, before and after the probes f of a row are marked
+-- a table of probes, a line for each predicate, before and after bit `row` is set in the line of each c with f c
 abbrev pub RowMarked : (f : ℕ → Bool) → (row : ℕ) → (before after : List ℕ) → Type 0
-RowMarked f row T T′ = (held : ℕ → ℕ → Bool) → Holds held predicateLimit T → Holds (withRow held row f) predicateLimit T′
+RowMarked f row T T′ =
+    (held : ℕ → ℕ → Bool) → Holds held predicateLimit T → Holds (λ c e. held c e || (f c && eqb e row)) predicateLimit T′
 
 -- a row's answer is the query's value there, and the probes marked are those due
 pub record RowDone (C : Catalogue) (Q : Query) (order : List ℕ) (row : ℕ) (answer : Bool) (before after : List ℕ) : Type 0 where

@@ -2,14 +2,10 @@
 use borrow.Author.Tests.{eq-eqb, ne-eqb}
 use Rattle.run.proofs.climb.settles.Statement.{statement}
 use Rattle.run.proofs.climb.settles.Tie as tie
-use Rattle.run.proofs.climb.settles.Reads as reads
-use Rattle.run.proofs.climb.settles.Lts as lts
 
--- src/climb.rt:16:9
 returns : tie.Need-returns
 returns c = simp (eq-eqb _ _ (c .if1 .taken))
 
--- src/climb.rt:12:1
 returns-2 : tie.Need-returns-2
 returns-2 c = simp (ne-eqb _ _ (c .if1 .left))
 

@@ -1,5 +1,5 @@
 -- `fill_plan` meets its contract. Invariant: the predicates passed are planned.
-use Prim.Native.Nat.{_+_, _-_, _≤_}
+use Prim.Native.Nat.{_-_, _≤_}
 use native.Mathlib.Omega.{arith}
 use mathlib.Core.Path.{_≡_, _∙_}
 use lib.ListN.{length}
@@ -8,10 +8,6 @@ use Rattle.run.specs.Plan.{planSize, Planned}
 use Rattle.run.proofs.Plans.{planned-none, planned-more, planned-all, has-column, put-record}
 use Rattle.run.proofs.plan.fill_plan.Statement.{statement}
 use Rattle.run.proofs.plan.fill_plan.Tie as tie
-use Rattle.run.proofs.plan.fill_plan.Reads as reads
-use Rattle.run.proofs.plan.fill_plan.Lts as lts
-use Rattle.query.proofs.table.record_at.Reads as record-at-reads
-use Rattle.run.proofs.plan.put_access.Reads as put-access-reads
 
 abbrev Inv-loop : tie.InvT-loop
 Inv-loop tags starts table n plan₀ c₀ plan c = (c ≤ n) × (length plan ≡ planSize) × Planned tags starts table plan c
@@ -19,35 +15,27 @@ Inv-loop tags starts table n plan₀ c₀ plan c = (c ≤ n) × (length plan ≡
 abbrev μ-loop : tie.MeasureT-loop
 μ-loop tags starts table n plan₀ c₀ plan c = n - c
 
--- src/plan.rt:38:5
 loop-holds : tie.Need-loop-holds Inv-loop μ-loop
 loop-holds c = (omega arith, c .before .before .before .before .pre .1, planned-none (c .before .before .before .before .args .tags .now) (c .before .before .before .before .args .starts .now) (c .before .before .before .before .args .table .now) (c .before .before .before .before .args .plan .now))
 
--- src/plan.rt:39:34
 record-at-requires : tie.Need-record-at-requires Inv-loop μ-loop
 record-at-requires c κs = search needs
 
--- src/plan.rt:39:9
 put-access-requires : tie.Need-put-access-requires Inv-loop μ-loop
 put-access-requires c κs = (omega arith, c .before .before .before .loop .inv .1, has-column (c .before .before .before .before .before .before .before .before .args .tags .now) (c .before .before .before .before .before .before .before .before .args .starts .now) (c .before .before .before .before .before .before .before .before .args .table .now) (c .before .before .before .loop .c) (c .before .before .before .before .before .before .before .before .args .n) _ (omega arith) (c .before .record-at .ensures) (c .before .before .before .before .before .before .before .before .pre .3))
 
--- src/plan.rt:40:9
 add-c : tie.Need-add-c Inv-loop μ-loop
 add-c c = search needs
 
--- src/plan.rt:38:5
 loop-less : tie.Need-loop-less Inv-loop μ-loop
 loop-less c = search needs
 
--- src/plan.rt:38:5
 loop-again : tie.Need-loop-again Inv-loop μ-loop
 loop-again c = (omega arith, c .before .before .put-access .kept .1 .1 .1 .1 .0 ∙ c .before .before .before .before .before .before .loop .inv .1, planned-more (c .before .before .before .before .before .before .before .before .before .before .before .args .tags .now) (c .before .before .before .before .before .before .before .before .before .before .before .args .starts .now) (c .before .before .before .before .before .before .before .before .before .before .before .args .table .now) (c .before .before .before .before .before .before .loop .plan) _ (c .before .before .before .before .before .before .loop .c) (put-record (c .before .before .before .before .before .before .before .before .before .before .before .args .tags .now) (c .before .before .before .before .before .before .before .before .before .before .before .args .starts .now) (c .before .before .before .before .before .before .before .before .before .before .before .args .table .now) (c .before .before .before .before .before .before .loop .plan) _ (c .before .before .before .before .before .before .loop .c) _ (c .before .before .before .before .record-at .ensures) (c .before .before .put-access .ensures)) (c .before .before .before .before .before .before .loop .inv .2))
 
--- src/plan.rt:33:1
 same-length : tie.Need-same-length Inv-loop μ-loop
 same-length c = search needs
 
--- src/plan.rt:33:1
 returns : tie.Need-returns Inv-loop μ-loop
 returns c = planned-all (c .before .before .before .before .before .before .args .tags .now) (c .before .before .before .before .before .before .args .starts .now) (c .before .before .before .before .before .before .args .table .now) (c .before .loop .plan) (c .before .loop .c) (c .before .before .before .before .before .before .args .n) (omega arith) (c .before .loop .inv .2)
 

@@ -4,105 +4,76 @@ use Rattle.run.proofs.Plans.{tag-byte, kind-byte, operand-inside, has-r
 use borrow.Author.Needs.{needs}
 use Rattle.run.proofs.plan.outcome_of.Statement.{statement}
 use Rattle.run.proofs.plan.outcome_of.Tie as tie
-use Rattle.run.proofs.plan.outcome_of.Reads as reads
-use Rattle.run.proofs.plan.outcome_of.Lts as lts
-use Rattle.predicate.proofs.answer.truth_of.Reads as truth-of-reads
-use Rattle.predicate.proofs.outcome.outcome_at.Reads as outcome-at-reads
-use Rattle.run.proofs.plan.narrow.Reads as narrow-reads
 
--- src/plan.rt:63:13
 mul-i : tie.Need-mul-i
 mul-i c = search needs
 
--- src/plan.rt:64:22
 mul-narrow : tie.Need-mul-narrow
 mul-narrow c = search needs
 
--- src/plan.rt:64:22
 shared-slice-read-narrow : tie.Need-shared-slice-read-narrow
 shared-slice-read-narrow c = search needs
 
--- src/plan.rt:64:9
 narrow-requires : tie.Need-narrow-requires
 narrow-requires c κs = tag-byte _ _ _ _ _ (c .before .before .before .before .before .pre .3)
 
--- src/plan.rt:65:22
 add-start : tie.Need-add-start
 add-start c = search needs
 
--- src/plan.rt:65:17
 mul-start : tie.Need-mul-start
 mul-start c = search needs
 
--- src/plan.rt:65:17
 shared-slice-read-start : tie.Need-shared-slice-read-start
 shared-slice-read-start c = search needs
 
--- src/plan.rt:66:28
 add-narrow : tie.Need-add-narrow
 add-narrow c = search needs
 
--- src/plan.rt:66:23
 mul-narrow-2 : tie.Need-mul-narrow-2
 mul-narrow-2 c = search needs
 
--- src/plan.rt:66:23
 shared-slice-read-narrow-2 : tie.Need-shared-slice-read-narrow-2
 shared-slice-read-narrow-2 c = search needs
 
--- src/plan.rt:66:9
 narrow-requires-2 : tie.Need-narrow-requires-2
 narrow-requires-2 c κs = kind-byte _ _ _ _ _ (c .before .before .before .before .before .before .before .before .pre .3)
 
--- src/plan.rt:67:21
 add-from : tie.Need-add-from
 add-from c = search needs
 
--- src/plan.rt:67:16
 mul-from : tie.Need-mul-from
 mul-from c = search needs
 
--- src/plan.rt:67:16
 shared-slice-read-from : tie.Need-shared-slice-read-from
 shared-slice-read-from c = search needs
 
--- src/plan.rt:68:26
 add-to : tie.Need-add-to
 add-to c = search needs
 
--- src/plan.rt:68:21
 mul-to : tie.Need-mul-to
 mul-to c = search needs
 
--- src/plan.rt:68:21
 shared-slice-read-to : tie.Need-shared-slice-read-to
 shared-slice-read-to c = search needs
 
--- src/plan.rt:68:14
 add-to-2 : tie.Need-add-to-2
 add-to-2 c = omega (arith, operand-inside _ _ _ _ _ (c .before .before .before .before .before .before .before .before .before .before .before .pre .3))
 
--- src/plan.rt:75:9
 sub-outcome-at : tie.Need-sub-outcome-at
 sub-outcome-at c = search needs
 
--- src/plan.rt:75:9
 part-outcome-at-start : tie.Need-part-outcome-at-start
 part-outcome-at-start c = search needs
 
--- src/plan.rt:75:9
 part-outcome-at-end : tie.Need-part-outcome-at-end
 part-outcome-at-end c = omega (arith, operand-inside _ _ _ _ _ (c .before .before .before .before .before .before .before .before .before .before .before .pre .3))
 
--- src/plan.rt:69:33
 outcome-at-requires : tie.Need-outcome-at-requires
 outcome-at-requires c κs = (c .before .before .before .before .before .before .before .before .before .before .before .before .pre .0, has-row _ _ (c .before .before .before .before .before .before .before .before .before .before .before .before .args .plan .now) (c .before .before .before .before .before .before .before .before .before .before .before .before .args .c) _ _ _ (c .before .before .before .before .before .before .narrow .ensures) (c .before .before .before .narrow2 .ensures) (c .before .before .before .before .before .before .before .before .before .before .before .before .pre .3), has-range _ _ (c .before .before .before .before .before .before .before .before .before .before .before .before .args .plan .now) (c .before .before .before .before .before .before .before .before .before .before .before .before .args .c) _ _ _ (c .before .before .before .before .before .before .narrow .ensures) (c .before .before .before .narrow2 .ensures) (c .before .before .before .before .before .before .before .before .before .before .before .before .pre .3))
 
--- src/plan.rt:69:5
 truth-of-requires : tie.Need-truth-of-requires
 truth-of-requires c κs = search needs
 
--- src/plan.rt:52:1
 returns : tie.Need-returns
 returns c = truth-is _ _ (c .before .before .before .before .before .before .before .before .before .before .before .before .before .before .args .plan .now) (c .before .before .before .before .before .before .before .before .before .before .before .before .before .before .args .c) _ _ _ (c .before .before .before .before .before .before .before .before .narrow .ensures) (c .before .before .before .before .before .narrow2 .ensures) _ _ (c .before .outcome-at .ensures) (c .truth-of .ensures)
 

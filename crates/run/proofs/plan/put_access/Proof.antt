@@ -1,96 +1,71 @@
 -- `put_access` meets its contract: the five stores are the access.
-use mathlib.Core.Path.{_≡_, refl}
 use native.Mathlib.Omega.{arith}
 use lib.ListN.{length-set}
 use Rattle.run.proofs.Plans.{put-stored}
 use borrow.Author.Needs.{needs}
 use Rattle.run.proofs.plan.put_access.Statement.{statement}
 use Rattle.run.proofs.plan.put_access.Tie as tie
-use Rattle.run.proofs.plan.put_access.Reads as reads
-use Rattle.run.proofs.plan.put_access.Lts as lts
-use Rattle.fields.proofs.number.widen.Reads as widen-reads
 
--- src/plan.rt:23:13
 mul-i : tie.Need-mul-i
 mul-i c = search needs
 
--- src/plan.rt:25:37
 shared-slice-read-widen : tie.Need-shared-slice-read-widen
 shared-slice-read-widen c = search needs
 
--- src/plan.rt:25:15
 widen-requires : tie.Need-widen-requires
 widen-requires c κs = search needs
 
--- src/plan.rt:25:5
 mul-plan : tie.Need-mul-plan
 mul-plan c = search needs
 
--- src/plan.rt:25:5
 slice-write-plan : tie.Need-slice-write-plan
 slice-write-plan c = search needs
 
--- src/plan.rt:26:19
 mul-plan-2 : tie.Need-mul-plan-2
 mul-plan-2 c = search needs
 
--- src/plan.rt:26:19
 shared-slice-read-plan : tie.Need-shared-slice-read-plan
 shared-slice-read-plan c = search needs
 
--- src/plan.rt:26:10
 add-plan : tie.Need-add-plan
 add-plan c = search needs
 
--- src/plan.rt:26:5
 mul-plan-3 : tie.Need-mul-plan-3
 mul-plan-3 c = search needs
 
--- src/plan.rt:26:5
 slice-write-plan-2 : tie.Need-slice-write-plan-2
 slice-write-plan-2 c = simp length-set (omega arith)
 
--- src/plan.rt:27:10
 add-plan-2 : tie.Need-add-plan-2
 add-plan-2 c = search needs
 
--- src/plan.rt:27:5
 mul-plan-4 : tie.Need-mul-plan-4
 mul-plan-4 c = search needs
 
--- src/plan.rt:27:5
 slice-write-plan-3 : tie.Need-slice-write-plan-3
 slice-write-plan-3 c = simp length-set (omega arith)
 
--- src/plan.rt:28:10
 add-plan-3 : tie.Need-add-plan-3
 add-plan-3 c = search needs
 
--- src/plan.rt:28:5
 mul-plan-5 : tie.Need-mul-plan-5
 mul-plan-5 c = search needs
 
--- src/plan.rt:28:5
 slice-write-plan-4 : tie.Need-slice-write-plan-4
 slice-write-plan-4 c = simp length-set (omega arith)
 
--- src/plan.rt:29:10
 add-plan-4 : tie.Need-add-plan-4
 add-plan-4 c = search needs
 
--- src/plan.rt:29:5
 mul-plan-6 : tie.Need-mul-plan-6
 mul-plan-6 c = search needs
 
--- src/plan.rt:29:5
 slice-write-plan-5 : tie.Need-slice-write-plan-5
 slice-write-plan-5 c = simp length-set (omega arith)
 
--- src/plan.rt:19:1
 same-length : tie.Need-same-length
 same-length c = search needs
 
--- src/plan.rt:19:1
 returns : tie.Need-returns
 returns c = put-stored (c .before .before .before .before .before .before .args .plan .now) (c .before .before .before .before .before .before .args .c) _ _ _ _ _ (c .before .before .before .before .before .before .pre .1) (c .before .before .before .before .before .before .pre .0) _ (rw (c .before .widen .ensures .0))
 

@@ -1,7 +1,7 @@
 -- `work_rows` meets its contract. Invariant: whatever catalogue and query the tables show, the rows passed are in the bitmaps.
-use Prim.Native.Nat.{ℕ, _+_, _-_, _*_, _≤_, _<_}
+use Prim.Native.Nat.{_-_, _*_, _≤_}
 use native.Mathlib.Omega.{arith}
-use mathlib.Core.Path.{_≡_, refl, sym, ap, _∙_}
+use mathlib.Core.Path.{_≡_, refl, ap, _∙_}
 use mathlib.Core.Logic.{⊎-elim}
 use lib.ListN.{length}
 use borrow.Author.Needs.{needs}
@@ -13,50 +13,37 @@ use Rattle.run.specs.Ready.{Ready}
 use Rattle.run.proofs.RowsLoop.{RowsLoop, rows-none, rows-selected, rows-passed, rows-done}
 use Rattle.run.proofs.rows.work_rows.Statement.{statement}
 use Rattle.run.proofs.rows.work_rows.Tie as tie
-use Rattle.run.proofs.rows.work_rows.Reads as reads
-use Rattle.run.proofs.rows.work_rows.Lts as lts
-use Rattle.bitmaps.proofs.mark.mark.Reads as mark-reads
-use Rattle.run.proofs.row.walk_row.Reads as walk-row-reads
 
 abbrev Inv-loop : tie.InvT-loop
-Inv-loop fold catalogue question order plan masks sorts heights n rows selected₀ probes₀ row₀ selected probes row = (row ≤ rows) × (length selected ≡ lineSize) × (length probes ≡ predicateLimit * lineSize) × ((C : Catalogue) (Q : Query) → Ready fold catalogue question order plan masks sorts heights n C Q → rows ≡ C .rows → RowsLoop C Q order row selected probes)
+Inv-loop fold catalogue question order plan masks sorts heights n rows selected₀ probes₀ row₀ selected probes row = (row ≤ rows) × (length selected ≡ lineSize) × (length probes ≡ predicateLimit * lineSize) × ((C : Catalogue) (Q : Query) → Ready fold catalogue question order plan masks sorts heights n C Q → rows ≡ C .rows → RowsLoop C Q order n row selected probes)
 
 abbrev μ-loop : tie.MeasureT-loop
 μ-loop fold catalogue question order plan masks sorts heights n rows selected₀ probes₀ row₀ selected probes row = rows - row
 
--- src/rows.rt:26:5
 loop-holds : tie.Need-loop-holds Inv-loop μ-loop
-loop-holds c = let a = c .before .before .before .before .before .before .before .before .before .before .args in (omega arith, omega (arith, c .before .before .before .before .before .before .before .before .before .before .pre .1 .0 .size), c .before .before .before .before .before .before .before .before .before .before .pre .1 .1 .size, λ C Q R e. rows-none C Q (a .order .now) (a .selected .now) (a .probes .now) (c .before .before .before .before .before .before .before .before .before .before .pre .1 .0) (c .before .before .before .before .before .before .before .before .before .before .pre .1 .1))
+loop-holds c = let a = c .before .before .before .before .before .before .before .before .before .before .args in (omega arith, omega (arith, c .before .before .before .before .before .before .before .before .before .before .pre .1 .0 .size), c .before .before .before .before .before .before .before .before .before .before .pre .1 .1 .size, λ C Q R e. rows-none C Q (a .order .now) (a .n) (a .selected .now) (a .probes .now) (c .before .before .before .before .before .before .before .before .before .before .pre .1 .0) (c .before .before .before .before .before .before .before .before .before .before .pre .1 .1))
 
--- src/rows.rt:27:12
 walk-row-requires : tie.Need-walk-row-requires Inv-loop μ-loop
 walk-row-requires c κs = ((c .before .before .before .before .before .before .before .before .before .before .before .before .before .pre .0 .0, c .before .before .before .before .before .before .before .before .before .before .before .before .before .pre .0 .1, c .before .before .before .before .before .before .before .before .before .before .before .before .before .pre .0 .2, omega (arith, c .before .before .before .before .before .before .before .before .before .before .before .before .before .pre .0 .3)), c .before .before .loop .inv .2)
 
--- src/rows.rt:40:13
 mark-requires : tie.Need-mark-requires Inv-loop μ-loop
 mark-requires c κs = omega (arith, c .before .before .before .before .before .before .before .before .before .before .before .before .before .before .before .before .before .before .pre .0 .2 .short, c .before .before .before .before .before .before .before .before .before .before .before .before .before .before .before .before .before .before .pre .0 .3)
 
--- src/rows.rt:42:9
 add-row : tie.Need-add-row Inv-loop μ-loop
 add-row c = search needs
 
--- src/rows.rt:26:5
 loop-less : tie.Need-loop-less Inv-loop μ-loop
 loop-less c = search needs
 
--- src/rows.rt:26:5
 loop-again : tie.Need-loop-again Inv-loop μ-loop
-loop-again c = let a = c .before .before .before .before .before .before .before .before .before .before .before .before .before .before .before .before .before .args in let l = c .before .before .before .before .before .before .loop in (omega arith, ⊎-elim (λ w. ap length (w .5) ∙ w .2 .kept .0 ∙ l .inv .1) (λ w. ap length (w .1) ∙ l .inv .1) (c .if1 .came), c .before .before .before .walk-row .kept .1 .1 .1 .1 .1 .1 .1 .1 .1 .1 .0 ∙ l .inv .2, λ C Q R e. ⊎-elim (λ w. rows-selected C Q (a .order .now) (l .row) (l .selected) (l .probes) (c .before .before .before .walk-row .last .1 .1 .1 .1 .1 .1 .1 .1 .1 .1 .0) _ (omega (arith, R .short)) (l .inv .3 C Q R e) (c .before .before .before .walk-row .ensures C Q R (omega arith)) (w .0 .taken) _ _ _ (w .2 .ensures) (w .5) refl) (λ w. rows-passed C Q (a .order .now) (l .row) (l .selected) (l .probes) (c .before .before .before .walk-row .last .1 .1 .1 .1 .1 .1 .1 .1 .1 .1 .0) _ (omega (arith, R .short)) (l .inv .3 C Q R e) (c .before .before .before .walk-row .ensures C Q R (omega arith)) (w .0 .left) _ _ (w .1) refl) (c .if1 .came))
+loop-again c = let a = c .before .before .before .before .before .before .before .before .before .before .before .before .before .before .before .before .before .args in let l = c .before .before .before .before .before .before .loop in (omega arith, ⊎-elim (λ w. ap length (w .5) ∙ w .2 .kept .0 ∙ l .inv .1) (λ w. ap length (w .1) ∙ l .inv .1) (c .if1 .came), c .before .before .before .walk-row .kept .1 .1 .1 .1 .1 .1 .1 .1 .1 .1 .0 ∙ l .inv .2, λ C Q R e. ⊎-elim (λ w. rows-selected (a .fold .now) (a .catalogue .now) (a .question .now) (a .order .now) (a .plan .now) (a .masks .now) (a .sorts .now) (a .heights .now) (a .n) C Q R (l .row) (l .selected) (l .probes) (c .before .before .before .walk-row .last .1 .1 .1 .1 .1 .1 .1 .1 .1 .1 .0) _ (omega arith) (l .inv .3 C Q R e) (c .before .before .before .walk-row .ensures C Q R (omega arith)) (w .0 .taken) _ _ _ (w .2 .ensures) (w .5) refl) (λ w. rows-passed (a .fold .now) (a .catalogue .now) (a .question .now) (a .order .now) (a .plan .now) (a .masks .now) (a .sorts .now) (a .heights .now) (a .n) C Q R (l .row) (l .selected) (l .probes) (c .before .before .before .walk-row .last .1 .1 .1 .1 .1 .1 .1 .1 .1 .1 .0) _ (omega arith) (l .inv .3 C Q R e) (c .before .before .before .walk-row .ensures C Q R (omega arith)) (w .0 .left) _ _ (w .1) refl) (c .if1 .came))
 
--- src/rows.rt:7:1
 same-length : tie.Need-same-length Inv-loop μ-loop
 same-length c = search needs
 
--- src/rows.rt:7:1
 same-length-2 : tie.Need-same-length-2 Inv-loop μ-loop
 same-length-2 c = search needs
 
--- src/rows.rt:7:1
 returns : tie.Need-returns Inv-loop μ-loop
 returns c = let a = c .before .before .before .before .before .before .before .before .before .before .before .before .args in let l = c .before .loop in λ C Q R e. rows-done (a .fold .now) (a .catalogue .now) (a .question .now) (a .order .now) (a .plan .now) (a .masks .now) (a .sorts .now) (a .heights .now) (a .n) C Q R (l .row) (l .selected) (l .probes) (omega arith) (l .inv .3 C Q R e)
 
