@@ -1,3 +1,4 @@
 pub mod Inputs
+pub mod Finishing
 pub mod Cases
 pub mod Answers

@@ -1,6 +1,7 @@
 // How a run ends: its own tables counted, the counter tested, and only then the lent tables written.
 use crate::refusal::Refusal;
 use crate::word::Answer;
+use bitmaps::copy::Line;
 ghost use mathlib.Core.Path.{_≡_};
 ghost use Prim.Native.Nat.{_*_, _≤_};
 ghost use lib.ListN.{length};
@@ -45,7 +46,8 @@ pub fn finish(
         return Answer::Refused(Refusal::COUNTER_REFUSED);
     }
     let found = bitmaps::ones::count_ones(selected);
-    let looked = bitmaps::ones::count_ones(probes);
+    let lines = n * Line::SIZE;
+    let looked = bitmaps::ones::count_ones(&probes[..lines]);
     let before = fields::counter::eight_bytes(tally);
     if Counter::LIMIT - before < looked {
         return Answer::Refused(Refusal::COUNTER_REFUSED);
