@@ -10,6 +10,7 @@ use lib.ListN.{length, getD}
 use lib.Pow.{pow-pos}
 use Rattle.catalogue.specs.Format.{rowLimit}
 use Rattle.catalogue.specs.Catalogue.{Catalogue}
+use Rattle.predicate.specs.Outcome.{Folds}
 use Rattle.strategy.specs.Bools.{eqb-ne}
 use Rattle.strategy.specs.Assignment.{Among}
 use Rattle.strategy.specs.OrderLaws.{order-law}
@@ -28,8 +29,8 @@ use Rattle.query.specs.Format.{predicateLimit, depthLimit}
 use Rattle.query.specs.Query.{Query}
 use Rattle.query.specs.Ladder.{LaddersSized, rungsFrom}
 use Rattle.run.specs.Run.{predicateAt, assignmentAt, isSelected, traceAt}
-use Rattle.run.specs.Plan.{accessAt}
-use Rattle.run.specs.Ready.{TruthIs, HasOutcome, Ready}
+use Rattle.run.specs.Plan.{planSize, accessAt}
+use Rattle.run.specs.Ready.{TruthIs, HasOutcome, Ready, RowReady}
 use Rattle.run.specs.Worked.{RowMarked, RowDone}
 use Rattle.run.proofs.Emptied.{climb-emptied, inside-tree}
 
@@ -55,33 +56,40 @@ pub record RowLoop (C : Catalogue) (Q : Query) (order : List ℕ) (row n i live 
   pub small : live < 2 ^ n
   pub marked : RowMarked (member looked) row before now
 
--- the bounds of a turn of c
-pub record TurnFits (M S H : List ℕ) (n row c : ℕ) : Type 0 where
+-- what a turn of c relies on: bounds of its numbers, and its outcome by the plan
+pub record TurnFits (F b q P M S H : List ℕ) (n row c : ℕ) : Type 0 where
   pub inside : c < n
   pub few : n ≤ predicateLimit
   pub row-inside : row < rowLimit
   pub low : getD H c 0 ≤ depthLimit
   pub sized : LaddersSized M S H
+  pub folds : Folds F
+  pub plan-size : length P ≡ planSize
+  pub outcome : HasOutcome b q (accessAt P c) row
 
-module _ (F b q order P M S H : List ℕ) (n : ℕ) (C : Catalogue) (Q : Query) (R : Ready F b q order P M S H n C Q) where
-  -- a number of the order
-  turn-inside : (i : ℕ) → i < length order → getD order i 0 < n
-  turn-inside i h = order-law n order .0 (R .ordered) .inside (getD order i 0) (among-at order i h)
+-- the number at a place of the order
+turn-inside : {F b q order P M S H : List ℕ} {n : ℕ} {C : Catalogue} {Q : Query} → Ready F b q order P M S H n C Q
+    → (i : ℕ) → i < length order → getD order i 0 < n
+turn-inside {order = order} {n = n} R i h = order-law n order .0 (R .ordered) .inside (getD order i 0) (among-at order i h)
 
-  pub turn-fits : (row i c : ℕ) → row < C .rows → i < length order → c ≡ getD order i 0 → TurnFits M S H n row c
-  turn-fits row i c l h e = record {
-    inside = rw e (turn-inside i h);
-    few = R .few;
-    row-inside = omega (arith, R .short);
-    low = rw e (R .low (getD order i 0) (turn-inside i h));
-    sized = R .ladders-size;
-  }
+pub turn-fits : {F b q order P M S H : List ℕ} {n row : ℕ} → RowReady F b q order P M S H n row → (i : ℕ) {c : ℕ} → i < length order → c ≡ getD order i 0
+    → TurnFits F b q P M S H n row c
+turn-fits {n = n} (C, Q, R, l) i {c} h e =
+    let k : c < n = rw e (turn-inside R i h) in
+    record {
+      inside = k;
+      few = R .few;
+      row-inside = omega (arith, R .short);
+      low = R .low c k;
+      sized = R .ladders-size;
+      folds = R .folds;
+      plan-size = R .plan-size;
+      outcome = (C, predicateAt Q c, R .accessed c k, l);
+    }
 
-  pub turn-outcome : (row c : ℕ) → row < C .rows → c < n → HasOutcome b q (accessAt P c) row
-  turn-outcome row c l k = (C, predicateAt Q c, R .accessed c k, l)
-
-  pub row-start : (row live : ℕ) (T : List ℕ) → live ≡ belowSet n → RowLoop C Q order row n 0 live T T
-  row-start row live T e = record {
+module _ {F b q order P M S H : List ℕ} {n : ℕ} {C : Catalogue} {Q : Query} (R : Ready F b q order P M S H n C Q) where
+  pub row-start : {row live : ℕ} {T : List ℕ} → live ≡ belowSet n → RowLoop C Q order row n 0 live T T
+  row-start {row} {live} {T} e = record {
     looked = 0;
     state =
         subst (λ (x : ℕ). Row (Q .tree) (assignmentAt C Q row) order 0 x 0) (ap belowSet (R .leaves) ∙ sym e)
@@ -91,13 +99,13 @@ module _ (F b q order P M S H : List ℕ) (n : ℕ) (C : Catalogue) (Q : Query) 
     marked = marked-none row T;
   }
 
-  module _ (row i live : ℕ) (T T1 : List ℕ) (L : RowLoop C Q order row n i live T T1) where
+  module _ {row i live : ℕ} {T T1 : List ℕ} (L : RowLoop C Q order row n i live T T1) where
     pub row-end : length order ≤ i → ⊥
     row-end h = turns.row-end (Q .tree) (assignmentAt C Q row) order i live (L .looked) (L .state) h
 
-    pub row-pass : i < length order → (r : Bool) → r ≡ member live (getD order i 0) → r ≡ false → (live′ : ℕ) (T2 : List ℕ) → live′ ≡ live → T2 ≡ T1
+    pub row-pass : i < length order → {r : Bool} → r ≡ member live (getD order i 0) → r ≡ false → {live′ : ℕ} {T2 : List ℕ} → live′ ≡ live → T2 ≡ T1
         → RowLoop C Q order row n (i + 1) live′ T T2
-    row-pass h r e f live′ T2 x y = rw (x, y) (record {
+    row-pass h e f x y = rw (x, y) (record {
       looked = L .looked;
       state = turns.row-pass (Q .tree) (assignmentAt C Q row) order i live (L .looked) (L .state) (R .numbered) h (sym e ∙ f);
       small = L .small;
@@ -105,12 +113,12 @@ module _ (F b q order P M S H : List ℕ) (n : ℕ) (C : Catalogue) (Q : Query) 
     })
 
     -- a probe of c, with its outcome v, its mark and its climb
-    module _ (h : i < length order) (l : row < C .rows) (r : Bool) (e : r ≡ member live (getD order i 0)) (y : r ≡ true)
-        (c : ℕ) (at : c ≡ getD order i 0) (v : Bool) (tr : TruthIs b q (accessAt P c) row v)
-        (T2 : List ℕ) (m : Marked T1 (c * lineBits + row) T2) (x : ℕ) (wo : x ≡ setWithout live (getD order i 0))
-        (live′ : ℕ) (cl : live′ ≡ climbMasks v (rungsFrom M S (depthLimit * c) (depthLimit * c + getD H c 0 - depthLimit * c)) x .live) where
+    module _ (h : i < length order) (l : row < C .rows) {r : Bool} (e : r ≡ member live (getD order i 0)) (y : r ≡ true)
+        {c : ℕ} (at : c ≡ getD order i 0) {v : Bool} (tr : TruthIs b q (accessAt P c) row v)
+        {T2 : List ℕ} (m : Marked T1 (c * lineBits + row) T2) {x : ℕ} (wo : x ≡ setWithout live (getD order i 0))
+        {live′ : ℕ} (cl : live′ ≡ climbMasks v (rungsFrom M S (depthLimit * c) (depthLimit * c + getD H c 0 - depthLimit * c)) x .live) where
       outcome-is : v ≡ assignmentAt C Q row (getD order i 0)
-      outcome-is = tr C (predicateAt Q c) (R .accessed c (omega (arith, turn-inside i h))) l ∙ ap (assignmentAt C Q row) at
+      outcome-is = tr C (predicateAt Q c) (R .accessed c (omega (arith, turn-inside R i h))) l ∙ ap (assignmentAt C Q row) at
 
       gs : List Rung
       gs = rungs (enclosing (Q .tree) 0 (getD order i 0))
@@ -125,7 +133,7 @@ module _ (F b q order P M S H : List ℕ) (n : ℕ) (C : Catalogue) (Q : Query) 
           let z : depthLimit * c + getD H c 0 - depthLimit * c ≡ getD H c 0 = omega arith in
           cl ∙ ap (λ (k : ℕ). climbMasks v (rungsFrom M S (depthLimit * c) k) x .live) z
           ∙ ap₂ (λ (d w : ℕ). climbMasks v (rungsFrom M S (depthLimit * d) (getD H d 0)) w .live) at wo
-          ∙ ap (λ (k : List Rung). climbMasks v k (setWithout live (getD order i 0)) .live) (R .ladders (getD order i 0) (turn-inside i h))
+          ∙ ap (λ (k : List Rung). climbMasks v k (setWithout live (getD order i 0)) .live) (R .ladders (getD order i 0) (turn-inside R i h))
 
       small-without : setWithout live (getD order i 0) < 2 ^ n
       small-without = minus-lt n live (oneSet (getD order i 0)) (L .small)
@@ -134,15 +142,15 @@ module _ (F b q order P M S H : List ℕ) (n : ℕ) (C : Catalogue) (Q : Query) 
       unfolding gs s
       settled-is =
           climb-emptied n v gs (setWithout live (getD order i 0)) small-without
-          (inside-tree (Q .tree) (getD order i 0) live (omega (arith, turn-inside i h, R .leaves)) (rw (R .leaves) (L .small)))
+          (inside-tree (Q .tree) (getD order i 0) live (omega (arith, turn-inside R i h, R .leaves)) (rw (R .leaves) (L .small)))
           ∙ ap (λ (w : ℕ). eqb w 0) (sym left-is)
 
       marked : RowMarked (member (setWith (L .looked) (getD order i 0))) row T T2
       marked = marked-more (L .looked) row (getD order i 0) T T1 T2 (omega (arith, R .short)) (L .marked) (rw at at m)
 
-      pub row-probe : (live′ ≡ 0 → ⊥) → (live″ : ℕ) (T3 : List ℕ) → live″ ≡ live′ → T3 ≡ T2 → RowLoop C Q order row n (i + 1) live″ T T3
+      pub row-probe : (live′ ≡ 0 → ⊥) → {live″ : ℕ} {T3 : List ℕ} → live″ ≡ live′ → T3 ≡ T2 → RowLoop C Q order row n (i + 1) live″ T T3
       unfolding gs s
-      row-probe g live″ T3 u w = rw (u, w, left-is) (record {
+      row-probe g u w = rw (u, w, left-is) (record {
         looked = setWith (L .looked) (getD order i 0);
         state =
             turns.row-probe (Q .tree) (assignmentAt C Q row) order i live (L .looked) (L .state) (R .numbered) h (sym e ∙ y) v outcome-is s refl

@@ -35,13 +35,13 @@ within-none f n lines T h = holds-same (λ c e l k. go c e (ltb c n)) h
     go c e true = sym (ap (λ (b : Bool). b && f c e) (ltb-no e 0 (omega arith)))
     go c e false = refl
 
-pub rows-none : (C : Catalogue) (Q : Query) (order : List ℕ) (n : ℕ) (S T : List ℕ) → Empty 1 S → Empty predicateLimit T → RowsLoop C Q order n 0 S T
-rows-none C Q order n S T s t = record {
+pub rows-none : {C : Catalogue} {Q : Query} {order : List ℕ} {n : ℕ} {S T : List ℕ} → Empty 1 S → Empty predicateLimit T → RowsLoop C Q order n 0 S T
+rows-none {C} {Q} {order} {n} {S} {T} s t = record {
   selected-rows = within-none (λ c. isSelected C Q) 1 1 S s;
   probed-rows = within-none (isProbed C Q order) n predicateLimit T t;
 }
 
-module _ (F b q order P M K H : List ℕ) (n : ℕ) (C : Catalogue) (Q : Query) (R : Ready F b q order P M K H n C Q) where
+module _ {F b q order P M K H : List ℕ} {n : ℕ} {C : Catalogue} {Q : Query} (R : Ready F b q order P M K H n C Q) where
   -- only predicates of the query are probed
   probed-inside : (c row : ℕ) → isProbed C Q order c row ≡ (ltb c n && isProbed C Q order c row)
   unfolding traceAt
@@ -56,26 +56,26 @@ module _ (F b q order P M K H : List ℕ) (n : ℕ) (C : Catalogue) (Q : Query) 
           (trace-among (eval (Q .tree)) (assignmentAt C Q row) order c (elem-among c (predicates (traceAt C Q order row)) z)) in
           omega (arith, ltb-le c n y)))
 
-  module _ (row : ℕ) (S T T′ : List ℕ) (r : Bool) (l : row < C .rows) (L : RowsLoop C Q order n row S T) (D : RowDone C Q order row r T T′) where
+  module _ {row : ℕ} {S T T′ : List ℕ} {r : Bool} (l : row < C .rows) (L : RowsLoop C Q order n row S T) (D : RowDone C Q order row r T T′) where
     one-more : Holds (within (isProbed C Q order) n (row + 1)) predicateLimit T′
     one-more =
         holds-row (isProbed C Q order) n row predicateLimit T′ (λ c. isProbed C Q order c row) (λ c k. probed-inside c row)
         (D .probed (within (isProbed C Q order) n row) (L .probed-rows))
 
-    pub rows-selected : r ≡ true → (S′ S″ T″ : List ℕ) → Marked S row S′ → S″ ≡ S′ → T″ ≡ T′ → RowsLoop C Q order n (row + 1) S″ T″
-    rows-selected y S′ S″ T″ m p t = rw (p, t) (record {
+    pub rows-selected : r ≡ true → {S′ S″ T″ : List ℕ} → Marked S row S′ → S″ ≡ S′ → T″ ≡ T′ → RowsLoop C Q order n (row + 1) S″ T″
+    rows-selected y {S′} m p t = rw (p, t) (record {
       selected-rows = holds-selected (isSelected C Q) row S (L .selected-rows) S′ (omega (arith, R .short)) (sym (D .selected) ∙ y) m;
       probed-rows = one-more;
     })
 
-    pub rows-passed : r ≡ false → (S″ T″ : List ℕ) → S″ ≡ S → T″ ≡ T′ → RowsLoop C Q order n (row + 1) S″ T″
-    rows-passed y S″ T″ p t = rw (p, t) (record {
+    pub rows-passed : r ≡ false → {S″ T″ : List ℕ} → S″ ≡ S → T″ ≡ T′ → RowsLoop C Q order n (row + 1) S″ T″
+    rows-passed y p t = rw (p, t) (record {
       selected-rows = holds-passed (isSelected C Q) row S (L .selected-rows) (sym (D .selected) ∙ y);
       probed-rows = one-more;
     })
 
-  pub rows-done : (row : ℕ) (S T : List ℕ) → row ≡ C .rows → RowsLoop C Q order n row S T → Worked C Q order n S T
-  rows-done row S T e L = record {
+  pub rows-done : {row : ℕ} {S T : List ℕ} → row ≡ C .rows → RowsLoop C Q order n row S T → Worked C Q order n S T
+  rows-done {row} {S} {T} e L = record {
     selected-bits = selected;
     selected-bitmap = holds-bitmap (isSelected C Q) (C .rows) S (R .short) selected;
     selected-ones = holds-ones-one (isSelected C Q) (C .rows) S (R .short) selected ∙ sym (bitmap-ones (isSelected C Q) (C .rows));

@@ -15,13 +15,14 @@ use Rattle.run.proofs.rows.work_rows.Statement.{statement}
 use Rattle.run.proofs.rows.work_rows.Tie as tie
 
 abbrev Inv-loop : tie.InvT-loop
-Inv-loop fold catalogue question order plan masks sorts heights n rows selected₀ probes₀ row₀ selected probes row = (row ≤ rows) × (length selected ≡ lineSize) × (length probes ≡ predicateLimit * lineSize) × ((C : Catalogue) (Q : Query) → Ready fold catalogue question order plan masks sorts heights n C Q → rows ≡ C .rows → RowsLoop C Q order n row selected probes)
+Inv-loop fold catalogue question order plan masks sorts heights n rows selected₀ probes₀ row₀ selected probes row =
+    (row ≤ rows) × (length selected ≡ lineSize) × (length probes ≡ predicateLimit * lineSize) × ((C : Catalogue) (Q : Query) → Ready fold catalogue question order plan masks sorts heights n C Q → rows ≡ C .rows → RowsLoop C Q order n row selected probes)
 
 abbrev μ-loop : tie.MeasureT-loop
 μ-loop fold catalogue question order plan masks sorts heights n rows selected₀ probes₀ row₀ selected probes row = rows - row
 
 loop-holds : tie.Need-loop-holds Inv-loop μ-loop
-loop-holds c = let a = c .before .before .before .before .before .before .before .before .before .before .args in (omega arith, omega (arith, c .before .before .before .before .before .before .before .before .before .before .pre .1 .0 .size), c .before .before .before .before .before .before .before .before .before .before .pre .1 .1 .size, λ C Q R e. rows-none C Q (a .order .now) (a .n) (a .selected .now) (a .probes .now) (c .before .before .before .before .before .before .before .before .before .before .pre .1 .0) (c .before .before .before .before .before .before .before .before .before .before .pre .1 .1))
+loop-holds c = (omega arith, omega (arith, c .before .before .before .before .before .before .before .before .before .before .pre .1 .0 .size), c .before .before .before .before .before .before .before .before .before .before .pre .1 .1 .size, λ C Q R e. rows-none (c .before .before .before .before .before .before .before .before .before .before .pre .1 .0) (c .before .before .before .before .before .before .before .before .before .before .pre .1 .1))
 
 walk-row-requires : tie.Need-walk-row-requires Inv-loop μ-loop
 walk-row-requires c κs = ((c .before .before .before .before .before .before .before .before .before .before .before .before .before .pre .0 .0, c .before .before .before .before .before .before .before .before .before .before .before .before .before .pre .0 .1, c .before .before .before .before .before .before .before .before .before .before .before .before .before .pre .0 .2, omega (arith, c .before .before .before .before .before .before .before .before .before .before .before .before .before .pre .0 .3)), c .before .before .loop .inv .2)
@@ -36,7 +37,16 @@ loop-less : tie.Need-loop-less Inv-loop μ-loop
 loop-less c = search needs
 
 loop-again : tie.Need-loop-again Inv-loop μ-loop
-loop-again c = let a = c .before .before .before .before .before .before .before .before .before .before .before .before .before .before .before .before .before .args in let l = c .before .before .before .before .before .before .loop in (omega arith, ⊎-elim (λ w. ap length (w .5) ∙ w .2 .kept .0 ∙ l .inv .1) (λ w. ap length (w .1) ∙ l .inv .1) (c .if1 .came), c .before .before .before .walk-row .kept .1 .1 .1 .1 .1 .1 .1 .1 .1 .1 .0 ∙ l .inv .2, λ C Q R e. ⊎-elim (λ w. rows-selected (a .fold .now) (a .catalogue .now) (a .question .now) (a .order .now) (a .plan .now) (a .masks .now) (a .sorts .now) (a .heights .now) (a .n) C Q R (l .row) (l .selected) (l .probes) (c .before .before .before .walk-row .last .1 .1 .1 .1 .1 .1 .1 .1 .1 .1 .0) _ (omega arith) (l .inv .3 C Q R e) (c .before .before .before .walk-row .ensures C Q R (omega arith)) (w .0 .taken) _ _ _ (w .2 .ensures) (w .5) refl) (λ w. rows-passed (a .fold .now) (a .catalogue .now) (a .question .now) (a .order .now) (a .plan .now) (a .masks .now) (a .sorts .now) (a .heights .now) (a .n) C Q R (l .row) (l .selected) (l .probes) (c .before .before .before .walk-row .last .1 .1 .1 .1 .1 .1 .1 .1 .1 .1 .0) _ (omega arith) (l .inv .3 C Q R e) (c .before .before .before .walk-row .ensures C Q R (omega arith)) (w .0 .left) _ _ (w .1) refl) (c .if1 .came))
+loop-again c =
+    let l = c .before .before .before .before .before .before .loop in (
+      omega arith,
+      ⊎-elim (λ w. ap length (w .5) ∙ w .2 .kept .0 ∙ l .inv .1) (λ w. ap length (w .1) ∙ l .inv .1) (c .if1 .came),
+      c .before .before .before .walk-row .kept .1 .1 .1 .1 .1 .1 .1 .1 .1 .1 .0 ∙ l .inv .2,
+      λ C Q R e. ⊎-elim
+          (λ w. rows-selected R (omega arith) (l .inv .3 C Q R e) (c .before .before .before .walk-row .ensures C Q R (omega arith)) (w .0 .taken) (w .2 .ensures) (w .5) refl)
+          (λ w. rows-passed R (omega arith) (l .inv .3 C Q R e) (c .before .before .before .walk-row .ensures C Q R (omega arith)) (w .0 .left) (w .1) refl)
+          (c .if1 .came),
+    )
 
 same-length : tie.Need-same-length Inv-loop μ-loop
 same-length c = search needs
@@ -45,7 +55,7 @@ same-length-2 : tie.Need-same-length-2 Inv-loop μ-loop
 same-length-2 c = search needs
 
 returns : tie.Need-returns Inv-loop μ-loop
-returns c = let a = c .before .before .before .before .before .before .before .before .before .before .before .before .args in let l = c .before .loop in λ C Q R e. rows-done (a .fold .now) (a .catalogue .now) (a .question .now) (a .order .now) (a .plan .now) (a .masks .now) (a .sorts .now) (a .heights .now) (a .n) C Q R (l .row) (l .selected) (l .probes) (omega arith) (l .inv .3 C Q R e)
+returns c = λ C Q R e. rows-done R (omega arith) (c .before .loop .inv .3 C Q R e)
 
 pub work-rows-spec : {M : Type 1} → statement M
 work-rows-spec =
