@@ -1,3 +1,4 @@
-// Document 01's fields: numbers with the most significant byte first, and the header of a field.
+// Document 01's fields: numbers with the most significant byte first, the header of a field, and the counter.
+pub mod counter;
 pub mod header;
 pub mod number;

@@ -1,0 +1,55 @@
+-- `count_ones` meets its contract. Invariant: the sum and the ones of what is left are the ones of the table.
+use Prim.Native.Nat.{_+_, _-_, _*_, _≤_}
+use native.Mathlib.Omega.{arith}
+use mathlib.Core.Path.{_≡_}
+use lib.ListN.{length, drop}
+use Rattle.bitmaps.specs.Bitmap.{onesIn}
+use Rattle.bitmaps.specs.OnesLaws.{ones-next, ones-end}
+use borrow.Author.Needs.{needs}
+use Rattle.bitmaps.proofs.ones.count_ones.Statement.{statement}
+use Rattle.bitmaps.proofs.ones.count_ones.Tie as tie
+
+abbrev Inv-loop : tie.InvT-loop
+Inv-loop table sum₀ i₀ sum i = (i ≤ length table) × (sum ≤ 8 * i) × (sum + onesIn (drop i table) ≡ onesIn table)
+
+abbrev μ-loop : tie.MeasureT-loop
+μ-loop table sum₀ i₀ sum i = length table - i
+
+loop-holds : tie.Need-loop-holds Inv-loop μ-loop
+loop-holds c = search needs
+
+shared-slice-read-ones-of-byte : tie.Need-shared-slice-read-ones-of-byte Inv-loop μ-loop
+shared-slice-read-ones-of-byte c = search needs
+
+ones-of-byte-requires : tie.Need-ones-of-byte-requires Inv-loop μ-loop
+ones-of-byte-requires c κs = search needs
+
+add-sum : tie.Need-add-sum Inv-loop μ-loop
+add-sum c = search needs
+
+add-i : tie.Need-add-i Inv-loop μ-loop
+add-i c = search needs
+
+loop-less : tie.Need-loop-less Inv-loop μ-loop
+loop-less c = search needs
+
+loop-again : tie.Need-loop-again Inv-loop μ-loop
+loop-again c = (search needs, search needs, omega (arith, ones-next (c .before .before .before .before .before .args .table .now) (c .before .before .before .loop .i) (omega arith)))
+
+returns : tie.Need-returns Inv-loop μ-loop
+returns c = omega (arith, ones-end (c .before .before .before .args .table .now) (c .before .loop .i) (omega arith))
+
+pub count-ones-spec : {M : Type 1} → statement M
+count-ones-spec =
+    tie.close
+    (tie.spec
+    Inv-loop
+    μ-loop
+    loop-holds
+    shared-slice-read-ones-of-byte
+    ones-of-byte-requires
+    add-sum
+    add-i
+    loop-less
+    loop-again
+    returns)

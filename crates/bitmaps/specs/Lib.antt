@@ -1,0 +1,9 @@
+pub mod Sums
+pub mod SumLaws
+pub mod Bitmap
+pub mod OnesLaws
+pub mod Bit
+pub mod BitLaws
+pub mod BitmapLaws
+pub mod Table
+pub mod TableLaws
