@@ -1,6 +1,7 @@
 pub mod Format
 pub mod Query
 pub mod Decode
+pub mod Encode
 pub mod Table
 pub mod Ladder
 pub mod Sound

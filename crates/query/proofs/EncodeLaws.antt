@@ -1,0 +1,148 @@
+-- The bytes of an accepted query are the encoding of its tree with its payloads. By induction over readings: the query from a member
+-- on is the member's encoding, then the query from the place after it on.
+use Prim.Native.Nat.{ℕ, zero, suc, _+_, _-_, _*_, _/_, _%_, _≤_, _<_}
+use native.Mathlib.Nat.{add-zero}
+use native.Mathlib.Omega.{arith}
+use mathlib.Core.Path.{_≡_, refl, sym, ap, ap₂, _∙_}
+use mathlib.Core.Bool.{Bool, true, false, _||_}
+use mathlib.Core.List.{List, [], _∷_, _++_, map, map-append, append-assoc, append-nil}
+use lib.ListN.{length, getD, take, drop, length-append, length-drop, length-map, take-append-drop, List·getD-append}
+use lib.Seq.{drop-cons, drop-drop, drop-length, getD-append-add}
+use lib.Dec.{eqb}
+use borrow.Author.Tests.{eqb-true}
+use Rattle.fields.specs.Decoded.{Decoded, accepted}
+use Rattle.fields.specs.Numbers.{numberAt, bytesOf}
+use Rattle.fields.proofs.Laws.{number-two}
+use Rattle.fields.specs.Header.{headerSize}
+use Rattle.catalogue.specs.Catalogue.{Catalogue}
+use Rattle.strategy.specs.Tree.{Tree, leaf, group, Forest, none, more, relabel, relabels}
+use Rattle.predicate.specs.Meaning.{Predicate}
+use Rattle.predicate.specs.Payload.{tagsOf, validPayload, predicateOf, payloadHead}
+use Rattle.predicate.proofs.PayloadLaws.{valid-payload}
+use Rattle.query.specs.Format.{conjunctionTag, disjunctionTag, predicateTag}
+use Rattle.query.specs.Query.{Query}
+use Rattle.query.specs.Decode.{payloadAt, payloadOf, settling, decodeTagged, decodeQuery}
+use Rattle.query.specs.Encode.{fieldOf, groupTag, encode, encodes, payloadNumbered, payloads}
+use Rattle.query.proofs.Payloads.{numbered-left, numbered-right, payload-again}
+use Rattle.query.proofs.Induction.{FieldAt, LeafAt, GroupAt, Said, Steps, accepted-holds}
+
+-- each element is a byte, as those of a lent slice are
+abbrev pub Bytes : List ℕ → Type 0
+Bytes q = (i : ℕ) → getD q i 0 < 256
+
+-- from this number on the labels are the payloads of these predicates
+abbrev Labels : (g : ℕ → List ℕ) → (number : ℕ) → List Predicate → Type 0
+Labels g number ps = (i : ℕ) → i < length ps → g (number + i) ≡ payloadNumbered ps i
+
+module _ (g : ℕ → List ℕ) (number : ℕ) (ps rest : List Predicate) (labels : Labels g number (ps ++ rest)) where
+  labels-left : Labels g number ps
+  labels-left i l = labels i (rw length-append (omega arith)) ∙ numbered-left ps rest i l
+
+  labels-right : Labels g (number + length ps) rest
+  labels-right i l =
+      let z : number + length ps + i ≡ number + (length ps + i) = omega arith in
+      ap g z ∙ labels (length ps + i) (rw length-append (omega arith)) ∙ numbered-right ps rest i
+
+group-tag : (tag : ℕ) → (eqb tag conjunctionTag || eqb tag disjunctionTag) ≡ true → tag ≡ groupTag (settling tag)
+group-tag tag h = go (eqb tag disjunctionTag) refl (eqb tag conjunctionTag) refl h
+  where
+    go : (x : Bool) → eqb tag disjunctionTag ≡ x → (y : Bool) → eqb tag conjunctionTag ≡ y → (y || x) ≡ true → tag ≡ groupTag x
+    go true e y f g = eqb-true tag disjunctionTag e
+    go false e true f g = eqb-true tag conjunctionTag f
+    go false e false f g = let z : _≡_ {A = ℕ} 0 1 = cc in absurd (omega arith)
+
+module _ (q : List ℕ) (bytes : Bytes q) where
+  length-written : (at : ℕ) → at + 2 ≤ length q → drop at q ≡ bytesOf 2 (numberAt q at 2) ++ drop (at + 2) q
+  unfolding bytesOf
+  length-written at l =
+      let y : suc at ≡ at + 1 = omega arith in
+      let z : suc (at + 1) ≡ at + 2 = omega arith in
+      let e : (getD q at 0 * 256 + getD q (at + 1) 0) / 256 % 256 ≡ getD q at 0 = omega (arith, bytes at, bytes (at + 1)) in
+      let f : (getD q at 0 * 256 + getD q (at + 1) 0) / 1 % 256 ≡ getD q (at + 1) 0 = omega (arith, bytes at, bytes (at + 1)) in
+      rw (number-two q at, e, f, drop-cons q at 0 (omega arith), y, drop-cons q (at + 1) 0 (omega arith), z)
+
+  module _ (at end tag start stop : ℕ) (stands : FieldAt q at end tag start stop) (inside : end ≤ length q) where
+    header-written : drop at q ≡ tag ∷ (bytesOf 2 (stop - start) ++ drop start q)
+    header-written =
+        let b = stands .begins in
+        let s = stands .sized in
+        let w = stands .within in
+        let y : suc at ≡ at + 1 = omega arith in
+        let z : at + 1 + 2 ≡ start = omega arith in
+        let n : numberAt q (at + 1) 2 ≡ stop - start = omega arith in
+        drop-cons q at 0 (omega arith) ∙ rw (stands .tagged, y, length-written (at + 1) (omega arith), n, z)
+
+    field-written : (payload : List ℕ) → drop start q ≡ payload ++ drop stop q → drop at q ≡ fieldOf tag payload ++ drop stop q
+    unfolding fieldOf
+    field-written payload h =
+        let s = stands .sized in
+        let w = stands .within in
+        let a : length q - start ≡ length payload + (length q - stop) = simp (length-drop, length-append) at (ap length h) in
+        let n : stop - start ≡ length payload = omega arith in
+        header-written ∙ rw (n, h) (ap (λ l. tag ∷ l) (sym (append-assoc (bytesOf 2 (length payload)) payload (drop stop q))))
+
+    payload-written : drop start q ≡ payloadAt q start stop ++ drop stop q
+    unfolding payloadAt
+    payload-written =
+        let s = stands .sized in
+        let z : start + (stop - start) ≡ stop = omega arith in
+        sym (take-append-drop (stop - start) (drop start q)) ∙ rw (drop-drop (stop - start) start q, z)
+
+  abbrev TreeWritten : Said (Tree ℕ)
+  TreeWritten at end earlier t ps next =
+      end ≤ length q → (g : ℕ → List ℕ) → Labels g (length earlier) ps → drop at q ≡ encode (relabel g t) ++ drop next q
+
+  abbrev ForestWritten : Said (Forest ℕ)
+  ForestWritten at end earlier f ps next =
+      end ≤ length q → (g : ℕ → List ℕ) → Labels g (length earlier) ps → drop at q ≡ encodes (relabels g f) ++ drop next q
+
+  module _ (tags : List ℕ) where
+    leaf-written : (at end : ℕ) (earlier : List Predicate) (start stop : ℕ) → LeafAt tags q at end earlier start stop
+        → TreeWritten at end earlier (leaf (length earlier)) (predicateOf (start + payloadHead) (payloadAt q start stop) ∷ []) stop
+    unfolding encode relabel
+    leaf-written at end earlier start stop f inside g labels =
+        let e : g (length earlier) ≡ payloadAt q start stop =
+        ap g (sym (add-zero (length earlier))) ∙ labels 0 (omega arith) ∙ payload-again tags (start + payloadHead) (payloadAt q start stop) (f .valid) in
+        rw e (field-written at end predicateTag start stop (f .stands) inside (payloadAt q start stop)
+        (payload-written at end predicateTag start stop (f .stands) inside))
+
+    group-written : (at end : ℕ) (earlier : List Predicate) (tag start stop : ℕ) (f : Forest ℕ) (ps : List Predicate) → GroupAt q at end tag start stop
+        → ForestWritten start stop earlier f ps stop → TreeWritten at end earlier (group (settling tag) f) ps stop
+    unfolding encode relabel
+    group-written at end earlier tag start stop f ps s h inside g labels =
+        let w = s .stands .within in
+        rw (← (group-tag tag (s .sort))) (field-written at end tag start stop (s .stands) inside (encodes (relabels g f)) (h (omega arith) g labels))
+
+    more-written : (at end : ℕ) (earlier : List Predicate) (t : Tree ℕ) (ps : List Predicate) (next : ℕ) (f : Forest ℕ) (rest : List Predicate) (last : ℕ)
+        → TreeWritten at end earlier t ps next → ForestWritten next end (earlier ++ ps) f rest last → ForestWritten at end earlier (more t f) (ps ++ rest) last
+    unfolding encode relabel
+    more-written at end earlier t ps next f rest last h r inside g labels =
+        let right : Labels g (length (earlier ++ ps)) rest = rw length-append (labels-right g (length earlier) ps rest labels) in
+        h inside g (labels-left g (length earlier) ps rest labels) ∙ rw (r inside g right)
+        (sym (append-assoc (encode (relabel g t)) (encodes (relabels g f)) (drop last q)))
+
+    written : Steps tags q TreeWritten ForestWritten
+    unfolding encode relabel
+    written = record {
+      on-leaf = leaf-written;
+      on-group = group-written;
+      on-none = λ at earlier inside g labels. refl;
+      on-more = more-written;
+    }
+
+    pub encode-decoded : (Q : Query) → decodeTagged tags q ≡ accepted Q → q ≡ encode (payloads Q)
+    encode-decoded Q h =
+        accepted-holds tags q Q h TreeWritten ForestWritten written (omega arith) (payloadNumbered (Q .predicates)) (λ i l. ap (payloadNumbered (Q .predicates)) (omega arith))
+        ∙ rw (drop-length q) (append-nil (encode (payloads Q)))
+
+  pub encode-query : (c : Catalogue) (Q : Query) → decodeQuery c q ≡ accepted Q → q ≡ encode (payloads Q)
+  unfolding decodeQuery
+  encode-query c Q h = encode-decoded (tagsOf c) Q h
+
+-- two queries with one tree of payloads are the same bytes, whatever they were read against
+module _ (tags tags′ q q′ : List ℕ) (bytes : Bytes q) (bytes′ : Bytes q′) (Q Q′ : Query) (is : decodeTagged tags q ≡ accepted Q) (is′ : decodeTagged tags′ q′ ≡ accepted Q′) where
+  pub same-payloads : payloads Q ≡ payloads Q′ → q ≡ q′
+  same-payloads e = encode-decoded q bytes tags Q is ∙ ap encode e ∙ sym (encode-decoded q′ bytes′ tags′ Q′ is′)
+
+  pub same-query : Q .tree ≡ Q′ .tree → map payloadOf (Q .predicates) ≡ map payloadOf (Q′ .predicates) → q ≡ q′
+  same-query e f = same-payloads (ap₂ (λ l t. relabel (λ c. getD l c []) t) f e)
