@@ -57,14 +57,14 @@ after-one earlier p h zero l = rw (append-nil earlier) h
 after-one earlier p h (suc j) l = absurd (omega arith)
 
 abbrev Fresh : {A : Type 0} → Said A
-Fresh at end earlier x ps next = After earlier ps
+Fresh at end depth earlier x ps next = After earlier ps
 
 fresh : (tags q : List ℕ) → Steps tags q Fresh Fresh
 fresh tags q = record {
-  on-leaf = λ at end earlier start stop s. after-one earlier _ (rw (payload-again tags (start + payloadHead) (payloadAt q start stop) (s .valid)) (s .fresh));
-  on-group = λ at end earlier tag start stop f ps s h. h;
-  on-none = λ at earlier j l. absurd (omega arith);
-  on-more = λ at end earlier t ps next f rest last h r. after-append earlier ps rest h r;
+  on-leaf = λ at end depth earlier start stop s. after-one earlier _ (rw (payload-again tags (start + payloadHead) (payloadAt q start stop) (s .valid)) (s .fresh));
+  on-group = λ at end depth earlier tag start stop f ps s h. h;
+  on-none = λ at depth earlier j l. absurd (omega arith);
+  on-more = λ at end depth earlier t ps next f rest last h r. after-append earlier ps rest h r;
 }
 
 after-distinct : (ps : List Predicate) → After [] ps → Distinct ps

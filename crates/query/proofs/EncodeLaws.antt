@@ -1,24 +1,22 @@
 -- The bytes of an accepted query are the encoding of its tree with its payloads. By induction over readings: the query from a member
 -- on is the member's encoding, then the query from the place after it on.
-use Prim.Native.Nat.{ℕ, zero, suc, _+_, _-_, _*_, _/_, _%_, _≤_, _<_}
+use Prim.Native.Nat.{ℕ, suc, _+_, _-_, _*_, _/_, _%_, _≤_, _<_}
 use native.Mathlib.Nat.{add-zero}
 use native.Mathlib.Omega.{arith}
 use mathlib.Core.Path.{_≡_, refl, sym, ap, ap₂, _∙_}
 use mathlib.Core.Bool.{Bool, true, false, _||_}
-use mathlib.Core.List.{List, [], _∷_, _++_, map, map-append, append-assoc, append-nil}
-use lib.ListN.{length, getD, take, drop, length-append, length-drop, length-map, take-append-drop, List·getD-append}
-use lib.Seq.{drop-cons, drop-drop, drop-length, getD-append-add}
+use mathlib.Core.List.{List, [], _∷_, _++_, map, append-assoc, append-nil}
+use lib.ListN.{length, getD, drop, length-append, length-drop, take-append-drop}
+use lib.Seq.{drop-cons, drop-drop, drop-length}
 use lib.Dec.{eqb}
 use borrow.Author.Tests.{eqb-true}
-use Rattle.fields.specs.Decoded.{Decoded, accepted}
+use Rattle.fields.specs.Decoded.{accepted}
 use Rattle.fields.specs.Numbers.{numberAt, bytesOf}
 use Rattle.fields.proofs.Laws.{number-two}
-use Rattle.fields.specs.Header.{headerSize}
 use Rattle.catalogue.specs.Catalogue.{Catalogue}
-use Rattle.strategy.specs.Tree.{Tree, leaf, group, Forest, none, more, relabel, relabels}
+use Rattle.strategy.specs.Tree.{Tree, leaf, group, Forest, more, relabel, relabels}
 use Rattle.predicate.specs.Meaning.{Predicate}
-use Rattle.predicate.specs.Payload.{tagsOf, validPayload, predicateOf, payloadHead}
-use Rattle.predicate.proofs.PayloadLaws.{valid-payload}
+use Rattle.predicate.specs.Payload.{tagsOf, predicateOf, payloadHead}
 use Rattle.query.specs.Format.{conjunctionTag, disjunctionTag, predicateTag}
 use Rattle.query.specs.Query.{Query}
 use Rattle.query.specs.Decode.{payloadAt, payloadOf, settling, decodeTagged, decodeQuery}
@@ -89,34 +87,34 @@ module _ (q : List ℕ) (bytes : Bytes q) where
         sym (take-append-drop (stop - start) (drop start q)) ∙ rw (drop-drop (stop - start) start q, z)
 
   abbrev TreeWritten : Said (Tree ℕ)
-  TreeWritten at end earlier t ps next =
+  TreeWritten at end depth earlier t ps next =
       end ≤ length q → (g : ℕ → List ℕ) → Labels g (length earlier) ps → drop at q ≡ encode (relabel g t) ++ drop next q
 
   abbrev ForestWritten : Said (Forest ℕ)
-  ForestWritten at end earlier f ps next =
+  ForestWritten at end depth earlier f ps next =
       end ≤ length q → (g : ℕ → List ℕ) → Labels g (length earlier) ps → drop at q ≡ encodes (relabels g f) ++ drop next q
 
   module _ (tags : List ℕ) where
-    leaf-written : (at end : ℕ) (earlier : List Predicate) (start stop : ℕ) → LeafAt tags q at end earlier start stop
-        → TreeWritten at end earlier (leaf (length earlier)) (predicateOf (start + payloadHead) (payloadAt q start stop) ∷ []) stop
+    leaf-written : (at end depth : ℕ) (earlier : List Predicate) (start stop : ℕ) → LeafAt tags q at end earlier start stop
+        → TreeWritten at end depth earlier (leaf (length earlier)) (predicateOf (start + payloadHead) (payloadAt q start stop) ∷ []) stop
     unfolding encode relabel
-    leaf-written at end earlier start stop f inside g labels =
+    leaf-written at end depth earlier start stop f inside g labels =
         let e : g (length earlier) ≡ payloadAt q start stop =
         ap g (sym (add-zero (length earlier))) ∙ labels 0 (omega arith) ∙ payload-again tags (start + payloadHead) (payloadAt q start stop) (f .valid) in
         rw e (field-written at end predicateTag start stop (f .stands) inside (payloadAt q start stop)
         (payload-written at end predicateTag start stop (f .stands) inside))
 
-    group-written : (at end : ℕ) (earlier : List Predicate) (tag start stop : ℕ) (f : Forest ℕ) (ps : List Predicate) → GroupAt q at end tag start stop
-        → ForestWritten start stop earlier f ps stop → TreeWritten at end earlier (group (settling tag) f) ps stop
+    group-written : (at end depth : ℕ) (earlier : List Predicate) (tag start stop : ℕ) (f : Forest ℕ) (ps : List Predicate) → GroupAt q at end depth tag start stop
+        → ForestWritten start stop (depth + 1) earlier f ps stop → TreeWritten at end depth earlier (group (settling tag) f) ps stop
     unfolding encode relabel
-    group-written at end earlier tag start stop f ps s h inside g labels =
+    group-written at end depth earlier tag start stop f ps s h inside g labels =
         let w = s .stands .within in
         rw (← (group-tag tag (s .sort))) (field-written at end tag start stop (s .stands) inside (encodes (relabels g f)) (h (omega arith) g labels))
 
-    more-written : (at end : ℕ) (earlier : List Predicate) (t : Tree ℕ) (ps : List Predicate) (next : ℕ) (f : Forest ℕ) (rest : List Predicate) (last : ℕ)
-        → TreeWritten at end earlier t ps next → ForestWritten next end (earlier ++ ps) f rest last → ForestWritten at end earlier (more t f) (ps ++ rest) last
+    more-written : (at end depth : ℕ) (earlier : List Predicate) (t : Tree ℕ) (ps : List Predicate) (next : ℕ) (f : Forest ℕ) (rest : List Predicate) (last : ℕ)
+        → TreeWritten at end depth earlier t ps next → ForestWritten next end depth (earlier ++ ps) f rest last → ForestWritten at end depth earlier (more t f) (ps ++ rest) last
     unfolding encode relabel
-    more-written at end earlier t ps next f rest last h r inside g labels =
+    more-written at end depth earlier t ps next f rest last h r inside g labels =
         let right : Labels g (length (earlier ++ ps)) rest = rw length-append (labels-right g (length earlier) ps rest labels) in
         h inside g (labels-left g (length earlier) ps rest labels) ∙ rw (r inside g right)
         (sym (append-assoc (encode (relabel g t)) (encodes (relabels g f)) (drop last q)))
@@ -126,7 +124,7 @@ module _ (q : List ℕ) (bytes : Bytes q) where
     written = record {
       on-leaf = leaf-written;
       on-group = group-written;
-      on-none = λ at earlier inside g labels. refl;
+      on-none = λ at depth earlier inside g labels. refl;
       on-more = more-written;
     }
 

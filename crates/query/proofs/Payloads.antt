@@ -1,6 +1,6 @@
 -- The payloads of a list of predicates, by number.
 use Prim.Native.Nat.{ℕ, _+_, _<_}
-use mathlib.Core.Path.{_≡_, refl, sym, ap, _∙_}
+use mathlib.Core.Path.{_≡_, sym, ap, _∙_}
 use mathlib.Core.Bool.{true}
 use mathlib.Core.List.{List, [], _++_, map, map-append}
 use lib.ListN.{length, getD, length-map, List·getD-append}

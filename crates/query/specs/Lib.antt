@@ -1,5 +1,6 @@
 pub mod Format
 pub mod Query
+pub mod Depth
 pub mod Decode
 pub mod Encode
 pub mod Table
