@@ -1,6 +1,6 @@
 -- The bytes of an accepted query are the encoding of its tree with its payloads. By induction over readings: the query from a member
 -- on is the member's encoding, then the query from the place after it on.
-use Prim.Native.Nat.{ℕ, suc, _+_, _-_, _*_, _/_, _%_, _≤_, _<_}
+use Prim.Native.Nat.{ℕ, suc, _+_, _-_, _≤_, _<_}
 use native.Mathlib.Nat.{add-zero}
 use native.Mathlib.Omega.{arith}
 use mathlib.Core.Path.{_≡_, refl, sym, ap, ap₂, _∙_}
@@ -12,7 +12,7 @@ use lib.Dec.{eqb}
 use borrow.Author.Tests.{eqb-true}
 use Rattle.fields.specs.Decoded.{accepted}
 use Rattle.fields.specs.Numbers.{numberAt, bytesOf}
-use Rattle.fields.proofs.Laws.{number-two}
+use Rattle.fields.proofs.Written.{number-written}
 use Rattle.catalogue.specs.Catalogue.{Catalogue}
 use Rattle.strategy.specs.Tree.{Tree, leaf, group, Forest, more, relabel, relabels}
 use Rattle.predicate.specs.Meaning.{Predicate}
@@ -50,15 +50,6 @@ group-tag tag h = go (eqb tag disjunctionTag) refl (eqb tag conjunctionTag) refl
     go false e false f g = let z : _≡_ {A = ℕ} 0 1 = cc in absurd (omega arith)
 
 module _ (q : List ℕ) (bytes : Bytes q) where
-  length-written : (at : ℕ) → at + 2 ≤ length q → drop at q ≡ bytesOf 2 (numberAt q at 2) ++ drop (at + 2) q
-  unfolding bytesOf
-  length-written at l =
-      let y : suc at ≡ at + 1 = omega arith in
-      let z : suc (at + 1) ≡ at + 2 = omega arith in
-      let e : (getD q at 0 * 256 + getD q (at + 1) 0) / 256 % 256 ≡ getD q at 0 = omega (arith, bytes at, bytes (at + 1)) in
-      let f : (getD q at 0 * 256 + getD q (at + 1) 0) / 1 % 256 ≡ getD q (at + 1) 0 = omega (arith, bytes at, bytes (at + 1)) in
-      rw (number-two q at, e, f, drop-cons q at 0 (omega arith), y, drop-cons q (at + 1) 0 (omega arith), z)
-
   module _ (at end tag start stop : ℕ) (stands : FieldAt q at end tag start stop) (inside : end ≤ length q) where
     header-written : drop at q ≡ tag ∷ (bytesOf 2 (stop - start) ++ drop start q)
     header-written =
@@ -68,7 +59,7 @@ module _ (q : List ℕ) (bytes : Bytes q) where
         let y : suc at ≡ at + 1 = omega arith in
         let z : at + 1 + 2 ≡ start = omega arith in
         let n : numberAt q (at + 1) 2 ≡ stop - start = omega arith in
-        drop-cons q at 0 (omega arith) ∙ rw (stands .tagged, y, length-written (at + 1) (omega arith), n, z)
+        drop-cons q at 0 (omega arith) ∙ rw (stands .tagged, y, number-written q bytes (at + 1) 2 (omega arith), n, z)
 
     field-written : (payload : List ℕ) → drop start q ≡ payload ++ drop stop q → drop at q ≡ fieldOf tag payload ++ drop stop q
     unfolding fieldOf

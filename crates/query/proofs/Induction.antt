@@ -1,5 +1,5 @@
--- Induction over the readings of a query: what holds of a condition's field, and passes from the members to their group and from
--- a member and the rest to both, holds of every reading. Each step is told how its field stands in the bytes, and what Readings says.
+-- Induction over the readings of a query: what holds of a condition's field and of no members, and passes from the members to their
+-- group and from a member and the rest to both, holds of every reading. Each step is told how its field stands in the bytes.
 use Prim.Native.Nat.{ℕ, zero, suc, _+_, _-_, _*_, _≤_, _<_}
 use native.Mathlib.Omega.{arith}
 use mathlib.Core.Path.{_≡_, refl}
@@ -114,10 +114,11 @@ module _ (tags q : List ℕ) (at end depth : ℕ) (earlier : List Predicate) whe
   member-is : Is (memberField tags q depth earlier (headerAt q at end))
   member-is = member-at (headerAt q at end) (header-is q at end)
 
--- what is said of a member, or of members, read from `at` on inside so many groups, after these earlier predicates
+-- a statement on a member, or on members, read from `at` on inside so many groups, after these earlier predicates
 abbrev pub Said : (A : Type 0) → Type 1
 Said A = (at end depth : ℕ) → (earlier : List Predicate) → A → (ps : List Predicate) → (next : ℕ) → Type 0
 
+-- the four steps of an induction
 pub record Steps (tags q : List ℕ) (P : Said (Tree ℕ)) (F : Said (Forest ℕ)) : Type 0 where
   pub on-leaf : (at end depth : ℕ) (earlier : List Predicate) (start stop : ℕ) → LeafAt tags q at end earlier start stop
       → P at end depth earlier (leaf (length earlier)) (predicateOf (start + payloadHead) (payloadAt q start stop) ∷ []) stop
@@ -127,6 +128,7 @@ pub record Steps (tags q : List ℕ) (P : Said (Tree ℕ)) (F : Said (Forest ℕ
   pub on-more : (at end depth : ℕ) (earlier : List Predicate) (t : Tree ℕ) (ps : List Predicate) (next : ℕ) (f : Forest ℕ) (rest : List Predicate) (last : ℕ)
       → P at end depth earlier t ps next → F next end depth (earlier ++ ps) f rest last → F at end depth earlier (more t f) (ps ++ rest) last
 
+-- said of a reading that was not stopped
 abbrev pub Holds : {A : Type 0} → Said A → (at end depth : ℕ) → (earlier : List Predicate) → Read A → Type 0
 Holds P at end depth earlier (stopped e) = Unit {0}
 Holds P at end depth earlier (read x ps next) = P at end depth earlier x ps next
