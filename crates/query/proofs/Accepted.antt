@@ -13,8 +13,8 @@ use Rattle.query.specs.Format.{predicateLimit, depthLimit}
 use Rattle.query.specs.Query.{Query}
 use Rattle.query.specs.Decode.{decodeTagged, decodeQuery}
 use Rattle.query.specs.Depth.{depth, depths}
-use Rattle.query.proofs.Readings.{Fits, Each}
-use Rattle.query.proofs.Induction.{Said, Steps, accepted-holds, accepted-sound}
+use Rattle.query.proofs.Readings.{Fits, Each, decoded-sound}
+use Rattle.query.proofs.Induction.{Said, Steps, accepted-holds}
 use Rattle.query.proofs.Distinct.{Distinct, accepted-distinct}
 
 -- "There are 1 to 64 conditions, numbered from 0 as they stand"; "Groups may nest 8 deep", and none is empty; each condition is
@@ -52,7 +52,7 @@ shallow tags q = record {
 
 pub well-formed : (tags q : List ℕ) (Q : Query) → decodeTagged tags q ≡ accepted Q → WellFormed tags q Q
 well-formed tags q Q is =
-    let s = accepted-sound tags q Q is in
+    let s = decoded-sound tags q Q is in
     let few = s .few (omega arith) in
     let low = accepted-holds tags q Q is TreeShallow ForestShallow (shallow tags q) (omega arith) in
     record {

@@ -21,7 +21,7 @@ use Rattle.query.specs.declared.member.MemberField.the-variants as field
 use Rattle.query.specs.Format.{conjunctionTag, disjunctionTag, predicateTag, predicateLimit, depthLimit, emptyGroup, tooDeep, invalidPayload, tooManyPredicates, repeatedPayload, unknownTag, bytesAfterQuery}
 use Rattle.query.specs.Query.{Query}
 use Rattle.query.specs.Decode.{payloadAt, isRepeated, predicateField, groupField, memberField, Read, stopped, read, settling, asGroup, fieldThen, putBefore, memberThen, unlessEnd, member, members, wholeQuery, decodeTagged}
-use Rattle.query.proofs.Readings.{TreeSound, SoundForest, member-sound, members-sound}
+use Rattle.query.proofs.Readings.{SoundForest, members-sound}
 
 -- a field as it stands in the query: its tag, its length and, inside the enclosing end, its payload
 pub record FieldAt (q : List ℕ) (at end tag start stop : ℕ) : Type 0 where
@@ -201,10 +201,8 @@ accepted-read tags q Q h = go (member (2 * length q + 1) tags q 0 (length q) 0 [
     go (stopped e) g = let z : _≡_ {A = ℕ} 0 1 = cc in absurd (omega arith)
     go (read t ps next) g = ended t ps next (eqb next (length q)) refl g
 
-module _ (tags q : List ℕ) (Q : Query) (is : decodeTagged tags q ≡ accepted Q) where
-  pub accepted-holds : (P : Said (Tree ℕ)) (F : Said (Forest ℕ)) → Steps tags q P F → P 0 (length q) 0 [] (Q .tree) (Q .predicates) (length q)
-  accepted-holds P F steps =
-      rw (accepted-read tags q Q is) at (member-holds tags q P F steps (2 * length q + 1) 0 (length q) 0 [])
-
-  pub accepted-sound : TreeSound tags q 0 (length q) 0 (Q .tree) (Q .predicates) (length q)
-  accepted-sound = rw (accepted-read tags q Q is) at (member-sound (2 * length q + 1) tags q 0 (length q) 0 [])
+-- so what holds of every reading holds of every accepted query
+pub accepted-holds : (tags q : List ℕ) (Q : Query) → decodeTagged tags q ≡ accepted Q → (P : Said (Tree ℕ)) (F : Said (Forest ℕ)) → Steps tags q P F
+    → P 0 (length q) 0 [] (Q .tree) (Q .predicates) (length q)
+accepted-holds tags q Q is P F steps =
+    rw (accepted-read tags q Q is) at (member-holds tags q P F steps (2 * length q + 1) 0 (length q) 0 [])
