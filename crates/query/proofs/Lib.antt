@@ -5,3 +5,8 @@ pub mod Ladders
 pub mod Readings
 pub mod Progress
 pub mod WholeQuery
+pub mod Payloads
+pub mod Induction
+pub mod EncodeLaws
+pub mod Distinct
+pub mod Accepted

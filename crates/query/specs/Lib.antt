@@ -1,6 +1,8 @@
 pub mod Format
 pub mod Query
+pub mod Depth
 pub mod Decode
+pub mod Encode
 pub mod Table
 pub mod Ladder
 pub mod Sound
