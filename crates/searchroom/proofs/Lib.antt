@@ -1,4 +1,5 @@
 pub mod Inputs
 pub mod Finishing
+pub mod Running
 pub mod Cases
 pub mod Answers

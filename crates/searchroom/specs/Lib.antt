@@ -1,6 +1,7 @@
 pub mod Word
 pub mod Refusals
 pub mod Input
+pub mod Begun
 pub mod Answers
 pub mod Run
 pub mod Finish
