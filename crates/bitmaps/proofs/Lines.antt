@@ -64,16 +64,16 @@ module _ (size : ℕ) (from old to : List ℕ) (c : ℕ) (s : size ≤ lineSize)
       ∙ ap (λ (k : ℕ). (lines ++ next) ++ drop k old) (sym (length-append lines next ∙ ap (λ (k : ℕ). length lines + k) length-next))
 
 -- the same in the terms of the loop
-module _ (size n : ℕ) (from old to : List ℕ) (c line at : ℕ) (s : size ≤ lineSize) (h : n * lineSize ≤ length from) (m : n * size ≤ length old) (l : c < n) (f : at ≡ c * size) where
-  pub line-fits : at + size ≤ length old
-  line-fits = omega (arith, mul-le-mul-right size l)
+pub line-fits : (size n c : ℕ) → c < n → c * size + size ≤ n * size
+line-fits size n c l = omega (arith, mul-le-mul-right size l)
 
-  pub copy-line : (new : List ℕ) → line ≡ c * lineSize → to ≡ putFront (linesOf size from c) old → new ≡ take (line + size - line) (drop line from)
+module _ (size n : ℕ) (from old to : List ℕ) (c line at : ℕ) (s : size ≤ lineSize) (h : n * lineSize ≤ length from) (m : n * size ≤ length old) (l : c < n) where
+  pub copy-line : (new : List ℕ) → line ≡ c * lineSize → at ≡ c * size → to ≡ putFront (linesOf size from c) old → new ≡ take (line + size - line) (drop line from)
       → (length (putMid at (at + size - at) to new) ≡ length old) × (putMid at (at + size - at) to new ≡ putFront (linesOf size from (c + 1)) old)
-  copy-line new e q p = (ap length same ∙ front-length (linesOf size from (c + 1)) old fits, same)
+  copy-line new e f q p = (ap length same ∙ front-length (linesOf size from (c + 1)) old fits, same)
     where
       fits : length (linesOf size from (c + 1)) ≤ length old
-      fits = omega (arith, lines-length size from (c + 1) s (omega arith), mul-le-mul-right size l)
+      fits = omega (arith, lines-length size from (c + 1) s (omega arith), line-fits size n c l)
 
       same : putMid at (at + size - at) to new ≡ putFront (linesOf size from (c + 1)) old
       same =

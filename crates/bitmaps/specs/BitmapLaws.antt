@@ -19,6 +19,10 @@ use Rattle.bitmaps.specs.OnesLaws.{ones-joined}
 use Rattle.bitmaps.specs.Bit.{bit, Bytes}
 use Rattle.bitmaps.specs.BitLaws.{member-high, binary-lt, member-binary, bit-at, ones-bits}
 
+-- the bytes for so many rows hold them, and no byte is without a row
+pub bytes-for : (rows : ℕ) → (rows ≤ bytesFor rows * 8) × (bytesFor rows * 8 < rows + 8)
+bytes-for rows = omega arith
+
 -- how many of the first `rows` hold, counted up to any bound beyond
 pub count-inside : (f : ℕ → Bool) (rows m : ℕ) → rows ≤ m → countOf (λ e. ltb e rows && f e) m ≡ countOf f rows
 count-inside f rows m l =

@@ -7,7 +7,7 @@ use mathlib.Core.Bool.{Bool, true, false, _&&_, _||_}
 use mathlib.Core.Logic.{_⊎_, inl, inr}
 use mathlib.Core.List.{List}
 use lib.ListN.{length, getD, take, drop, replicate, length-replicate, getD-replicate, length-drop, List·getD-eq-default}
-use lib.Seq.{getD-drop}
+use lib.Seq.{getD-take, getD-drop, length-take-le}
 use lib.Dec.{eqb, ltb}
 use Rattle.strategy.specs.Bools.{which, iff-eq, and-parts, eqb-self, eqb-eq, ltb-yes, ltb-no, ltb-lt, ltb-le}
 use Rattle.sets.specs.Set.{member}
@@ -115,6 +115,20 @@ module _ (f : ℕ → Bool) (row : ℕ) (t : List ℕ) (h : Holds (within (λ c.
       let z : row ≡ 0 * lineBits + row = omega arith in
       holds-row (λ c. f) 1 row 1 t′ (λ c. eqb c 0) (λ c l. selected c l y)
       (holds-mark 0 row k h (subst (λ (p : ℕ). Marked t p t′) z m))
+
+-- the first n lines are a table of n lines
+pub holds-front : (f : ℕ → ℕ → Bool) (n lines : ℕ) (t : List ℕ) → n ≤ lines → Holds f lines t → Holds f n (take (n * lineSize) t)
+unfolding bit
+holds-front f n lines t l h = record {
+  size = length-take-le (n * lineSize) t (omega (arith, h .size));
+  bytes = λ i. go i (which (ltb i (n * lineSize)));
+  bits = λ c e m k. ap (λ (x : ℕ). member x ((c * lineBits + e) % 8)) (getD-take (n * lineSize) t ((c * lineBits + e) / 8) 0 (omega arith)) ∙ h .bits c e (omega arith) k;
+}
+  where
+    go : (i : ℕ) → (ltb i (n * lineSize) ≡ true) ⊎ (ltb i (n * lineSize) ≡ false) → getD (take (n * lineSize) t) i 0 < 256
+    go i (inl y) = rw (getD-take (n * lineSize) t i 0 (ltb-lt i (n * lineSize) y)) (h .bytes i)
+    go i (inr y) =
+        rw (List·getD-eq-default (take (n * lineSize) t) 0 {n = i} (omega (arith, ltb-le i (n * lineSize) y, length-take-le (n * lineSize) t (omega (arith, h .size))))) (omega arith)
 
 line-bit : (t : List ℕ) (c e : ℕ) → bit (drop (c * lineSize) t) e ≡ bit t (c * lineBits + e)
 unfolding bit

@@ -19,10 +19,10 @@ abbrev μ-loop : tie.MeasureT-loop
 
 loop-holds : tie.Need-loop-holds Inv-loop μ-loop
 unfolding linesOf joined
-loop-holds c = (search needs, search needs, search needs, search needs, refl)
+loop-holds c = (omega arith, omega arith, omega arith, refl, refl)
 
 add-next : tie.Need-add-next Inv-loop μ-loop
-add-next c = omega (arith, line-fits (c .before .before .before .before .args .size) (c .before .before .before .before .args .n) (c .before .before .before .before .args .from .now) (c .before .before .before .before .args .to .now) (c .before .loop .to) (c .before .loop .c) (c .before .loop .line) (c .before .loop .at) (c .before .before .before .before .pre .0) (c .before .before .before .before .pre .1) (c .before .before .before .before .pre .2) (omega arith) (c .before .loop .inv .2))
+add-next c = omega (arith, line-fits (c .before .before .before .before .args .size) (c .before .before .before .before .args .n) (c .before .loop .c) (omega arith))
 
 add-copy-part : tie.Need-add-copy-part Inv-loop μ-loop
 add-copy-part c = search needs
@@ -43,10 +43,10 @@ part-copy-part-start-2 : tie.Need-part-copy-part-start-2 Inv-loop μ-loop
 part-copy-part-start-2 c = search needs
 
 part-copy-part-end-2 : tie.Need-part-copy-part-end-2 Inv-loop μ-loop
-part-copy-part-end-2 c = omega (arith, line-fits (c .before .before .before .before .before .args .size) (c .before .before .before .before .before .args .n) (c .before .before .before .before .before .args .from .now) (c .before .before .before .before .before .args .to .now) (c .before .before .loop .to) (c .before .before .loop .c) (c .before .before .loop .line) (c .before .before .loop .at) (c .before .before .before .before .before .pre .0) (c .before .before .before .before .before .pre .1) (c .before .before .before .before .before .pre .2) (omega arith) (c .before .before .loop .inv .2))
+part-copy-part-end-2 c = omega (arith, line-fits (c .before .before .before .before .before .args .size) (c .before .before .before .before .before .args .n) (c .before .before .loop .c) (omega arith))
 
 copy-part-requires : tie.Need-copy-part-requires Inv-loop μ-loop
-copy-part-requires c κs = parts-length (c .before .before .before .before .before .before .args .from .now) (c .before .before .before .loop .to) (c .before .before .before .loop .line) (c .before .before .before .loop .at) (c .before .before .before .before .before .before .args .size) (omega arith) (omega (arith, line-fits (c .before .before .before .before .before .before .args .size) (c .before .before .before .before .before .before .args .n) (c .before .before .before .before .before .before .args .from .now) (c .before .before .before .before .before .before .args .to .now) (c .before .before .before .loop .to) (c .before .before .before .loop .c) (c .before .before .before .loop .line) (c .before .before .before .loop .at) (c .before .before .before .before .before .before .pre .0) (c .before .before .before .before .before .before .pre .1) (c .before .before .before .before .before .before .pre .2) (omega arith) (c .before .before .before .loop .inv .2)))
+copy-part-requires c κs = parts-length (c .before .before .before .before .before .before .args .from .now) (c .before .before .before .loop .to) (c .before .before .before .loop .line) (c .before .before .before .loop .at) (c .before .before .before .before .before .before .args .size) (omega arith) (omega (arith, line-fits (c .before .before .before .before .before .before .args .size) (c .before .before .before .before .before .before .args .n) (c .before .before .before .loop .c) (omega arith)))
 
 add-c : tie.Need-add-c Inv-loop μ-loop
 add-c c = search needs
@@ -58,7 +58,7 @@ loop-less : tie.Need-loop-less Inv-loop μ-loop
 loop-less c = search needs
 
 loop-again : tie.Need-loop-again Inv-loop μ-loop
-loop-again c = let moved = copy-line (c .before .before .before .before .before .before .before .before .before .args .size) (c .before .before .before .before .before .before .before .before .before .args .n) (c .before .before .before .before .before .before .before .before .before .args .from .now) (c .before .before .before .before .before .before .before .before .before .args .to .now) (c .before .before .before .before .before .before .loop .to) (c .before .before .before .before .before .before .loop .c) (c .before .before .before .before .before .before .loop .line) (c .before .before .before .before .before .before .loop .at) (c .before .before .before .before .before .before .before .before .before .pre .0) (c .before .before .before .before .before .before .before .before .before .pre .1) (c .before .before .before .before .before .before .before .before .before .pre .2) (omega arith) (c .before .before .before .before .before .before .loop .inv .2) (c .before .before .copy-part .last .1 .0) (c .before .before .before .before .before .before .loop .inv .1) (c .before .before .before .before .before .before .loop .inv .4) (c .before .before .copy-part .ensures) in (search needs, omega arith, omega arith, moved .0, moved .1)
+loop-again c = let a = c .before .before .before .before .before .before .before .before .before .args in let p = c .before .before .before .before .before .before .before .before .before .pre in let l = c .before .before .before .before .before .before .loop in let moved = copy-line (a .size) (a .n) (a .from .now) (a .to .now) (l .to) (l .c) (l .line) (l .at) (p .0) (p .1) (p .2) (omega arith) (c .before .before .copy-part .last .1 .0) (l .inv .1) (l .inv .2) (l .inv .4) (c .before .before .copy-part .ensures) in (search needs, omega arith, omega arith, moved .0, moved .1)
 
 same-length : tie.Need-same-length Inv-loop μ-loop
 same-length c = search needs

@@ -1,5 +1,6 @@
 -- `copy_part` meets its contract. Invariant: the bytes passed are those of `from`, the others still the old ones.
 use Prim.Native.Nat.{_-_, _≤_}
+use native.Mathlib.Omega.{arith}
 use mathlib.Core.Path.{_≡_, refl, _∙_}
 use mathlib.Core.List.{_++_}
 use lib.ListN.{length, getD, take, drop, length-set}
@@ -15,7 +16,7 @@ abbrev μ-loop : tie.MeasureT-loop
 μ-loop from to₀ i₀ to i = length from - i
 
 loop-holds : tie.Need-loop-holds Inv-loop μ-loop
-loop-holds c = (search needs, search needs, search needs, refl)
+loop-holds c = (omega arith, refl, c .pre, refl)
 
 shared-slice-read-to : tie.Need-shared-slice-read-to Inv-loop μ-loop
 shared-slice-read-to c = search needs
@@ -30,13 +31,13 @@ loop-less : tie.Need-loop-less Inv-loop μ-loop
 loop-less c = search needs
 
 loop-again : tie.Need-loop-again Inv-loop μ-loop
-loop-again c = (search needs, length-set (c .before .before .loop .to) (c .before .before .loop .i) (getD (c .before .before .before .args .from .now) (c .before .before .loop .i) 0) ∙ c .before .before .loop .inv .1, c .before .before .loop .inv .2, copy-byte (c .before .before .before .args .from .now) (c .before .before .before .args .to .now) (c .before .before .loop .to) (c .before .before .loop .i) (c .before .before .loop .inv .2) (search needs) (c .before .before .loop .inv .3))
+loop-again c = let a = c .before .before .before .args in let l = c .before .before .loop in (search needs, length-set (l .to) (l .i) (getD (a .from .now) (l .i) 0) ∙ l .inv .1, l .inv .2, copy-byte (a .from .now) (a .to .now) (l .to) (l .i) (l .inv .2) (search needs) (l .inv .3))
 
 same-length : tie.Need-same-length Inv-loop μ-loop
 same-length c = search needs
 
 returns : tie.Need-returns Inv-loop μ-loop
-returns c = copy-end (c .before .before .args .from .now) (c .before .before .args .to .now) (c .before .loop .to) (c .before .loop .i) (c .before .loop .inv .2) (search needs) (c .before .loop .inv .3)
+returns c = let l = c .before .loop in copy-end (c .before .before .args .from .now) (c .before .before .args .to .now) (l .to) (l .i) (l .inv .2) (search needs) (l .inv .3)
 
 pub copy-part-spec : {M : Type 1} → statement M
 copy-part-spec =
