@@ -94,6 +94,19 @@ module _ (tags q : List ℕ) (at end depth : ℕ) (earlier : List Predicate) whe
 
 -- the paths of the code
 
+module _ (depth tag start end : ℕ) where
+  pub group-deep : depthLimit ≤ depth → Refused tooDeep ≡ groupField depth tag start end
+  unfolding groupField
+  group-deep l = rw (le-leb _ _ l)
+
+  pub group-empty : depth < depthLimit → start ≡ end → Refused emptyGroup ≡ groupField depth tag start end
+  unfolding groupField
+  group-empty l e = rw (lt-leb _ _ l, eq-eqb _ _ e)
+
+  pub group-members : depth < depthLimit → (start ≡ end → ⊥) → Group tag start end ≡ groupField depth tag start end
+  unfolding groupField
+  group-members l n = rw (lt-leb _ _ l, ne-eqb _ _ n)
+
 module _ (tags q T : List ℕ) (n start end : ℕ) where
   pub predicate-many : predicateLimit ≤ n → Refused tooManyPredicates ≡ predicateField tags q (listed q T n) start end
   unfolding predicateField

@@ -27,7 +27,7 @@ use Rattle.query.specs.Format.{predicateLimit, depthLimit}
 use Rattle.query.specs.Decode.{memberField, Read, stopped, read, settling, asGroup, putBefore, memberThen, member, members}
 use Rattle.query.specs.Table.{tableSize, recordOf, listed, Placed, Put}
 use Rattle.query.specs.Ladder.{taggedRung, Tables, tables, LaddersSized, ladder, Low, Under, Kept, Closed, ClosedTo}
-use Rattle.query.specs.Reader.{Risen, Told, MemberRead, MembersRead, Within, Room}
+use Rattle.query.specs.Reader.{Risen, Told, MemberTold, MembersTold, MemberRead, MembersRead, Within, Room}
 use Rattle.query.proofs.Records.{listed-put, placed-put, record-shows}
 use Rattle.query.proofs.Ladders.{fresh-at, fresh-off, fresh-low}
 use Rattle.query.proofs.Readings.{SoundTree, SoundForest, member-sound, members-sound}
@@ -105,20 +105,20 @@ module _ (q : List ℕ) (n : ℕ) (T T1 T2 : Tables) where
 -- the paths of the group reader
 
 module _ (tags q : List ℕ) (at end depth n : ℕ) (T T1 : Tables) where
-  pub members-end : at ≡ end → MembersRead tags q at end depth n (Next at n) T T
+  pub members-end : at ≡ end → MembersTold tags q at end depth n (Next at n) T T
   unfolding members
   members-end e zero l = absurd (omega arith)
   members-end e (suc k) l = simp (tests, add-zero, append-nil) (refl, refl, risen-none n T)
 
-  pub members-refused : (e : ℕ) → (at ≡ end → ⊥) → MemberRead tags q at end depth n (Refused e) T T1 → MembersRead tags q at end depth n (Refused e) T T1
+  pub members-refused : (e : ℕ) → (at ≡ end → ⊥) → MemberTold tags q at end depth n (Refused e) T T1 → MembersTold tags q at end depth n (Refused e) T T1
   unfolding members
   members-refused e ne h zero l = absurd (omega arith)
   members-refused e ne h (suc k) l =
       simp tests (then-refused q n T T1 T1 (member k tags q at end depth (listed q (T .records) n)) e
       (λ ps next. members k tags q next end depth (listed q (T .records) n ++ ps)) (h k (omega arith)))
 
-  pub members-more : (p m : ℕ) (r : Progress) (T2 : Tables) → (at ≡ end → ⊥) → at < p → p ≤ end → MemberRead tags q at end depth n (Next p m) T T1
-      → MembersRead tags q p end depth m r T1 T2 → MembersRead tags q at end depth n r T T2
+  pub members-more : (p m : ℕ) (r : Progress) (T2 : Tables) → (at ≡ end → ⊥) → at < p → p ≤ end → MemberTold tags q at end depth n (Next p m) T T1
+      → MembersTold tags q p end depth m r T1 T2 → MembersTold tags q at end depth n r T T2
   unfolding members
   members-more p m r T2 ne b e h g zero l = absurd (omega arith)
   members-more p m r T2 ne b e h g (suc k) l =
@@ -128,20 +128,20 @@ module _ (tags q : List ℕ) (at end depth n : ℕ) (T T1 : Tables) where
   -- the paths of the member reader
 
   module _ (f : MemberField) (f-is : f ≡ memberField tags q depth (listed q (T .records) n) (headerAt q at end)) where
-    pub member-refused : (e : ℕ) → f ≡ field.Refused e → MemberRead tags q at end depth n (Refused e) T T1
+    pub member-refused : (e : ℕ) → f ≡ field.Refused e → MemberTold tags q at end depth n (Refused e) T T1
     unfolding member
     member-refused e j zero l = absurd (omega arith)
     member-refused e j (suc k) l = simp (← f-is, j)
 
     module _ (tag start stop : ℕ) (is-group : f ≡ field.Group tag start stop) (after : start ≡ at + headerSize) (order : start < stop) (within : stop ≤ end) where
-      pub member-group-refused : (e : ℕ) → MembersRead tags q start stop (depth + 1) n (Refused e) T T1 → MemberRead tags q at end depth n (Refused e) T T1
+      pub member-group-refused : (e : ℕ) → MembersTold tags q start stop (depth + 1) n (Refused e) T T1 → MemberTold tags q at end depth n (Refused e) T T1
       unfolding member
       member-group-refused e g zero l = absurd (omega arith)
       member-group-refused e g (suc k) l =
           simp (← f-is, is-group) (group-refused q n T T1 T1 (members k tags q start stop (depth + 1) (listed q (T .records) n)) tag e (g k (omega arith)))
 
-      pub member-group : (p m : ℕ) (T2 : Tables) → MembersRead tags q start stop (depth + 1) n (Next p m) T T1 → T2 .records ≡ T1 .records
-          → Closed n m m (taggedRung tag (runSet n (m - n))) T1 T2 → MemberRead tags q at end depth n (Next p m) T T2
+      pub member-group : (p m : ℕ) (T2 : Tables) → MembersTold tags q start stop (depth + 1) n (Next p m) T T1 → T2 .records ≡ T1 .records
+          → Closed n m m (taggedRung tag (runSet n (m - n))) T1 T2 → MemberTold tags q at end depth n (Next p m) T T2
       unfolding member
       member-group p m T2 g c C zero l = absurd (omega arith)
       member-group p m T2 g c C (suc k) l =
@@ -151,7 +151,7 @@ module _ (tags q : List ℕ) (at end depth n : ℕ) (T T1 : Tables) where
 module _ (tags q : List ℕ) (at end depth n : ℕ) (P P′ M S H : List ℕ) (start stop : ℕ) (two : start + payloadHead ≤ stop) (room : n < length H)
     (put : Put n (recordOf q start stop) P P′) where
   pub member-leaf : (f : MemberField) → f ≡ memberField tags q depth (listed q P n) (headerAt q at end) → f ≡ field.Leaf start stop
-      → MemberRead tags q at end depth n (Next stop (n + 1)) (tables P M S H) (tables P′ M S (set H n 0))
+      → MemberTold tags q at end depth n (Next stop (n + 1)) (tables P M S H) (tables P′ M S (set H n 0))
   unfolding member
   member-leaf f i j zero l = absurd (omega arith)
   member-leaf f i j (suc k) l =
@@ -205,7 +205,7 @@ pub record InGroup (tags q : List ℕ) (at end depth n p m : ℕ) (T0 T : Tables
   pub room : Room p end depth m q T
   pub under : Under n m depth (T .heights)
   pub kept : Kept n (T0 .heights) (T .heights)
-  pub rest : (r : Progress) (T′ : Tables) → MembersRead tags q p end depth m r T T′ → MembersRead tags q at end depth n r T0 T′
+  pub rest : (r : Progress) (T′ : Tables) → MembersTold tags q p end depth m r T T′ → MembersTold tags q at end depth n r T0 T′
 
 pub in-group-none : (tags q : List ℕ) (at end depth n : ℕ) (T : Tables) → Room at end depth n q T → InGroup tags q at end depth n at n T T
 in-group-none tags q at end depth n T R = record {
@@ -218,24 +218,30 @@ in-group-none tags q at end depth n T R = record {
 }
 
 module _ (tags q : List ℕ) (at end depth n p m : ℕ) (T0 T : Tables) (G : InGroup tags q at end depth n p m T0 T) where
-  pub in-group-end : end ≤ p → Within at end depth n q (Next p m) T0 T × MembersRead tags q at end depth n (Next p m) T0 T
+  pub in-group-end : end ≤ p → MembersRead tags q at end depth n (Next p m) T0 T
   in-group-end l =
-      let z : p ≡ end = omega (arith, G .room .order) in (
-        (G .past, G .room .order, G .more, G .room .listed .few, G .room .listed .placed, G .room .low, G .under, G .kept),
-        G .rest (Next p m) T (members-end tags q p end depth m T T z),
-      )
+      let z : p ≡ end = omega (arith, G .room .order) in
+      record {
+        within = (G .past, G .room .order, G .more, G .room .listed .few, G .room .listed .placed, G .room .low, G .under, G .kept);
+        exact = G .rest (Next p m) T (members-end tags q p end depth m T T z);
+      }
 
   module _ (T1 : Tables) (left : p < end) where
     pub in-group-refused : (e : ℕ) → MemberRead tags q p end depth m (Refused e) T T1 → MembersRead tags q at end depth n (Refused e) T0 T1
-    in-group-refused e h = G .rest (Refused e) T1 (members-refused tags q p end depth m T T1 e (λ z. omega arith) h)
-
-    pub in-group-more : (next k : ℕ) → Within (p + headerSize) end depth m q (Next next k) T T1 → MemberRead tags q p end depth m (Next next k) T T1
-        → length (T1 .records) ≡ tableSize → LaddersSized (T1 .masks) (T1 .sorts) (T1 .heights) → InGroup tags q at end depth n next k T0 T1
-    in-group-more next k w h s l = record {
-      past = omega (arith, G .past);
-      more = omega (arith, G .more);
-      room = record { order = w .1; inside = G .room .inside; deep = G .room .deep; listed = record { sized = s; few = w .3; placed = w .4 }; ladders = l; low = w .5 };
-      under = under-more n m k depth (T .heights) (T1 .heights) (G .under) (w .6) (w .7);
-      kept = λ c i. w .7 c (omega (arith, G .more)) ∙ G .kept c i;
-      rest = λ r T′ g. G .rest r T′ (members-more tags q p end depth m T T1 next k r T′ (λ z. omega arith) (omega arith) (w .1) h g);
+    in-group-refused e h = record {
+      within = h .within;
+      exact = G .rest (Refused e) T1 (members-refused tags q p end depth m T T1 e (λ z. omega arith) (h .exact));
     }
+
+    pub in-group-more : (next k : ℕ) → MemberRead tags q p end depth m (Next next k) T T1
+        → length (T1 .records) ≡ tableSize → LaddersSized (T1 .masks) (T1 .sorts) (T1 .heights) → InGroup tags q at end depth n next k T0 T1
+    in-group-more next k h s l =
+        let w = h .within in
+        record {
+          past = omega (arith, G .past);
+          more = omega (arith, G .more);
+          room = record { order = w .1; inside = G .room .inside; deep = G .room .deep; listed = record { sized = s; few = w .3; placed = w .4 }; ladders = l; low = w .5 };
+          under = under-more n m k depth (T .heights) (T1 .heights) (G .under) (w .6) (w .7);
+          kept = λ c i. w .7 c (omega (arith, G .more)) ∙ G .kept c i;
+          rest = λ r T′ g. G .rest r T′ (members-more tags q p end depth m T T1 next k r T′ (λ z. omega arith) (omega arith) (w .1) (h .exact) g);
+        }

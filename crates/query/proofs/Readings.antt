@@ -1,6 +1,6 @@
 -- What holds of every reading, by induction on its definition: it goes forward and stays within its end, it has 1 to 64
 -- predicates, numbered from left to right, no empty group, and each predicate is valid and lies in the query.
-use Prim.Native.Nat.{ℕ, zero, suc, _+_, _-_, _≤_, _<_}
+use Prim.Native.Nat.{ℕ, zero, suc, _+_, _-_, _*_, _≤_, _<_}
 use native.Mathlib.Omega.{arith}
 use mathlib.Core.Path.{_≡_, refl}
 use mathlib.Core.Bool.{Bool, true, false}
@@ -8,6 +8,7 @@ use mathlib.Core.List.{List, [], _∷_, _++_}
 use lib.ListN.{length, take, drop, length-append, length-take, length-drop}
 use lib.Dec.{eqb}
 use borrow.Author.Tests.{eqb-true}
+use Rattle.fields.specs.Decoded.{refused, accepted, either}
 use Rattle.fields.specs.Header.{headerAt}
 use Rattle.strategy.specs.Tree.{Tree, group, Forest, size, sizes, Numbered, Numbereds, HasMember, NonEmpty, NonEmpties}
 use Rattle.predicate.specs.Meaning.{Predicate}
@@ -15,8 +16,9 @@ use Rattle.predicate.specs.Payload.{validPayload, predicateOf, payloadHead}
 use Rattle.predicate.proofs.PayloadLaws.{valid-payload}
 use Rattle.query.specs.declared.member.MemberField.{MemberField}
 use Rattle.query.specs.declared.member.MemberField.the-variants as field
-use Rattle.query.specs.Format.{predicateLimit}
-use Rattle.query.specs.Decode.{payloadAt, payloadOf, memberField, Read, stopped, read, asGroup, fieldThen, putBefore, memberThen, unlessEnd, member, members}
+use Rattle.query.specs.Format.{predicateLimit, bytesAfterQuery}
+use Rattle.query.specs.Query.{Query}
+use Rattle.query.specs.Decode.{payloadAt, payloadOf, memberField, Read, stopped, read, asGroup, fieldThen, putBefore, memberThen, unlessEnd, member, members, wholeQuery, decodeTagged}
 use Rattle.query.specs.Sound.{SoundField}
 use Rattle.query.proofs.Records.{operand-bytes}
 use Rattle.query.proofs.Repeats.{payload-parts}
@@ -181,3 +183,19 @@ mutual
       (member-then-sound tags q at end (length earlier) (member k tags q at end depth earlier) (λ ps next. members k tags q next end depth (earlier ++ ps))
       (member-sound k tags q at end depth earlier)
       (λ ps next. rw length-append at (members-sound k tags q next end depth (earlier ++ ps))))
+
+-- the same of every accepted query: 1 to 64 predicates, numbered from 0, each within the query
+pub decoded-sound : (tags q : List ℕ) (Q : Query) → decodeTagged tags q ≡ accepted Q → TreeSound tags q 0 (length q) 0 (Q .tree) (Q .predicates) (length q)
+unfolding decodeTagged
+decoded-sound tags q Q h = go (member (2 * length q + 1) tags q 0 (length q) 0 []) (member-sound (2 * length q + 1) tags q 0 (length q) 0 []) h
+  where
+    whole : (t : Tree ℕ) (ps : List Predicate) (next : ℕ) (b : Bool) → eqb next (length q) ≡ b → TreeSound tags q 0 (length q) 0 t ps next
+        → either b (accepted (record { tree = t; predicates = ps })) (refused bytesAfterQuery) ≡ accepted Q → TreeSound tags q 0 (length q) 0 (Q .tree) (Q .predicates) (length q)
+    whole t ps next true e s i =
+        let w : _≡_ {A = Query} (record { tree = t; predicates = ps }) Q = cc in
+        rw (← w) (rw (eqb-true next (length q) e) at s)
+    whole t ps next false e s i = let z : _≡_ {A = ℕ} 0 1 = cc in absurd (omega arith)
+
+    go : (o : Read (Tree ℕ)) → SoundTree tags q 0 (length q) 0 o → wholeQuery q o ≡ accepted Q → TreeSound tags q 0 (length q) 0 (Q .tree) (Q .predicates) (length q)
+    go (stopped e) s i = let z : _≡_ {A = ℕ} 0 1 = cc in absurd (omega arith)
+    go (read t ps next) s i = whole t ps next (eqb next (length q)) refl s i

@@ -95,8 +95,8 @@ module _ (payload q T : List ℕ) (r : Bool) (c : ℕ) (r-is : r ≡ same payloa
       go h (inl z) = or-right (isRepeated payload (listed q T n)) (rw (← z) (sym r-is ∙ e))
       go h (inr z) = or-left (same payload (payloadOf (predicateIn q (recordAt T n)))) (sym (h (omega arith)))
 
-  pub unlike-more : (n : ℕ) → Unlike payload q T (c + 1) n → r ≡ false → Unlike payload q T c n
-  unlike-more n h e d i j = go (same? d c)
+  pub unlike-more : (n left next : ℕ) → left ≤ c + 1 → c ≤ next → Unlike payload q T left n → r ≡ false → Unlike payload q T next n
+  unlike-more n left next a b h e d i j = go (same? d c)
     where
       go : (d ≡ c) ⊎ (d ≡ c → ⊥) → same payload (payloadOf (predicateIn q (recordAt T d))) ≡ false
       go (inl z) = rw z (sym r-is ∙ e)

@@ -21,9 +21,8 @@ use Rattle.query.specs.declared.whole.Reading.the-variants.{Refused, Acc
 use Rattle.query.specs.Format.{bytesAfterQuery}
 use Rattle.query.specs.Query.{Query}
 use Rattle.query.specs.Decode.{payloadOf, Read, stopped, read, member, wholeQuery, decodeTagged}
-use Rattle.query.specs.Table.{recordAt, predicateIn, listed, Placed}
-use Rattle.query.specs.Ladder.{Tables, Low}
-use Rattle.query.specs.Sound.{IsRefusal}
+use Rattle.query.specs.Table.{recordAt, predicateIn, listed}
+use Rattle.query.specs.Ladder.{Tables}
 use Rattle.query.specs.Reader.{Told, MemberRead}
 use Rattle.query.specs.Handed.{TablesSized, Recorded, Tabled, Handed}
 use Rattle.query.proofs.Records.{listed-at}
@@ -65,14 +64,14 @@ recorded tags q T c l f =
 module _ (tags q : List ℕ) (T T1 : Tables) where
   told : (r : _) → MemberRead tags q 0 (length q) 0 0 r T T1 → Told q enclosing 0 (member (2 * length q + 1) tags q 0 (length q) 0 []) r T T1
   unfolding listed
-  told r h = h (2 * length q + 1) (omega arith)
+  told r h = h .exact (2 * length q + 1) (omega arith)
 
-  pub whole-refused : (e : ℕ) → MemberRead tags q 0 (length q) 0 0 (progress.Refused e) T T1 → IsRefusal e → Handed tags q (decodeTagged tags q) (Refused e) T1
+  pub whole-refused : (e : ℕ) → MemberRead tags q 0 (length q) 0 0 (progress.Refused e) T T1 → Handed tags q (decodeTagged tags q) (Refused e) T1
   unfolding decodeTagged
-  whole-refused e h i = go (member (2 * length q + 1) tags q 0 (length q) 0 []) (told (progress.Refused e) h)
+  whole-refused e h = go (member (2 * length q + 1) tags q 0 (length q) 0 []) (told (progress.Refused e) h)
     where
       go : (o : Read (Tree ℕ)) → Told q enclosing 0 o (progress.Refused e) T T1 → Handed tags q (wholeQuery q o) (Refused e) T1
-      go (stopped x) t = let z : e ≡ x = cc in (ap Refused z, rw z at i)
+      go (stopped x) t = let z : e ≡ x = cc in (ap Refused z, rw z at (h .within))
       go (read t ps next) d = let z : _≡_ {A = ℕ} 0 1 = cc in absurd (omega arith)
 
   pub whole-left : (p m : ℕ) → MemberRead tags q 0 (length q) 0 0 (progress.Next p m) T T1 → (p ≡ length q → ⊥) → Handed tags q (decodeTagged tags q) (Refused bytesAfterQuery) T1
@@ -83,10 +82,10 @@ module _ (tags q : List ℕ) (T T1 : Tables) where
       go (stopped x) t = let z : _≡_ {A = ℕ} 0 1 = cc in absurd (omega arith)
       go (read t ps next) d = let z : next ≡ p = cc in rw (z, ne-eqb _ _ n) (refl, (omega arith, omega arith))
 
-  pub whole-accepted : (p m : ℕ) → MemberRead tags q 0 (length q) 0 0 (progress.Next p m) T T1 → p ≡ length q → Placed q (T1 .records) m → Low m (T1 .heights) → TablesSized T1
+  pub whole-accepted : (p m : ℕ) → MemberRead tags q 0 (length q) 0 0 (progress.Next p m) T T1 → p ≡ length q → TablesSized T1
       → Handed tags q (decodeTagged tags q) (Accepted m) T1
   unfolding decodeTagged listed
-  whole-accepted p m h e a b s =
+  whole-accepted p m h e s =
       go (member (2 * length q + 1) tags q 0 (length q) 0 []) (told (progress.Next p m) h) (member-sound (2 * length q + 1) tags q 0 (length q) 0 [])
     where
       go : (o : Read (Tree ℕ)) → Told q enclosing 0 o (progress.Next p m) T T1 → SoundTree tags q 0 (length q) 0 o → Handed tags q (wholeQuery q o) (Accepted m) T1
@@ -106,9 +105,9 @@ module _ (tags q : List ℕ) (T T1 : Tables) where
               numbered = k .numbered;
               full = k .full;
               shown = l;
-              each = λ c i. recorded tags q (T1 .records) c (a c (omega arith)) (each-listed (Fits tags q) q (T1 .records) (length ps) (rw l (k .each)) c i);
+              each = λ c i. recorded tags q (T1 .records) c (h .within .4 c (omega arith)) (each-listed (Fits tags q) q (T1 .records) (length ps) (rw l (k .each)) c i);
               ladders = λ c i. d .2 .new c (omega arith, omega arith);
-              low = λ c i. b c (omega arith);
+              low = λ c i. h .within .5 c (omega arith);
               sized = s;
             },
           )

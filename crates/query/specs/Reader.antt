@@ -3,6 +3,7 @@ use Prim.Native.Nat.{ℕ, _+_, _-_, _*_, _≤_, _<_}
 use mathlib.Core.Path.{_≡_}
 use mathlib.Core.List.{List, _++_}
 use lib.ListN.{length}
+use Rattle.fields.specs.Header.{headerSize}
 use Rattle.strategy.specs.Tree.{Tree, Forest, InRun}
 use Rattle.strategy.specs.Climb.{Group, enclosing, enclosingIn}
 use Rattle.sets.specs.Rungs.{rungs}
@@ -26,22 +27,30 @@ Told q around n (read t ps next) r T T′ =
     (r ≡ Next next (n + length ps)) × (listed q (T′ .records) (n + length ps) ≡ listed q (T .records) n ++ ps)
     × Risen n (length ps) (around t n) T T′
 
--- the member at a place, at every fuel that is enough
-abbrev pub MemberRead : (tags q : List ℕ) → (at end depth n : ℕ) → Progress → Tables → Tables → Type 0
-MemberRead tags q at end depth n r T T′ =
-    (f : ℕ) → 2 * (end - at) < f → Told {A = Tree ℕ} q enclosing n (member f tags q at end depth (listed q (T .records) n)) r T T′
-
--- the members from a place on
-abbrev pub MembersRead : (tags q : List ℕ) → (at end depth n : ℕ) → Progress → Tables → Tables → Type 0
-MembersRead tags q at end depth n r T T′ =
-    (f : ℕ) → 2 * (end - at) + 1 < f → Told {A = Forest ℕ} q enclosingIn n (members f tags q at end depth (listed q (T .records) n)) r T T′
-
 -- a reading that is past `at`, still within `end` and within the limits
 abbrev pub Within : (at end depth n : ℕ) → (q : List ℕ) → Progress → Tables → Tables → Type 0
 Within at end depth n q (Refused e) T T′ = IsRefusal e
 Within at end depth n q (Next next m) T T′ =
     (at ≤ next) × (next ≤ end) × (n ≤ m) × (m ≤ predicateLimit) × Placed q (T′ .records) m
     × Low m (T′ .heights) × Under n m depth (T′ .heights) × Kept n (T .heights) (T′ .heights)
+
+-- the member at a place, and the members from a place on, at every fuel that is enough
+abbrev pub MemberTold : (tags q : List ℕ) → (at end depth n : ℕ) → Progress → Tables → Tables → Type 0
+MemberTold tags q at end depth n r T T′ =
+    (f : ℕ) → 2 * (end - at) < f → Told {A = Tree ℕ} q enclosing n (member f tags q at end depth (listed q (T .records) n)) r T T′
+
+abbrev pub MembersTold : (tags q : List ℕ) → (at end depth n : ℕ) → Progress → Tables → Tables → Type 0
+MembersTold tags q at end depth n r T T′ =
+    (f : ℕ) → 2 * (end - at) + 1 < f → Told {A = Forest ℕ} q enclosingIn n (members f tags q at end depth (listed q (T .records) n)) r T T′
+
+-- the contract of the member reader, and of the group reader
+pub record MemberRead (tags q : List ℕ) (at end depth n : ℕ) (r : Progress) (T T′ : Tables) : Type 0 where
+  pub within : Within (at + headerSize) end depth n q r T T′
+  pub exact : MemberTold tags q at end depth n r T T′
+
+pub record MembersRead (tags q : List ℕ) (at end depth n : ℕ) (r : Progress) (T T′ : Tables) : Type 0 where
+  pub within : Within at end depth n q r T T′
+  pub exact : MembersTold tags q at end depth n r T T′
 
 -- what a reading asks
 pub record Room (at end depth n : ℕ) (q : List ℕ) (T : Tables) : Type 0 where

@@ -1,9 +1,7 @@
 // The reader of a query: a group holds members, and a member may be a group again.
 use crate::member::MemberField;
-ghost use Prim.Native.Nat.{_+_};
-ghost use Rattle.fields.specs.Header.{headerSize};
 ghost use Rattle.query.specs.Ladder.{tables};
-ghost use Rattle.query.specs.Reader.{Room, Within, MemberRead, MembersRead};
+ghost use Rattle.query.specs.Reader.{Room, MemberRead, MembersRead};
 
 // A refusal, or the place after what was read and the number of predicates up to there.
 pub enum Progress {
@@ -25,8 +23,7 @@ pub fn read_member(
     heights: &mut [usize],
 ) -> Progress
     requires { ⌜ Room at end depth n (now q) (tables (now table) (now masks) (now sorts) (now heights)) ⌝ }
-    ensures within { λ r. ⌜ Within (at + headerSize) end depth n (now (q .entry)) r (tables (now (table .entry)) (now (masks .entry)) (now (sorts .entry)) (now (heights .entry))) (tables (now (table .exit)) (now (masks .exit)) (now (sorts .exit)) (now (heights .exit))) ⌝ }
-    ensures exact { λ r. ⌜ MemberRead (now (tags .entry)) (now (q .entry)) at end depth n r (tables (now (table .entry)) (now (masks .entry)) (now (sorts .entry)) (now (heights .entry))) (tables (now (table .exit)) (now (masks .exit)) (now (sorts .exit)) (now (heights .exit))) ⌝ }
+    ensures { λ r. ⌜ MemberRead (now (tags .entry)) (now (q .entry)) at end depth n r (tables (now (table .entry)) (now (masks .entry)) (now (sorts .entry)) (now (heights .entry))) (tables (now (table .exit)) (now (masks .exit)) (now (sorts .exit)) (now (heights .exit))) ⌝ }
 {
     match crate::member::read_field(tags, q, at, end, depth, n, table) {
         MemberField::Refused(e) => Progress::Refused(e),
@@ -77,8 +74,7 @@ fn read_group(
     heights: &mut [usize],
 ) -> Progress
     requires { ⌜ Room at end depth n (now q) (tables (now table) (now masks) (now sorts) (now heights)) ⌝ }
-    ensures within { λ r. ⌜ Within at end depth n (now (q .entry)) r (tables (now (table .entry)) (now (masks .entry)) (now (sorts .entry)) (now (heights .entry))) (tables (now (table .exit)) (now (masks .exit)) (now (sorts .exit)) (now (heights .exit))) ⌝ }
-    ensures exact { λ r. ⌜ MembersRead (now (tags .entry)) (now (q .entry)) at end depth n r (tables (now (table .entry)) (now (masks .entry)) (now (sorts .entry)) (now (heights .entry))) (tables (now (table .exit)) (now (masks .exit)) (now (sorts .exit)) (now (heights .exit))) ⌝ }
+    ensures { λ r. ⌜ MembersRead (now (tags .entry)) (now (q .entry)) at end depth n r (tables (now (table .entry)) (now (masks .entry)) (now (sorts .entry)) (now (heights .entry))) (tables (now (table .exit)) (now (masks .exit)) (now (sorts .exit)) (now (heights .exit))) ⌝ }
 {
     let mut p = at;
     let mut m = n;

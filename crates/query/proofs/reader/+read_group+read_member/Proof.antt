@@ -103,7 +103,7 @@ read-group-returns t c =
     let a = c .before .before .before .before .before .before .before .before .before .before .before .before .before .before .before .before .before .before .before .before .before .before .before .before .args in
     let l = c .before .before .before .before .before .before .before .before .before .before .before .before .before .before .before .before .before .loop in
     let m = c .before .before .before .before .before .before .before .before .before .before .before .read-member in
-    (rw (c .before .e .given .1) at (m .ensures .0), in-group-refused _ _ _ (a .end) (a .depth) _ (l .p) (l .m) (tables (now (a .table)) (now (a .masks)) (now (a .sorts)) (now (a .heights))) (tables (l .table) (l .masks) (l .sorts) (l .heights)) (l .inv) (tables (m .last .1 .1 .1 .1 .1 .1 .0) (m .last .1 .1 .1 .1 .1 .1 .1 .0) (m .last .1 .1 .1 .1 .1 .1 .1 .1 .0) (m .last .1 .1 .1 .1 .1 .1 .1 .1 .1 .0)) (omega arith) _ (rw (c .before .e .given .1) at (m .ensures .1)))
+    in-group-refused _ _ _ (a .end) (a .depth) _ (l .p) (l .m) (tables (now (a .table)) (now (a .masks)) (now (a .sorts)) (now (a .heights))) (tables (l .table) (l .masks) (l .sorts) (l .heights)) (l .inv) (tables (m .last .1 .1 .1 .1 .1 .1 .0) (m .last .1 .1 .1 .1 .1 .1 .1 .0) (m .last .1 .1 .1 .1 .1 .1 .1 .1 .0) (m .last .1 .1 .1 .1 .1 .1 .1 .1 .1 .0)) (omega arith) _ (rw (c .before .e .given .1) at (m .ensures))
 
 read-group-enum-known-next : (t : ℕ) → read-group-lts.Need-enum-known-next (
   read-member-below t,
@@ -116,7 +116,7 @@ read-group-loop-less : (t : ℕ) → read-group-lts.Need-loop-less (
   read-member.Post,
 ) (read-group-at t) read-group.Post read-group-Inv-loop read-group-μ-loop
 read-group-loop-less t c =
-    let w = rw (c .before .next .given .1) at (c .before .before .before .before .before .before .before .before .before .before .before .read-member .ensures .0) in
+    let w = rw (c .before .next .given .1) at (c .before .before .before .before .before .before .before .before .before .before .before .read-member .ensures .within) in
     omega arith
 
 read-group-loop-again : (t : ℕ) → read-group-lts.Need-loop-again (
@@ -129,7 +129,7 @@ read-group-loop-again t c =
     let m = c .before .before .before .before .before .before .before .before .before .before .before .read-member in
     let k = m .kept in
     let r = l .inv .room in
-    in-group-more _ _ _ (a .end) (a .depth) _ (l .p) (l .m) (tables (now (a .table)) (now (a .masks)) (now (a .sorts)) (now (a .heights))) (tables (l .table) (l .masks) (l .sorts) (l .heights)) (l .inv) (tables (m .last .1 .1 .1 .1 .1 .1 .0) (m .last .1 .1 .1 .1 .1 .1 .1 .0) (m .last .1 .1 .1 .1 .1 .1 .1 .1 .0) (m .last .1 .1 .1 .1 .1 .1 .1 .1 .1 .0)) (omega arith) _ _ (rw (c .before .next .given .1) at (m .ensures .0)) (rw (c .before .next .given .1) at (m .ensures .1)) (omega arith)
+    in-group-more _ _ _ (a .end) (a .depth) _ (l .p) (l .m) (tables (now (a .table)) (now (a .masks)) (now (a .sorts)) (now (a .heights))) (tables (l .table) (l .masks) (l .sorts) (l .heights)) (l .inv) (tables (m .last .1 .1 .1 .1 .1 .1 .0) (m .last .1 .1 .1 .1 .1 .1 .1 .0) (m .last .1 .1 .1 .1 .1 .1 .1 .1 .0) (m .last .1 .1 .1 .1 .1 .1 .1 .1 .1 .0)) (omega arith) _ _ (rw (c .before .next .given .1) at (m .ensures)) (omega arith)
     (record { masks-size = omega arith; sorts-size = omega arith; heights-size = omega arith })
 
 read-group-same-length-5 : (t : ℕ) → read-group-lts.Need-same-length-5 (
@@ -378,7 +378,7 @@ read-member-close-group-requires t c κs =
     let g = c .before .before .before .before .before .before .before .before .before .before .before .before .before .before .read-group in
     let k = g .kept in
     let p = c .before .before .before .before .before .before .before .before .before .before .before .before .before .before .before .before .before .before .before .before .before .before .before .before .before .before .before .before .before .before .pre .1 .ladders in
-    let w = rw (c .before .before .before .before .next .given .1) at (g .ensures .0) in
+    let w = rw (c .before .before .before .before .next .given .1) at (g .ensures .within) in
     ((w .2, w .3, record { masks-size = omega arith; sorts-size = omega arith; heights-size = omega arith }), (w .5, λ k i j. (let u = w .6 k i j in omega arith)))
 
 read-member-same-length : (t : ℕ) → read-member-lts.Need-same-length (
@@ -409,10 +409,10 @@ read-member-returns : (t : ℕ) → read-member-lts.Need-returns (
 ) (read-member-at t) read-member.Post
 read-member-returns t c =
     let a = c .before .before .before .before .before .before .before .before .before .before .before .args in
-    let f = c .before .before .before .read-field in (
-      rw (c .before .e .given .1) at (f .ensures .1),
-      member-refused _ _ (a .at) (a .end) (a .depth) (a .n) (tables (now (a .table)) (now (a .masks)) (now (a .sorts)) (now (a .heights))) (tables (now (a .table)) (now (a .masks)) (now (a .sorts)) (now (a .heights))) _ (f .ensures .0) _ (c .before .e .given .1),
-    )
+    let f = c .before .before .before .read-field in record {
+      within = rw (c .before .e .given .1) at (f .ensures .1);
+      exact = member-refused _ _ (a .at) (a .end) (a .depth) (a .n) (tables (now (a .table)) (now (a .masks)) (now (a .sorts)) (now (a .heights))) (tables (now (a .table)) (now (a .masks)) (now (a .sorts)) (now (a .heights))) _ (f .ensures .0) _ (c .before .e .given .1);
+    }
 
 read-member-same-length-2 : (t : ℕ) → read-member-lts.Need-same-length-2 (
   read-field-reads.Asked,
@@ -459,10 +459,10 @@ read-member-returns-2 t c =
     let f = c .before .before .before .before .before .before .before .before .read-field in
     let p = c .before .before .before .before .before .before .before .before .before .before .before .before .before .before .before .before .pre .1 in
     let w = rw (c .before .before .before .before .before .before .start .given .1) at (f .ensures .1) in
-    let put = rw (c .before .before .before .before .record-of .ensures) at (c .before .before .put-record .ensures) in (
-      leaf-within (now (a .tags)) (now (a .q)) (a .at) (a .end) (a .depth) (a .n) (now (a .table)) (c .before .before .put-record .last .0) (now (a .masks)) (now (a .sorts)) (now (a .heights)) _ _ (w .1) (omega (arith, p .ladders .heights-size)) put (w .0) (w .2) (p .inside) (w .3) (p .deep) (p .listed .placed) (p .low),
-      member-leaf (now (a .tags)) (now (a .q)) (a .at) (a .end) (a .depth) (a .n) (now (a .table)) (c .before .before .put-record .last .0) (now (a .masks)) (now (a .sorts)) (now (a .heights)) _ _ (w .1) (omega (arith, p .ladders .heights-size)) put _ (f .ensures .0) (c .before .before .before .before .before .before .start .given .1),
-    )
+    let put = rw (c .before .before .before .before .record-of .ensures) at (c .before .before .put-record .ensures) in record {
+      within = leaf-within (now (a .tags)) (now (a .q)) (a .at) (a .end) (a .depth) (a .n) (now (a .table)) (c .before .before .put-record .last .0) (now (a .masks)) (now (a .sorts)) (now (a .heights)) _ _ (w .1) (omega (arith, p .ladders .heights-size)) put (w .0) (w .2) (p .inside) (w .3) (p .deep) (p .listed .placed) (p .low);
+      exact = member-leaf (now (a .tags)) (now (a .q)) (a .at) (a .end) (a .depth) (a .n) (now (a .table)) (c .before .before .put-record .last .0) (now (a .masks)) (now (a .sorts)) (now (a .heights)) _ _ (w .1) (omega (arith, p .ladders .heights-size)) put _ (f .ensures .0) (c .before .before .before .before .before .before .start .given .1);
+    }
 
 read-member-same-length-4 : (t : ℕ) → read-member-lts.Need-same-length-4 (
   read-field-reads.Asked,
@@ -536,10 +536,10 @@ read-member-returns-3 t c =
     let a = c .before .before .before .before .before .before .before .before .before .before .before .before .before .before .before .before .before .before .before .before .before .before .before .before .before .before .before .args in
     let f = c .before .before .before .before .before .before .before .before .before .before .before .before .before .before .before .before .before .before .before .read-field in
     let g = c .before .before .before .before .before .before .before .before .before .before .before .read-group in
-    let w = rw (c .before .before .before .before .before .before .before .before .before .before .before .before .before .before .before .before .before .tag .given .1) at (f .ensures .1) in (
-      rw (c .before .e2 .given .1) at (g .ensures .0),
-      member-group-refused _ _ (a .at) (a .end) (a .depth) (a .n) (tables (now (a .table)) (now (a .masks)) (now (a .sorts)) (now (a .heights))) (tables (g .last .1 .1 .1 .1 .1 .1 .0) (g .last .1 .1 .1 .1 .1 .1 .1 .0) (g .last .1 .1 .1 .1 .1 .1 .1 .1 .0) (g .last .1 .1 .1 .1 .1 .1 .1 .1 .1 .0)) _ (f .ensures .0) _ _ _ (c .before .before .before .before .before .before .before .before .before .before .before .before .before .before .before .before .before .tag .given .1) (w .0) (w .1) (w .2) _ (rw (c .before .e2 .given .1) at (g .ensures .1)),
-    )
+    let w = rw (c .before .before .before .before .before .before .before .before .before .before .before .before .before .before .before .before .before .tag .given .1) at (f .ensures .1) in record {
+      within = rw (c .before .e2 .given .1) at (g .ensures .within);
+      exact = member-group-refused _ _ (a .at) (a .end) (a .depth) (a .n) (tables (now (a .table)) (now (a .masks)) (now (a .sorts)) (now (a .heights))) (tables (g .last .1 .1 .1 .1 .1 .1 .0) (g .last .1 .1 .1 .1 .1 .1 .1 .0) (g .last .1 .1 .1 .1 .1 .1 .1 .1 .0) (g .last .1 .1 .1 .1 .1 .1 .1 .1 .1 .0)) _ (f .ensures .0) _ _ _ (c .before .before .before .before .before .before .before .before .before .before .before .before .before .before .before .before .before .tag .given .1) (w .0) (w .1) (w .2) _ (rw (c .before .e2 .given .1) at (g .ensures .exact));
+    }
 
 read-member-same-length-8 : (t : ℕ) → read-member-lts.Need-same-length-8 (
   read-field-reads.Asked,
@@ -615,10 +615,10 @@ read-member-returns-4 t c =
     let v = c .before .before .before .before .before .before .before .before .before .before .before .before .before .before .before .before .before .before .before .before .before .before .before .before .before .before .before .tag .given in
     let g = c .before .before .before .before .before .before .before .before .before .before .before .before .before .before .before .before .before .before .before .before .before .read-group in
     let k = c .before .before .before .before .before .before .close-group in
-    let w = rw (v .1) at (f .ensures .1) in (
-      group-within (now (a .q)) (a .at) (a .end) (a .depth) (a .n) _ _ _ _ (v .0 .0) (tables (now (a .table)) (now (a .masks)) (now (a .sorts)) (now (a .heights))) (g .last .1 .1 .1 .1 .1 .1 .0) (g .last .1 .1 .1 .1 .1 .1 .1 .0) (g .last .1 .1 .1 .1 .1 .1 .1 .1 .0) (g .last .1 .1 .1 .1 .1 .1 .1 .1 .1 .0) (k .last .0) (k .last .1 .0) (k .last .1 .1 .0) (w .0) (w .2) (rw (c .before .before .before .before .before .before .before .before .before .before .before .next .given .1) at (g .ensures .0)) (k .ensures),
-      member-group _ _ (a .at) (a .end) (a .depth) (a .n) (tables (now (a .table)) (now (a .masks)) (now (a .sorts)) (now (a .heights))) (tables (g .last .1 .1 .1 .1 .1 .1 .0) (g .last .1 .1 .1 .1 .1 .1 .1 .0) (g .last .1 .1 .1 .1 .1 .1 .1 .1 .0) (g .last .1 .1 .1 .1 .1 .1 .1 .1 .1 .0)) _ (f .ensures .0) _ _ _ (v .1) (w .0) (w .1) (w .2) _ _ (tables (g .last .1 .1 .1 .1 .1 .1 .0) (k .last .0) (k .last .1 .0) (k .last .1 .1 .0)) (rw (c .before .before .before .before .before .before .before .before .before .before .before .next .given .1) at (g .ensures .1)) refl (k .ensures (g .last .1 .1 .1 .1 .1 .1 .0)),
-    )
+    let w = rw (v .1) at (f .ensures .1) in record {
+      within = group-within (now (a .q)) (a .at) (a .end) (a .depth) (a .n) _ _ _ _ (v .0 .0) (tables (now (a .table)) (now (a .masks)) (now (a .sorts)) (now (a .heights))) (g .last .1 .1 .1 .1 .1 .1 .0) (g .last .1 .1 .1 .1 .1 .1 .1 .0) (g .last .1 .1 .1 .1 .1 .1 .1 .1 .0) (g .last .1 .1 .1 .1 .1 .1 .1 .1 .1 .0) (k .last .0) (k .last .1 .0) (k .last .1 .1 .0) (w .0) (w .2) (rw (c .before .before .before .before .before .before .before .before .before .before .before .next .given .1) at (g .ensures .within)) (k .ensures);
+      exact = member-group _ _ (a .at) (a .end) (a .depth) (a .n) (tables (now (a .table)) (now (a .masks)) (now (a .sorts)) (now (a .heights))) (tables (g .last .1 .1 .1 .1 .1 .1 .0) (g .last .1 .1 .1 .1 .1 .1 .1 .0) (g .last .1 .1 .1 .1 .1 .1 .1 .1 .0) (g .last .1 .1 .1 .1 .1 .1 .1 .1 .1 .0)) _ (f .ensures .0) _ _ _ (v .1) (w .0) (w .1) (w .2) _ _ (tables (g .last .1 .1 .1 .1 .1 .1 .0) (k .last .0) (k .last .1 .0) (k .last .1 .1 .0)) (rw (c .before .before .before .before .before .before .before .before .before .before .before .next .given .1) at (g .ensures .exact)) refl (k .ensures (g .last .1 .1 .1 .1 .1 .1 .0));
+    }
 
 pub +read-group+read-member-spec : {M : Type 1} → statement M
 +read-group+read-member-spec = close μ-read-group μ-read-member (λ t. read-group-lts.spec (

@@ -1,7 +1,7 @@
 -- `is_repeated` meets its contract: none of the records from the number left on has the payload, and the others decide.
 use native.Mathlib.Omega.{arith}
 use borrow.Author.Needs.{needs}
-use Prim.Native.Nat.{_+_, _-_, _≤_}
+use Prim.Native.Nat.{_-_, _≤_}
 use mathlib.Core.Path.{_≡_, sym}
 use Rattle.query.proofs.Repeats.{Unlike, repeated-none, repeated-at, unlike-more}
 use Rattle.query.proofs.repeated.is_repeated.Statement.{statement}
@@ -35,7 +35,7 @@ loop-less : tie.Need-loop-less Inv-loop μ-loop
 loop-less c = search needs
 
 loop-again : tie.Need-loop-again Inv-loop μ-loop
-loop-again c = let e : c .before .before .before .before .loop .left ≡ c .before .before .before .before .loop .left - 1 + 1 = omega arith in (omega arith, unlike-more _ _ _ _ (c .before .before .before .before .loop .left - 1) (rw (c .before .before .record-at .ensures) at (c .before .is-payload-of .ensures)) _ (rw e at (c .before .before .before .before .loop .inv .1)) (c .if1 .left))
+loop-again c = (omega arith, unlike-more _ _ _ _ (c .before .before .before .before .loop .left - 1) (rw (c .before .before .record-at .ensures) at (c .before .is-payload-of .ensures)) _ _ _ (omega arith) (omega arith) (c .before .before .before .before .loop .inv .1) (c .if1 .left))
 
 returns-2 : tie.Need-returns-2 Inv-loop μ-loop
 returns-2 c = let e : c .before .loop .left ≡ 0 = omega arith in sym (repeated-none _ _ _ _ (rw e at (c .before .loop .inv .1)))
