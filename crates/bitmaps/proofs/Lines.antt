@@ -1,13 +1,13 @@
 -- Copying: a part written byte by byte, and lines put one after the other at the front of a table.
-use Prim.Native.Nat.{ℕ, zero, suc, _+_, _-_, _*_, _≤_, _<_}
-use native.Mathlib.Nat.{add-zero, suc-mul, mul-le-mul-right}
+use Prim.Native.Nat.{ℕ, suc, _+_, _-_, _*_, _≤_, _<_}
+use native.Mathlib.Nat.{suc-mul, mul-le-mul-right}
 use native.Mathlib.Numerals.{add-one}
 use native.Mathlib.Omega.{arith}
-use mathlib.Core.Path.{_≡_, refl, sym, ap, ap₂, _∙_}
+use mathlib.Core.Path.{_≡_, sym, ap, ap₂, _∙_}
 use mathlib.Core.List.{List, [], _∷_, _++_, append-assoc, append-nil}
 use lib.ListN.{length, take, drop, getD, set, length-append, length-take, length-drop, drop-of-length-le}
 use borrow.Rule.Slice.PartMut.{putMid}
-use lib.Seq.{take-suc, drop-cons, set-at, length-take-le, take-at, drop-at, take-append-le, drop-drop, take-all}
+use lib.Seq.{take-suc, drop-cons, set-at, length-take-le, take-at, drop-at, drop-drop, take-all}
 use Rattle.bitmaps.specs.Sums.{joined}
 use Rattle.bitmaps.specs.Bitmap.{putFront}
 use Rattle.bitmaps.specs.Table.{lineSize, linesOf}

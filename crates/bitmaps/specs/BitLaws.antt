@@ -1,6 +1,6 @@
 -- The bits of a number of given width and of a table, and their ones.
 use Prim.Native.Nat.{ℕ, zero, suc, _+_, _*_, _/_, _%_, _^_, _≤_, _<_}
-use native.Mathlib.Nat.{div-eq-of-lt, suc-mul, add-comm, one-mul, zero-mul, add-zero, lt-of-lt-of-le}
+use native.Mathlib.Nat.{div-eq-of-lt, add-comm, one-mul, zero-mul, add-zero, lt-of-lt-of-le}
 use native.Mathlib.Omega.{arith}
 use mathlib.Core.Path.{_≡_, refl, sym, ap, ap₂, _∙_}
 use mathlib.Core.Bool.{Bool, true, false, _&&_, _||_}
@@ -8,7 +8,7 @@ use mathlib.Core.Logic.{_⊎_, inl, inr}
 use mathlib.Core.List.{List, [], _∷_}
 use lib.ListN.{length, getD}
 use lib.Dec.{eqb, ltb}
-use lib.Pow.{pow-mono, pow-pos}
+use lib.Pow.{pow-mono}
 use lib.Bits.{bitOr, or-shifted-r}
 use lib.Count.{ones, ones-cat, ones-le, ones-step}
 use Rattle.strategy.specs.Bools.{which, iff-eq, same?, eqb-self, eqb-ne, ltb-yes, ltb-no, ltb-lt, ltb-le}
@@ -29,7 +29,7 @@ digit-lt : (n s : ℕ) (v : Bool) → s < 2 ^ n → s + digit v * 2 ^ n < 2 ^ su
 digit-lt n s true h = omega arith
 digit-lt n s false h = omega arith
 
-or-false : (a : Bool) → a ≡ (a || false)
+pub or-false : (a : Bool) → a ≡ (a || false)
 or-false true = refl
 or-false false = refl
 
@@ -55,7 +55,7 @@ binary-lt b zero = omega arith
 binary-lt b (suc n) = digit-lt n (binary b n) (b n) (binary-lt b n)
 
 -- one place more
-below-more : (b : ℕ → Bool) (n d : ℕ) → ((ltb d n && b d) || (b n && eqb d n)) ≡ (ltb d (suc n) && b d)
+pub below-more : (b : ℕ → Bool) (n d : ℕ) → ((ltb d n && b d) || (b n && eqb d n)) ≡ (ltb d (suc n) && b d)
 below-more b n d = go (same? d n)
   where
     last : (v : Bool) → (v && true) ≡ v

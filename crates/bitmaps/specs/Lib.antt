@@ -2,6 +2,8 @@ pub mod Sums
 pub mod SumLaws
 pub mod Bitmap
 pub mod OnesLaws
-pub mod Table
 pub mod Bit
 pub mod BitLaws
+pub mod BitmapLaws
+pub mod Table
+pub mod TableLaws

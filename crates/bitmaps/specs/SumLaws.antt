@@ -1,12 +1,12 @@
 -- Sums and joined lists: equal terms, a sum cut in two or into lines, terms that are zero.
 use Prim.Native.Nat.{ℕ, zero, suc, _+_, _-_, _*_, _≤_, _<_}
-use native.Mathlib.Nat.{add-zero, add-suc, add-assoc, suc-mul}
+use native.Mathlib.Nat.{add-zero, add-suc, add-assoc, suc-mul, mul-le-mul-right}
 use native.Mathlib.Omega.{arith}
 use mathlib.Core.Path.{_≡_, refl, sym, ap, ap₂, _∙_}
 use mathlib.Core.Bool.{Bool, true, false}
 use mathlib.Core.List.{List, [], _∷_, _++_}
-use lib.ListN.{length, getD, length-append, List·getD-append}
-use lib.Seq.{getD-at}
+use lib.ListN.{length, getD, take, drop, length-append, length-drop, List·getD-append}
+use lib.Seq.{getD-at, drop-at, take-all, take-append-le, drop-append-le}
 use lib.Dec.{ltb}
 use borrow.Author.Tests.{ltb-true, ltb-false}
 use Rattle.bitmaps.specs.Sums.{sumOf, joined, digit, countOf}
@@ -54,6 +54,25 @@ unfolding joined
 joined-length g size zero e = omega arith
 joined-length g size (suc n) e =
     omega (arith, length-append (joined g n) (g n), joined-length g size n (λ i l. e i (omega arith)), e n (omega arith), suc-mul n size)
+
+pub joined-line : (g : ℕ → List ℕ) (size n : ℕ) → ((i : ℕ) → length (g i) ≡ size) → (c : ℕ) → c < n → take size (drop (c * size) (joined g n)) ≡ g c
+unfolding joined
+joined-line g size zero e c l = absurd (omega arith)
+joined-line g size (suc n) e c l = go (ltb c n) refl (joined-line g size n e c)
+  where
+    long : length (joined g n) ≡ n * size
+    long = joined-length g size n (λ i l. e i)
+
+    go : (b : Bool) → ltb c n ≡ b → (c < n → take size (drop (c * size) (joined g n)) ≡ g c) → take size (drop (c * size) (joined g n ++ g n)) ≡ g c
+    go true y less =
+        let m : c < n = ltb-true c n y in
+        let fits : c * size + size ≤ n * size = omega (arith, mul-le-mul-right size m) in
+        ap (take size) (drop-append-le (c * size) (joined g n) (g n) (omega (arith, long)))
+        ∙ take-append-le size (drop (c * size) (joined g n)) (g n) (omega (arith, long, length-drop (c * size) (joined g n)))
+        ∙ less m
+    go false y less =
+        let q : c ≡ n = omega (arith, ltb-false c n y) in
+        rw q (ap (take size) (drop-at (joined g n) (g n) (n * size) long) ∙ take-all size (g n) (omega (arith, e n)))
 
 module _ (h : ℕ → ℕ) where
   -- lists of one byte
