@@ -1,3 +1,6 @@
 pub mod Inputs
 pub mod Cases
 pub mod Answers
+pub mod DemandLaws
+pub mod DemandTables
+pub mod Demands
