@@ -195,7 +195,7 @@ pub demand-1-limits : Demand1Limits
 demand-1-limits = (
   λ b e h. rw h at (catalogue-limited b),
   λ C q e h. rw h at (query-sound C q),
-  λ b q i r. let C = reads-limited b q i r in let Q = reads-sound b q i r in (C .0, C .1, C .2, Q .some, Q .few),
+  λ b q i r. let C = reads-limited b q i r in let Q = reads-sound b q i r in (C .0, C .1, C .2, Q .some, Q .few, Q .nested),
 )
 
 -- DEMAND 2

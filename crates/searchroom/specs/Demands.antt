@@ -1,7 +1,7 @@
 -- THE THREE DEMANDS, sentence by sentence, over the definitions; proofs/Demands.antt proves each statement of this page.
 -- The contracts of the exported calls say that a call gives and leaves `catalogueAnswer`, `questionAnswer`, `outcomeAnswer`, `runOf` of the
 -- bytes that it was lent, whatever these are; that it finishes is part of each contract.
-use Prim.Native.Nat.{ℕ, _+_, _*_, _/_, _%_, _^_, _≤_, _<_}
+use Prim.Native.Nat.{ℕ, _+_, _-_, _*_, _/_, _%_, _^_, _≤_, _<_}
 use mathlib.Core.Path.{_≡_}
 use mathlib.Core.Bool.{true, false, _&&_, _||_}
 use mathlib.Core.Logic.{_↔_, _⊎_}
@@ -13,7 +13,7 @@ use Rattle.catalogue.specs.Catalogue.{Catalogue}
 use Rattle.catalogue.specs.Decode.{decodeCatalogue}
 use Rattle.predicate.specs.Meaning.{outcome}
 use Rattle.query.specs.Decode.{decodeQuery}
-use Rattle.strategy.specs.Tree.{Tree, leaf, Forest, none, more, all, any, eval}
+use Rattle.strategy.specs.Tree.{Tree, leaf, group, Forest, none, more, all, any, eval}
 use Rattle.strategy.specs.Assignment.{Assignment, Among}
 use Rattle.strategy.specs.Order.{occurrences}
 use Rattle.strategy.specs.Strategy.{Formula, Due, Strategy, Right, probes, answerOf}
@@ -63,6 +63,16 @@ Reads b q i = (decodeCatalogue b ≡ accepted (i .catalogue)) × (decodeQuery (i
 -- or this is the first that they break: "Checking a question first gives 1 to 6 for the catalogue, then walks the question."
 abbrev pub FormBroken : (catalogue question : List ℕ) → ℕ → Type 0
 FormBroken b q e = (decodeCatalogue b ≡ refused e) ⊎ ((C : Catalogue) × (decodeCatalogue b ≡ accepted C) × (decodeQuery C q ≡ refused e))
+
+-- "Groups may nest 8 deep, the outermost being 1": the groups of a tree nest at most so deep
+abbrev mutual
+  pub Nests : (deep : ℕ) → Tree ℕ → Type 0
+  Nests deep (leaf c) = Unit {0}
+  Nests deep (group k f) = (1 ≤ deep) × NestAll (deep - 1) f
+
+  pub NestAll : (deep : ℕ) → Forest ℕ → Type 0
+  NestAll deep none = Unit {0}
+  NestAll deep (more t f) = Nests deep t × NestAll deep f
 
 -- "A running order is n bytes holding each condition number once."
 abbrev pub RunningOrder : Input → (order : List ℕ) → Type 0
@@ -161,13 +171,14 @@ Demand1Outcome =
     × ((i : Input) → Reads b q i → entry < rowCount i → c < predicateCount i
     → Gives (outcomeWord b q entry c) 0 (outcomeNumber (outcome (i .catalogue) (predicateAt (i .query) c) entry)) 0 0)
 
--- the numbers are 1 to 6 for a catalogue and 7 to 14 for a question, never 0; what is accepted keeps the limits
+-- the numbers of the forms are 1 to 6 and 7 to 14, never 0, and what is accepted keeps the limits: entries, columns, conditions, depth
 abbrev pub Demand1Limits : Type 0
 Demand1Limits =
     ((b : List ℕ) (e : ℕ) → decodeCatalogue b ≡ refused e → (1 ≤ e) × (e ≤ 6))
     × ((C : Catalogue) (q : List ℕ) (e : ℕ) → decodeQuery C q ≡ refused e → (7 ≤ e) × (e ≤ 14))
     × ((b q : List ℕ) (i : Input) → Reads b q i
-    → (rowCount i ≤ 2048) × (1 ≤ length (i .catalogue .columns)) × (length (i .catalogue .columns) ≤ 16) × (1 ≤ predicateCount i) × (predicateCount i ≤ 64))
+    → (rowCount i ≤ 2048) × (1 ≤ length (i .catalogue .columns)) × (length (i .catalogue .columns) ≤ 16)
+    × (1 ≤ predicateCount i) × (predicateCount i ≤ 64) × Nests 8 (i .query .tree))
 
 -- DEMAND 2
 
