@@ -56,7 +56,8 @@ ColumnSound (column.Texts start end) = Unit {0}
 column-sound : (b : List ℕ) (rows : ℕ) (h : Header) → ColumnSound (columnOf b rows h)
 unfolding columnOf
 column-sound b rows Cut = omega arith
-column-sound b rows (Field tag start end) = go (eqb tag numberTag) (eqb (end - start) (numberSize * rows)) (eqb tag textTag) (eqb (end - start) (slotSize * rows)) (validSlots b start rows)
+column-sound b rows (Field tag start end) =
+    go (eqb tag numberTag) (eqb (end - start) (numberSize * rows)) (eqb tag textTag) (eqb (end - start) (slotSize * rows)) (validSlots b start rows)
   where
     go : (x y z w v : Bool) → ColumnSound (either x (either y (column.Numbers start end) (column.Refused notColumn))
         (either z (either w (either v (column.Texts start end) (column.Refused badSlot)) (column.Refused notColumn)) (column.Refused notColumn)))
@@ -74,13 +75,15 @@ columns-limited b rows zero at = go (eqb at (length b))
     go : (x : Bool) → Columns 0 (either x (accepted []) (refused bytesAfterColumns))
     go true = refl
     go false = omega arith
-columns-limited b rows (suc n) at = go (columnOf b rows (headerAt b at (length b))) (column-sound b rows (headerAt b at (length b))) (λ next. columns-limited b rows n next)
+columns-limited b rows (suc n) at =
+    go (columnOf b rows (headerAt b at (length b))) (column-sound b rows (headerAt b at (length b))) (λ next. columns-limited b rows n next)
   where
     before : (c : Column) (d : Decoded (List Column)) → Columns n d → Columns (suc n) (columnBefore c d)
     before c (refused e) s = s
     before c (accepted cs) s = ap suc s
 
-    go : (f : ColumnField) → ColumnSound f → ((next : ℕ) → Columns n (columnsAt b rows n next)) → Columns (suc n) (columnThen b rows f (λ next. columnsAt b rows n next))
+    go : (f : ColumnField) → ColumnSound f → ((next : ℕ) → Columns n (columnsAt b rows n next))
+        → Columns (suc n) (columnThen b rows f (λ next. columnsAt b rows n next))
     go (column.Refused e) s ih = s
     go (column.Numbers start end) s ih = before _ (columnsAt b rows n end) (ih end)
     go (column.Texts start end) s ih = before _ (columnsAt b rows n end) (ih end)
@@ -93,8 +96,10 @@ catalogue-limited b = go (headerAt b 0 (length b))
     rows-limited rows n r l h (refused e) s = s
     rows-limited rows n r l h (accepted cs) s = (r, omega arith, omega arith)
 
-    counts : (rows n next : ℕ) (x y z : Bool) → leb rows rowLimit ≡ x → leb 1 n ≡ y → leb n columnLimit ≡ z → Limited (firstThen b (either (both x (both y z)) (first.Counts rows n next) (first.Refused countsOutOfRange)))
-    counts rows n next true true true r l h = rows-limited rows n (leb-le rows rowLimit r) (leb-le 1 n l) (leb-le n columnLimit h) (columnsAt b rows n next) (columns-limited b rows n next)
+    counts : (rows n next : ℕ) (x y z : Bool) → leb rows rowLimit ≡ x → leb 1 n ≡ y → leb n columnLimit ≡ z
+        → Limited (firstThen b (either (both x (both y z)) (first.Counts rows n next) (first.Refused countsOutOfRange)))
+    counts rows n next true true true r l h =
+        rows-limited rows n (leb-le rows rowLimit r) (leb-le 1 n l) (leb-le n columnLimit h) (columnsAt b rows n next) (columns-limited b rows n next)
     counts rows n next true true false r l h = omega arith
     counts rows n next true false z r l h = omega arith
     counts rows n next false y z r l h = omega arith
@@ -108,7 +113,8 @@ catalogue-limited b = go (headerAt b 0 (length b))
     go (Field tag start end) =
         let rows = numberAt b start 2 in
         let n = getD b (start + 2) 0 in
-        tagged (both (eqb tag firstTag) (eqb (end - start) firstSize)) (countsAt rows n end) (counts rows n end (leb rows rowLimit) (leb 1 n) (leb n columnLimit) refl refl refl)
+        tagged (both (eqb tag firstTag) (eqb (end - start) firstSize)) (countsAt rows n end)
+        (counts rows n end (leb rows rowLimit) (leb 1 n) (leb n columnLimit) refl refl refl)
 
 -- EVERY QUERY: refused by 7 to 14, since the calls that bound a reading are always enough
 

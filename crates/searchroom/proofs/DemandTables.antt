@@ -198,22 +198,23 @@ module _ (i : Input) where
 
 -- THE LENT TABLES AFTERWARDS
 
-module _ (i : Input) (listed : List ℕ) where
+module _ (i : Input) where
   pub selection-length : length (selection i) ≡ bytesFor (rowCount i)
   unfolding selection
   selection-length = bitmap-length (isSelected (i .catalogue) (i .query)) (rowCount i)
 
-  pub listed-row : listedRow i (putFront (selection i) listed) ≡ bitmap (isSelected (i .catalogue) (i .query)) (rowCount i)
+  pub listed-row : (listed : List ℕ) → listedRow i (putFront (selection i) listed) ≡ bitmap (isSelected (i .catalogue) (i .query)) (rowCount i)
   unfolding selection
-  listed-row = front-new (selection i) listed (bytesFor (rowCount i)) selection-length
+  listed-row listed = front-new (selection i) listed (bytesFor (rowCount i)) selection-length
 
-module _ (i : Input) (order looks : List ℕ) where
-  pub probes-length : length (probes i order) ≡ predicateCount i * bytesFor (rowCount i)
-  unfolding probes
-  probes-length = bitmaps-length (isProbed (i .catalogue) (i .query) order) (predicateCount i) (rowCount i)
+  module _ (order : List ℕ) where
+    pub probes-length : length (probes i order) ≡ predicateCount i * bytesFor (rowCount i)
+    unfolding probes
+    probes-length = bitmaps-length (isProbed (i .catalogue) (i .query) order) (predicateCount i) (rowCount i)
 
-  pub looks-row : (c : ℕ) → c < predicateCount i → looksRow i (putFront (probes i order) looks) c ≡ bitmap (isProbed (i .catalogue) (i .query) order c) (rowCount i)
-  unfolding probes
-  looks-row c l =
-      front-line (probes i order) looks (bytesFor (rowCount i)) (predicateCount i) c probes-length l
-      ∙ bitmaps-line (isProbed (i .catalogue) (i .query) order) (predicateCount i) (rowCount i) c l
+    pub looks-row : (looks : List ℕ) (c : ℕ) → c < predicateCount i
+        → looksRow i (putFront (probes i order) looks) c ≡ bitmap (isProbed (i .catalogue) (i .query) order c) (rowCount i)
+    unfolding probes
+    looks-row looks c l =
+        front-line (probes i order) looks (bytesFor (rowCount i)) (predicateCount i) c probes-length l
+        ∙ bitmaps-line (isProbed (i .catalogue) (i .query) order) (predicateCount i) (rowCount i) c l

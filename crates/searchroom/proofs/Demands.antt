@@ -1,19 +1,19 @@
--- The demands page, proved: a run is one of its cases by the tests of `runOf`, and each case gives what the page says of it.
+-- The demands page, proved: one proof for each of its statements, in its order.
 use Prim.Native.Nat.{ℕ, suc, _+_, _*_, _/_, _%_, _^_, _≤_, _<_}
 use native.Mathlib.Nat.{mul-comm}
 use native.Mathlib.Omega.{arith}
 use mathlib.Core.Path.{_≡_, refl, sym, ap, _∙_, subst}
-use mathlib.Core.Bool.{Bool, true, false, _&&_}
-use mathlib.Core.Logic.{_⊎_, inl, inr}
+use mathlib.Core.Bool.{true, _&&_}
+use mathlib.Core.Logic.{inl, inr}
 use mathlib.Core.List.{List, [], _∷_}
 use lib.ListN.{length}
-use lib.Dec.{eqb, ltb, leb}
+use lib.Dec.{ltb}
 use Rattle.fields.specs.Numbers.{numberAt}
 use Rattle.fields.proofs.Laws.{number-of-bytes}
 use Rattle.predicate.specs.declared.answer.Answer.{Answer as Outcome}
 use Rattle.predicate.specs.declared.answer.Answer.the-variants.{No, Yes}
 use Rattle.predicate.specs.Meaning.{outcome}
-use Rattle.strategy.specs.Bools.{not-true, both, and-parts, clash, eqb-eq, eqb-self, leb-yes, leb-le, ltb-yes, ltb-lt}
+use Rattle.strategy.specs.Bools.{not-true, and-parts, ltb-yes, ltb-lt}
 use Rattle.strategy.specs.Assignment.{Assignment, Among}
 use Rattle.strategy.specs.Tree.{eval, size}
 use Rattle.strategy.specs.TreeLaws.{all-none, all-more, any-none, any-more}
@@ -25,121 +25,24 @@ use Rattle.strategy.specs.Optimality.{optimal, optimal-count}
 use Rattle.strategy.specs.QueryLaws.{query-ours, query-right}
 use Rattle.bitmaps.specs.Sums.{sumOf, countOf}
 use Rattle.bitmaps.specs.SumLaws.{sum-same}
-use Rattle.bitmaps.specs.Bitmap.{bytesFor}
 use Rattle.bitmaps.specs.Bit.{bit}
 use Rattle.run.specs.Run.{predicateAt, isSelected, isProbed}
 use Rattle.searchroom.specs.declared.word.Answer.the-variants.{Refused, Accepted}
-use Rattle.searchroom.specs.Refusals.{notOrder, tableTooShort, counterRefused, noSuchPlace}
+use Rattle.searchroom.specs.Refusals.{noSuchPlace}
 use Rattle.searchroom.specs.Input.{Input}
 use Rattle.searchroom.specs.Answers.{outcomeNumber}
-use Rattle.searchroom.specs.Run.{rowCount, predicateCount, selection, probes, foundCount, lookCount, tablesFit, counterFits, accept, refuse, runOn, runOf}
-use Rattle.searchroom.specs.Demands.{Gives, Lent, after, Reads, FormBroken, RunningOrder, TablesFit, TallyFits, Kept, FirstBroken, badForm, badOrder, badTables, badTally, pattern, treeValue, listedRow, looksRow, Demand1Number, Demand1Refused, Demand1Accepted, Demand1Limits, Demand1Catalogue, Demand1Question, Demand1Outcome, Demand2Tree, Demand2Listed, Demand2Looks, Demand2Further, Demand2Counts, Demand2Tally, Demand3, Demand3Ours, Demand3Run}
-use Rattle.searchroom.proofs.DemandLaws.{catalogue-limited, query-sound, reads-input, broken-input, input-cases, broken-range, reads-limited, reads-sound, unpacked}
-use Rattle.searchroom.proofs.DemandTables.{sum-le, count-le, row-of, row-count, front-old, order-plain, held, traced-due, probed-due, found-count, look-count, look-count-le, look-count-rows, selection-length, listed-row, probes-length, looks-row}
-
--- THE CASES OF A RUN
-
--- the tests of `runOf` are the page's sentences
-module _ (i : Input) (listed looks : List ℕ) where
-  tables-yes : TablesFit i listed looks → tablesFit i listed looks ≡ true
-  tables-yes t = both (leb-yes (bytesFor (rowCount i)) (length listed) (t .0)) (leb-yes (predicateCount i * bytesFor (rowCount i)) (length looks) (t .1))
-
-  tables-fit : tablesFit i listed looks ≡ true → TablesFit i listed looks
-  tables-fit h =
-      let p = and-parts (leb (bytesFor (rowCount i)) (length listed)) (leb (predicateCount i * bytesFor (rowCount i)) (length looks)) h in
-      (leb-le (bytesFor (rowCount i)) (length listed) (p .0), leb-le (predicateCount i * bytesFor (rowCount i)) (length looks) (p .1))
-
-module _ (i : Input) (order tally : List ℕ) where
-  tally-yes : TallyFits i order tally → counterFits tally (lookCount i order) ≡ true
-  tally-yes t =
-      both (ap (λ (k : ℕ). eqb k 8) (t .0) ∙ eqb-self 8) (ltb-yes (numberAt tally 0 8 + lookCount i order) (2 ^ 64) (t .1))
-
-  tally-fits : counterFits tally (lookCount i order) ≡ true → TallyFits i order tally
-  tally-fits h =
-      let p = and-parts (eqb (length tally) 8) (ltb (numberAt tally 0 8 + lookCount i order) (2 ^ 64)) h in
-      (eqb-eq (length tally) 8 (p .0), ltb-lt (numberAt tally 0 8 + lookCount i order) (2 ^ 64) (p .1))
-
-module _ (l : Lent) where
-  abbrev refusedBy : ℕ → Type 0
-  refusedBy e = after l ≡ refuse e (l .listed) (l .looks) (l .tally)
-
-  kept-run : (i : Input) → Kept l i → after l ≡ accept i (l .order) (l .listed) (l .looks) (l .tally)
-  unfolding runOf runOn
-  kept-run i k =
-      rw (
-        reads-input (l .catalogue) (l .question) i (k .forms),
-        order-plain (predicateCount i) (l .order) .1 (k .order),
-        tables-yes i (l .listed) (l .looks) (k .tables),
-        tally-yes i (l .order) (l .tally) (k .tally),
-      )
-
-  broken-run : (e : ℕ) → FirstBroken l e → refusedBy e
-  unfolding runOf runOn
-  broken-run e (badForm x) = rw (broken-input (l .catalogue) (l .question) e x)
-  broken-run e (badOrder i r n z) =
-      rw (reads-input (l .catalogue) (l .question) i r, not-true (isOrder (predicateCount i) (l .order)) (λ h. n (order-plain (predicateCount i) (l .order) .0 h)), z)
-  broken-run e (badTables i r o n z) =
-      rw (
-        reads-input (l .catalogue) (l .question) i r,
-        order-plain (predicateCount i) (l .order) .1 o,
-        not-true (tablesFit i (l .listed) (l .looks)) (λ h. n (tables-fit i (l .listed) (l .looks) h)),
-        z,
-      )
-  broken-run e (badTally i r o t n z) =
-      rw (
-        reads-input (l .catalogue) (l .question) i r,
-        order-plain (predicateCount i) (l .order) .1 o,
-        tables-yes i (l .listed) (l .looks) t,
-        not-true (counterFits (l .tally) (lookCount i (l .order))) (λ h. n (tally-fits i (l .order) (l .tally) h)),
-        z,
-      )
-
-  broken-number : (e : ℕ) → FirstBroken l e → (1 ≤ e) × (e ≤ 17)
-  broken-number e (badForm x) = let r = broken-range (l .catalogue) (l .question) e x in omega arith
-  broken-number e (badOrder i r n z) = omega arith
-  broken-number e (badTables i r o n z) = omega arith
-  broken-number e (badTally i r o t n z) = omega arith
-
-  -- nothing is broken, or there is a first check that fails
-  abbrev Cases : Type 0
-  Cases = ((i : Input) × Kept l i) ⊎ ((e : ℕ) × FirstBroken l e)
-
-  run-cases : Cases
-  run-cases = forms (input-cases (l .catalogue) (l .question))
-    where
-      counter : (i : Input) → Reads (l .catalogue) (l .question) i → RunningOrder i (l .order) → TablesFit i (l .listed) (l .looks)
-          → (b : Bool) → counterFits (l .tally) (lookCount i (l .order)) ≡ b → Cases
-      counter i r o t true h = inl (i, record { forms = r; order = o; tables = t; tally = tally-fits i (l .order) (l .tally) h })
-      counter i r o t false h = inr (counterRefused, badTally i r o t (λ y. clash (tally-yes i (l .order) (l .tally) y) h) refl)
-
-      tables : (i : Input) → Reads (l .catalogue) (l .question) i → RunningOrder i (l .order) → (b : Bool) → tablesFit i (l .listed) (l .looks) ≡ b → Cases
-      tables i r o true h = counter i r o (tables-fit i (l .listed) (l .looks) h) (counterFits (l .tally) (lookCount i (l .order))) refl
-      tables i r o false h = inr (tableTooShort, badTables i r o (λ y. clash (tables-yes i (l .listed) (l .looks) y) h) refl)
-
-      orders : (i : Input) → Reads (l .catalogue) (l .question) i → (b : Bool) → isOrder (predicateCount i) (l .order) ≡ b → Cases
-      orders i r true h = tables i r (order-plain (predicateCount i) (l .order) .0 h) (tablesFit i (l .listed) (l .looks)) refl
-      orders i r false h = inr (notOrder, badOrder i r (λ y. clash (order-plain (predicateCount i) (l .order) .1 y) h) refl)
-
-      forms : ((i : Input) × Reads (l .catalogue) (l .question) i) ⊎ ((e : ℕ) × FormBroken (l .catalogue) (l .question) e) → Cases
-      forms (inl x) = orders (x .0) (x .1) (isOrder (predicateCount (x .0)) (l .order)) refl
-      forms (inr x) = inr (x .0, badForm (x .1))
-
-  broken-gives : (e : ℕ) → FirstBroken l e → Gives (after l .word) e 0 0 0
-  broken-gives e x = rw (broken-run e x) (let r = broken-number e x in unpacked (Refused e) (omega arith))
-
-  kept-gives : (i : Input) → Kept l i → Gives (after l .word) 0 (foundCount i) 0 (lookCount i (l .order))
-  kept-gives i k =
-      let C = reads-limited (l .catalogue) (l .question) i (k .forms) in
-      let Q = reads-sound (l .catalogue) (l .question) i (k .forms) in
-      rw (kept-run i k) (unpacked (Accepted (foundCount i) 0 (lookCount i (l .order)))
-      (omega (arith, found-count i, count-le (isSelected (i .catalogue) (i .query)) (rowCount i), look-count-le i (l .order) 2048 (C .0))))
+use Rattle.searchroom.specs.Run.{rowCount, predicateCount, selection, probes, foundCount, lookCount}
+use Rattle.searchroom.specs.Demands.{after, Reads, RunningOrder, rowBytes, Kept, FirstBroken, pattern, treeValue, listedRow, looksRow, Demand1Number, Demand1Refused, Demand1Accepted, Demand1Limits, Demand1Catalogue, Demand1Question, Demand1Outcome, Demand2Tree, Demand2Listed, Demand2Looks, Demand2Further, Demand2Counts, Demand2Tally, Demand3, Demand3Ours, Demand3Run}
+use Rattle.searchroom.proofs.DemandLaws.{catalogue-limited, query-sound, reads-input, broken-input, broken-range, reads-limited, reads-sound, unpacked}
+use Rattle.searchroom.proofs.DemandTables.{sum-le, row-of, row-count, front-old, order-plain, held, traced-due, probed-due, found-count, look-count, look-count-le, look-count-rows, selection-length, listed-row, probes-length, looks-row}
+use Rattle.searchroom.proofs.DemandRuns.{Cases, kept-run, broken-run, broken-number, run-cases, broken-gives, kept-gives}
 
 -- DEMAND 1
 
 pub demand-1-number : Demand1Number
 demand-1-number l e p = (λ h. go h (run-cases l), λ x. broken-gives l e x .1)
   where
-    go : after l .word % 2 ^ 8 ≡ e → ((i : Input) × Kept l i) ⊎ ((e : ℕ) × FirstBroken l e) → FirstBroken l e
+    go : after l .word % 2 ^ 8 ≡ e → Cases l → FirstBroken l e
     go h (inl x) = absurd (omega (arith, kept-gives l (x .0) (x .1) .1))
     go h (inr x) = subst (λ (k : ℕ). FirstBroken l k) (sym (broken-gives l (x .0) (x .1) .1) ∙ h) (x .1)
 
@@ -151,7 +54,7 @@ demand-1-refused l e x =
 pub demand-1-accepted : Demand1Accepted
 demand-1-accepted l = (λ h. go h (run-cases l), λ x. kept-gives l (x .0) (x .1) .1)
   where
-    go : after l .word % 2 ^ 8 ≡ 0 → ((i : Input) × Kept l i) ⊎ ((e : ℕ) × FirstBroken l e) → (i : Input) × Kept l i
+    go : after l .word % 2 ^ 8 ≡ 0 → Cases l → (i : Input) × Kept l i
     go h (inl x) = x
     go h (inr x) = absurd (omega (arith, broken-gives l (x .0) (x .1) .1, broken-number l (x .0) (x .1)))
 
@@ -238,8 +141,8 @@ demand-2-tally l i k =
 pub demand-2-further : Demand2Further
 demand-2-further l i k =
     rw (kept-run l i k) (
-      front-old (selection i) (l .listed) (bytesFor (rowCount i)) (selection-length i (l .listed)),
-      front-old (probes i (l .order)) (l .looks) (predicateCount i * bytesFor (rowCount i)) (probes-length i (l .order) (l .looks)),
+      front-old (selection i) (l .listed) (rowBytes i) (selection-length i),
+      front-old (probes i (l .order)) (l .looks) (predicateCount i * rowBytes i) (probes-length i (l .order)),
     )
 
 -- DEMAND 3

@@ -1,6 +1,7 @@
 -- THE THREE DEMANDS, sentence by sentence, over the definitions; proofs/Demands.antt proves each statement of this page.
 -- The contracts of the exported calls say that a call gives and leaves `catalogueAnswer`, `questionAnswer`, `outcomeAnswer`, `runOf` of the
--- bytes that it was lent, whatever these are; that it finishes is part of each contract.
+-- bytes that it was lent, whatever these are; that it finishes is part of each contract. `Due`, `Strategy`, its working and `Right` stand on one
+-- screen in crates/strategy/specs/Strategy.antt.
 use Prim.Native.Nat.{ℕ, _+_, _-_, _*_, _/_, _%_, _^_, _≤_, _<_}
 use mathlib.Core.Path.{_≡_}
 use mathlib.Core.Bool.{true, false, _&&_, _||_}
@@ -226,7 +227,10 @@ Demand2Further =
 -- DEMAND 3
 
 -- "Take any accepted question, any running order of its conditions, and any way of working through them that is right whatever the pattern of
--- outcomes: on every pattern it makes each look that ours makes, and so at least as many." A way is a `Strategy`, its looks are its `probes`
+-- outcomes: on every pattern it makes each look that ours makes, and so at least as many."
+-- "A way chooses at each condition in turn whether to look, and at the end its answer, from the question, the order, its place there and what
+-- it has seen on that entry.": a `Strategy`, chosen after question and order; its looks are its `probes`.
+-- "A pattern is any yes or no for each condition, as if they were unconnected.": an `Assignment`.
 abbrev pub Demand3 : Type 0
 Demand3 =
     (b q : List ℕ) (i : Input) → Reads b q i → (order : List ℕ) → RunningOrder i order
