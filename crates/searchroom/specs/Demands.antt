@@ -1,7 +1,7 @@
 -- THE THREE DEMANDS, sentence by sentence, over the definitions; proofs/Demands.antt proves each statement of this page.
--- The contracts of the exported calls say that a call gives and leaves `catalogueAnswer`, `questionAnswer`, `outcomeAnswer`, `runOf` of the
--- bytes that it was lent, whatever these are; that it finishes is part of each contract. `Due`, `Strategy`, its working and `Right` stand on one
--- screen in crates/strategy/specs/Strategy.antt.
+-- It speaks of the definitions `catalogueAnswer`, `questionAnswer`, `outcomeAnswer`, `runOf`; an exported call is tied to its definition by its
+-- contract, for any bytes lent, and a contract is one of total correctness: the call finishes. `Due`, `Strategy`, its working and `Right` stand on
+-- one screen in crates/strategy/specs/Strategy.antt.
 use Prim.Native.Nat.{ℕ, _+_, _-_, _*_, _/_, _%_, _^_, _≤_, _<_}
 use mathlib.Core.Path.{_≡_}
 use mathlib.Core.Bool.{true, false, _&&_, _||_}
