@@ -3,3 +3,7 @@ pub mod Finishing
 pub mod Running
 pub mod Cases
 pub mod Answers
+pub mod DemandLaws
+pub mod DemandTables
+pub mod DemandRuns
+pub mod Demands

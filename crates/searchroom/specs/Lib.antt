@@ -5,5 +5,6 @@ pub mod Begun
 pub mod Answers
 pub mod Run
 pub mod Finish
+pub mod Demands
 pub mod Parish
 pub mod Cases
