@@ -18,7 +18,7 @@ use Rattle.query.specs.declared.table.PredicateRecord.{PredicateRecord}
 use Rattle.query.specs.Format.{predicateLimit}
 use Rattle.query.specs.Table.{recordAt}
 use Rattle.run.specs.Plan.{Access, accessWidth, planSize, accessAt, accessOf, HasColumn, HaveColumns, PutAccess, Planned}
-use Rattle.run.specs.Ready.{HasOutcome, TruthIs}
+use Rattle.run.specs.Ready.{HasOutcome, AnswerIs, TruthIs}
 
 -- the five stores of an access
 module _ (P : List ℕ) (c a b k p s : ℕ) (sized : length P ≡ planSize) (inside : c < predicateLimit) where
@@ -163,9 +163,11 @@ module _ (b q P : List ℕ) (c row : ℕ) where
     unfolding accessAt
     has-range h = rw (k, same-operand) (h .2 .range)
 
-    pub truth-is : (a : Answer) (r : Bool) → OutcomeIs b tag (getD P (accessWidth * c + 1) 0) kind (take (from + size - from) (drop from q)) row a
-        → r ≡ truth a → TruthIs b q (accessAt P c) row r
+    pub answer-is : (a : Answer) → OutcomeIs b tag (getD P (accessWidth * c + 1) 0) kind (take (from + size - from) (drop from q)) row a → AnswerIs b q (accessAt P c) row a
     unfolding accessAt
-    truth-is a r o e C p A l =
-        e ∙ ap truth (o (C .rows) (getD (C .columns) (p .column) (numbers [])) (rw t (A .shown)) l
-        ∙ ap₂ (λ (z : ℕ) (y : List ℕ). outcomeOf (getD (C .columns) (p .column) (numbers [])) z y row) (k ∙ A .kind) (same-operand ∙ A .operand))
+    answer-is a o C p A l =
+        o (C .rows) (getD (C .columns) (p .column) (numbers [])) (rw t (A .shown)) l
+        ∙ ap₂ (λ (z : ℕ) (y : List ℕ). outcomeOf (getD (C .columns) (p .column) (numbers [])) z y row) (k ∙ A .kind) (same-operand ∙ A .operand)
+
+pub truth-is : (b q : List ℕ) (x : Access) (row : ℕ) (a : Answer) (r : Bool) → AnswerIs b q x row a → r ≡ truth a → TruthIs b q x row r
+truth-is b q x row a r i e C p A l = e ∙ ap truth (i C p A l)

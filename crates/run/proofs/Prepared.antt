@@ -22,7 +22,7 @@ use Rattle.query.specs.Ladder.{Tables, ladder}
 use Rattle.query.specs.Handed.{Tabled}
 use Rattle.query.proofs.Records.{listed-at}
 use Rattle.run.specs.Run.{predicateAt}
-use Rattle.run.specs.Plan.{planSize, accessOf, HaveColumns, Planned}
+use Rattle.run.specs.Plan.{planSize, accessAt, accessOf, HaveColumns, Planned}
 use Rattle.run.specs.Ready.{Accessed, Ready}
 
 shown-tag : (b : List ℕ) (rows tag start : ℕ) (col : Column) → Shows b rows tag start col → tag < 256
@@ -62,6 +62,10 @@ module _ (b q tags : List ℕ) (l : Layout) (C : Catalogue) (Q : Query) (n : ℕ
         ap (λ ps. getD ps c (record { column = 0; kind = 0; operand = []; place = 0 })) (sym (read .shown))
         ∙ listed-at q (T .records) n c (record { column = 0; kind = 0; operand = []; place = 0 }) k
 
+  -- the plan shows each predicate
+  pub planned-accessed : (P : List ℕ) → Planned (l .tags) (l .starts) (T .records) P n → (c : ℕ) → c < n → Accessed b q C (predicateAt Q c) (accessAt P c)
+  planned-accessed P p c k = rw (p c k, predicate-is c k) (planned c k)
+
   -- A RUN IS READY
   pub ready : (F order P : List ℕ) → Folds F → isOrder n order ≡ true → length P ≡ planSize → Planned (l .tags) (l .starts) (T .records) P n
       → Ready F b q order P (T .masks) (T .sorts) (T .heights) n C Q
@@ -72,7 +76,7 @@ module _ (b q tags : List ℕ) (l : Layout) (C : Catalogue) (Q : Query) (n : ℕ
     few = read .few;
     ordered = o;
     plan-size = s;
-    accessed = λ c k. rw (p c k, predicate-is c k) (planned c k);
+    accessed = planned-accessed P p;
     ladders-size = read .sized .ladders;
     low = read .low;
     ladders = read .ladders;

@@ -7,6 +7,7 @@ use lib.ListN.{length, getD, take, drop}
 use Rattle.catalogue.specs.Format.{rowLimit}
 use Rattle.catalogue.specs.Catalogue.{Catalogue, numbers}
 use Rattle.catalogue.specs.Layout.{Shows}
+use Rattle.predicate.specs.declared.answer.Answer.{Answer}
 use Rattle.predicate.specs.Kinds.{plainKind}
 use Rattle.predicate.specs.Meaning.{Predicate, outcome, truth}
 use Rattle.predicate.specs.Outcome.{Folds, HasRange}
@@ -38,7 +39,10 @@ pub record Accessed (b q : List ℕ) (C : Catalogue) (p : Predicate) (x : Access
 abbrev pub HasOutcome : (b q : List ℕ) → Access → (row : ℕ) → Type 0
 HasOutcome b q x row = (C : Catalogue) × (p : Predicate) × Accessed b q C p x × (row < C .rows)
 
--- the outcome at a row of whatever predicate is shown there
+-- the answer at a row of whatever predicate is shown there, and what a run takes it for
+abbrev pub AnswerIs : (b q : List ℕ) → Access → (row : ℕ) → Answer → Type 0
+AnswerIs b q x row a = (C : Catalogue) (p : Predicate) → Accessed b q C p x → row < C .rows → a ≡ outcome C p row
+
 abbrev pub TruthIs : (b q : List ℕ) → Access → (row : ℕ) → Bool → Type 0
 TruthIs b q x row r = (C : Catalogue) (p : Predicate) → Accessed b q C p x → row < C .rows → r ≡ truth (outcome C p row)
 

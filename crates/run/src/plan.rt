@@ -1,4 +1,5 @@
 // The plan of a run: five numbers for each predicate, filled once, so that no row looks up a column.
+use predicate::answer::Answer;
 use query::table::PredicateRecord;
 ghost use mathlib.Core.Path.{_≡_};
 ghost use Prim.Native.Nat.{_≤_, _<_};
@@ -7,7 +8,7 @@ ghost use Rattle.predicate.specs.Outcome.{Folds};
 ghost use Rattle.query.specs.Format.{predicateLimit};
 ghost use Rattle.query.specs.Table.{tableSize};
 ghost use Rattle.run.specs.Plan.{planSize, accessAt, accessOf, HasColumn, HaveColumns, PutAccess, Planned};
-ghost use Rattle.run.specs.Ready.{HasOutcome, TruthIs};
+ghost use Rattle.run.specs.Ready.{HasOutcome, AnswerIs, TruthIs};
 
 pub struct Plan;
 
@@ -48,7 +49,28 @@ fn narrow(x: usize) -> u8
     x as u8
 }
 
-// The outcome of predicate c at a row.
+// The answer of predicate c at a row.
+pub fn answer_of(
+    fold: &[u8],
+    catalogue: &[u8],
+    question: &[u8],
+    plan: &[usize],
+    c: usize,
+    row: usize,
+) -> Answer
+    requires { ⌜ Folds (now fold) × (c < predicateLimit) × (length (now plan) ≡ planSize) × HasOutcome (now catalogue) (now question) (accessAt (now plan) c) row ⌝ }
+    ensures { λ r. ⌜ AnswerIs (now (catalogue .entry)) (now (question .entry)) (accessAt (now (plan .entry)) c) row r ⌝ }
+{
+    let i = Plan::WIDTH * c;
+    let tag = narrow(plan[i]);
+    let start = plan[i + 1];
+    let kind = narrow(plan[i + 2]);
+    let from = plan[i + 3];
+    let to = from + plan[i + 4];
+    predicate::outcome::outcome_at(fold, catalogue, tag, start, kind, &question[from..to], row)
+}
+
+// The outcome of predicate c at a row: what a run takes its answer for.
 pub fn outcome_of(
     fold: &[u8],
     catalogue: &[u8],
@@ -60,19 +82,5 @@ pub fn outcome_of(
     requires { ⌜ Folds (now fold) × (c < predicateLimit) × (length (now plan) ≡ planSize) × HasOutcome (now catalogue) (now question) (accessAt (now plan) c) row ⌝ }
     ensures { λ r. ⌜ TruthIs (now (catalogue .entry)) (now (question .entry)) (accessAt (now (plan .entry)) c) row r ⌝ }
 {
-    let i = Plan::WIDTH * c;
-    let tag = narrow(plan[i]);
-    let start = plan[i + 1];
-    let kind = narrow(plan[i + 2]);
-    let from = plan[i + 3];
-    let to = from + plan[i + 4];
-    predicate::answer::truth_of(predicate::outcome::outcome_at(
-        fold,
-        catalogue,
-        tag,
-        start,
-        kind,
-        &question[from..to],
-        row,
-    ))
+    predicate::answer::truth_of(answer_of(fold, catalogue, question, plan, c, row))
 }

@@ -18,11 +18,11 @@ use Rattle.query.specs.Format.{predicateLimit}
 use Rattle.bitmaps.specs.TableLaws.{holds-front, holds-ones}
 use Rattle.query.specs.Query.{Query}
 use Rattle.query.specs.Ladder.{Tables}
-use Rattle.run.specs.Run.{isProbed}
-use Rattle.run.specs.Plan.{planSize, HaveColumns, Planned}
-use Rattle.run.specs.Ready.{Ready, RowsReady}
+use Rattle.run.specs.Run.{predicateAt, isProbed}
+use Rattle.run.specs.Plan.{planSize, accessAt, HaveColumns, Planned}
+use Rattle.run.specs.Ready.{Accessed, Ready, RowsReady}
 use Rattle.run.specs.Worked.{Worked, RowsWorked}
-use Rattle.run.proofs.Prepared.{have-columns, ready}
+use Rattle.run.proofs.Prepared.{have-columns, planned-accessed, ready}
 use Rattle.predicate.specs.Outcome.{Folds}
 use Rattle.predicate.specs.Payload.{tagsOf}
 use Rattle.predicate.proofs.PayloadLaws.{tags-length}
@@ -108,6 +108,10 @@ module _ (b q tags starts : List ℕ) (n rows : ℕ) (T : Tables) (G : BegunWith
 
   pub begun-columns : HaveColumns tags starts (T .records) n
   begun-columns = rw (G .2, G .3) (have-columns b q (tagsOf C) (G .0) C Q n T (G .1 .laid) (tags-length (C .columns)) (G .1 .tabled) (G .1 .laid .6) (G .1 .laid .7))
+
+  pub begun-accessed : (P : List ℕ) → Planned tags starts (T .records) P n → (c : ℕ) → c < n → Accessed b q C (predicateAt Q c) (accessAt P c)
+  begun-accessed P p c k =
+      planned-accessed b q (tagsOf C) (G .0) C Q n T (G .1 .laid) (tags-length (C .columns)) (G .1 .tabled) P (rw (G .2, G .3) at p) c k
 
   module _ (F order P : List ℕ) (k : ℕ) (same : k ≡ n) (folds : Folds F) (o : isOrder n order ≡ true) (size : length P ≡ planSize)
       (planned : Planned tags starts (T .records) P n) where

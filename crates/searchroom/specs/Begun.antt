@@ -6,7 +6,7 @@ use Rattle.fields.specs.Decoded.{accepted}
 use Rattle.catalogue.specs.declared.layout.Layout.{Layout}
 use Rattle.catalogue.specs.Layout.{LaidOut}
 use Rattle.predicate.specs.Payload.{tagsOf}
-use Rattle.query.specs.Ladder.{Tables}
+use Rattle.query.specs.Ladder.{Tables, tables}
 use Rattle.query.specs.Handed.{Tabled}
 use Rattle.searchroom.specs.Input.{Input, decodeInput}
 
@@ -20,3 +20,7 @@ pub record Begun (b q : List ℕ) (l : Layout) (n : ℕ) (T : Tables) : Type 0 w
 -- the same with the parts of the layout that are handed on
 abbrev pub BegunWith : (b q tags starts : List ℕ) → (n rows : ℕ) → Tables → Type 0
 BegunWith b q tags starts n rows T = (l : Layout) × Begun b q l n T × (tags ≡ l .tags) × (starts ≡ l .starts) × (rows ≡ l .rows)
+
+-- the same where the groups around the predicates don't matter
+abbrev pub BegunTable : (b q tags starts : List ℕ) → (n rows : ℕ) → (table : List ℕ) → Type 0
+BegunTable b q tags starts n rows table = (masks sorts heights : List ℕ) × BegunWith b q tags starts n rows (tables table masks sorts heights)

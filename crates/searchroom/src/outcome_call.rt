@@ -1,0 +1,107 @@
+// Working out one condition at one entry.
+use crate::refusal::Refusal;
+use crate::word::Answer;
+use query::whole::Reading;
+ghost use mathlib.Core.Path.{_≡_};
+ghost use Rattle.searchroom.specs.Word.{packed};
+ghost use Rattle.searchroom.specs.Input.{decodeInput};
+ghost use Rattle.searchroom.specs.Begun.{BegunTable};
+ghost use Rattle.searchroom.specs.Answers.{outcomeNumber, outcomeAnswer, Answered};
+
+fn number_of(answer: predicate::answer::Answer) -> u64
+    ensures { λ r. ⌜ r ≡ outcomeNumber answer ⌝ }
+{
+    match answer {
+        predicate::answer::Answer::No => 0,
+        predicate::answer::Answer::Yes => 1,
+    }
+}
+
+fn outcome_accepted(
+    catalogue: &[u8],
+    question: &[u8],
+    tags: &[u8],
+    starts: &[usize],
+    table: &[usize],
+    n: usize,
+    rows: usize,
+    entry: u64,
+    condition: u64,
+) -> Answer
+    requires { ⌜ BegunTable (now catalogue) (now question) (now tags) (now starts) n rows (now table) ⌝ }
+    ensures { λ r. ⌜ Answered (outcomeAnswer (decodeInput (now (catalogue .entry)) (now (question .entry))) entry condition) r ⌝ }
+{
+    if rows as u64 <= entry {
+        return Answer::Refused(Refusal::NO_SUCH_PLACE);
+    }
+    if n as u64 <= condition {
+        return Answer::Refused(Refusal::NO_SUCH_PLACE);
+    }
+    let mut plan = [0usize; 320];
+    run::plan::fill_plan(tags, starts, table, n, &mut plan);
+    let fold = predicate::fold::fold_table();
+    let answer = run::plan::answer_of(
+        &fold,
+        catalogue,
+        question,
+        &plan,
+        condition as usize,
+        entry as usize,
+    );
+    Answer::Accepted {
+        first: number_of(answer),
+        second: 0,
+        third: 0,
+    }
+}
+
+fn outcome_at(catalogue: &[u8], question: &[u8], entry: u64, condition: u64) -> Answer
+    ensures { λ r. ⌜ Answered (outcomeAnswer (decodeInput (now (catalogue .entry)) (now (question .entry))) entry condition) r ⌝ }
+{
+    let layout = catalogue::layout::lay_out(catalogue);
+    let refusal = layout.refusal;
+    if refusal != 0 {
+        return Answer::Refused(refusal);
+    }
+    let rows = layout.rows;
+    let columns = layout.columns;
+    let tags = layout.tags;
+    let starts = layout.starts;
+    let mut table = [0usize; 256];
+    let mut masks = [0u64; 512];
+    let mut sorts = [0u8; 512];
+    let mut heights = [0usize; 64];
+    match query::whole::read_query(
+        &tags[..columns],
+        question,
+        &mut table,
+        &mut masks,
+        &mut sorts,
+        &mut heights,
+    ) {
+        Reading::Refused(e) => Answer::Refused(e),
+        Reading::Accepted { n } => outcome_accepted(
+            catalogue,
+            question,
+            &tags,
+            &starts,
+            &table,
+            n,
+            rows,
+            entry,
+            condition,
+        ),
+    }
+}
+
+#[no_mangle]
+pub extern "C" fn searchroom_outcome(
+    catalogue: &[u8],
+    question: &[u8],
+    entry: u64,
+    condition: u64,
+) -> u64
+    ensures { λ r. ⌜ r ≡ packed (outcomeAnswer (decodeInput (now (catalogue .entry)) (now (question .entry))) entry condition) ⌝ }
+{
+    crate::word::pack(outcome_at(catalogue, question, entry, condition))
+}
