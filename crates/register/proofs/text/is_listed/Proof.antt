@@ -1,0 +1,27 @@
+-- `is_listed` meets its contract: a bit of a byte is its quotient by the weight, odd or even.
+use borrow.Author.Needs.{needs}
+use borrow.Author.Needs.{needs}
+use Rattle.register.proofs.text.is_listed.Statement.{statement}
+use Rattle.register.proofs.text.is_listed.Tie as tie
+use Rattle.register.proofs.text.is_listed.Reads as reads
+use Rattle.register.proofs.text.is_listed.Lts as lts
+
+-- src/text.rt:13:6
+shared-slice-read-result : tie.Need-shared-slice-read-result
+shared-slice-read-result c = search needs
+
+-- src/text.rt:13:26
+cast-result : tie.Need-cast-result
+cast-result c = search needs
+
+-- src/text.rt:13:6
+shr-result : tie.Need-shr-result
+shr-result c = search needs
+
+-- src/text.rt:9:1
+returns : tie.Need-returns
+unfolding bit member
+returns c = search needs
+
+pub is-listed-spec : {M : Type 1} → statement M
+is-listed-spec = tie.close (tie.spec shared-slice-read-result cast-result shr-result returns)
