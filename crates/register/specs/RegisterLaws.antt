@@ -1,6 +1,6 @@
 -- Pieces written one behind the other make their joined text.
-use Prim.Native.Nat.{ℕ, zero, suc, _+_, _*_, _/_, _%_, _^_, _≤_, _<_}
-use native.Mathlib.Nat.{zero-add}
+use Prim.Native.Nat.{ℕ, zero, suc, _+_, _-_, _*_, _/_, _%_, _^_, _≤_, _<_}
+use native.Mathlib.Nat.{zero-add, mul-le-mul-right}
 use native.Mathlib.Numerals.{add-one}
 use native.Mathlib.Omega.{arith}
 use mathlib.Core.Path.{_≡_, refl, sym, ap, ap₂, _∙_}
@@ -122,6 +122,16 @@ module _ (at : ℕ) (old : List ℕ) where
   unfolding conditionLine
   condition-end number end r c count a b new l u v w =
       wrote-then at end r (conditionLabel ++ decimal c) (line (32 ∷ []) count) old b new l (wrote-then at number end conditionLabel (decimal c) old a b (omega (arith, v .1)) u v) w
+
+pub row-fits : (size n c : ℕ) → c < n → c * size + size ≤ n * size
+row-fits size n c l = omega (arith, mul-le-mul-right size l)
+
+-- a condition's line, its looks counted in its row
+pub condition-row : (size c row end r count : ℕ) (looks old new : List ℕ) → row ≡ c * size → count ≡ onesIn (take (row + size - row) (drop row looks))
+    → Wrote end (conditionLine c count) old r new → Wrote end (conditionLine c (looksOf looks size c)) old r new
+condition-row size c row end r count looks old new e f w =
+    let z : row + size - row ≡ size = omega arith in
+    rw (f, z, e) at w
 
 -- the whole, piece by piece
 pub accepted-end : (found look-count rows n size a b c d r : ℕ) (listed looks old o₁ o₂ o₃ o₄ new : List ℕ) → size ≡ bytesFor rows → d ≤ length old

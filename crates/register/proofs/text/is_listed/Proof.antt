@@ -1,6 +1,10 @@
 -- `is_listed` meets its contract: a bit of a byte is its quotient by the weight, odd or even.
 use borrow.Author.Needs.{needs}
+use Rattle.sets.specs.Set.{member}
+use Rattle.bitmaps.specs.Bit.{bit}
 use borrow.Author.Needs.{needs}
+use Rattle.sets.specs.Set.{member}
+use Rattle.bitmaps.specs.Bit.{bit}
 use Rattle.register.proofs.text.is_listed.Statement.{statement}
 use Rattle.register.proofs.text.is_listed.Tie as tie
 use Rattle.register.proofs.text.is_listed.Reads as reads
