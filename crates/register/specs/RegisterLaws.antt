@@ -6,7 +6,7 @@ use native.Mathlib.Omega.{arith}
 use mathlib.Core.Path.{_≡_, refl, sym, ap, ap₂, _∙_}
 use mathlib.Core.Bool.{Bool, true, false}
 use mathlib.Core.List.{List, [], _∷_, _++_, append-assoc}
-use lib.ListN.{length, take, drop, getD, set, length-append}
+use lib.ListN.{length, take, drop, getD, set, length-append, length-take, length-drop}
 use lib.Seq.{length-take-le, take-at, drop-at, drop-drop, take-length, set-split, append-snoc, paste, paste-zero, paste-suc}
 use Rattle.bitmaps.specs.Sums.{joined}
 use Rattle.bitmaps.specs.Bitmap.{bytesFor, onesIn, putFront}
@@ -125,6 +125,9 @@ module _ (at : ℕ) (old : List ℕ) where
 
 pub row-fits : (size n c : ℕ) → c < n → c * size + size ≤ n * size
 row-fits size n c l = omega (arith, mul-le-mul-right size l)
+
+pub row-short : (size row : ℕ) (looks : List ℕ) → size < 2 ^ 61 → length (take (row + size - row) (drop row looks)) < 2 ^ 61
+row-short size row looks h = simp (length-take, length-drop) (omega arith)
 
 -- a condition's line, its looks counted in its row
 pub condition-row : (size c row end r count : ℕ) (looks old new : List ℕ) → row ≡ c * size → count ≡ onesIn (take (row + size - row) (drop row looks))

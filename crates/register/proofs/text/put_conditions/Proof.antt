@@ -6,7 +6,7 @@ use borrow.Author.Needs.{needs}
 use mathlib.Core.Path.{_≡_, refl}
 use lib.ListN.{length}
 use Rattle.register.specs.Register.{conditions, Wrote}
-use Rattle.register.specs.RegisterLaws.{conditions-none, conditions-more, condition-row, row-fits}
+use Rattle.register.specs.RegisterLaws.{conditions-none, conditions-more, condition-row, row-fits, row-short}
 use Rattle.register.proofs.text.put_conditions.Statement.{statement}
 use Rattle.register.proofs.text.put_conditions.Tie as tie
 use Rattle.register.proofs.text.put_conditions.Reads as reads
@@ -42,7 +42,7 @@ part-count-ones-end c = omega (arith, row-fits (c .before .before .before .befor
 
 -- src/text.rt:57:13
 count-ones-requires : tie.Need-count-ones-requires Inv-loop μ-loop
-count-ones-requires c κs = ?
+count-ones-requires c κs = row-short (c .before .before .before .before .before .args .size) (c .before .before .loop .row) (c .before .before .before .before .before .args .looks .now) (omega arith)
 
 -- src/text.rt:58:9
 put-condition-requires : tie.Need-put-condition-requires Inv-loop μ-loop
