@@ -1,6 +1,5 @@
 -- `put_digits` meets its contract: the last digit stands behind those of a tenth. The measure is the number.
 use native.Mathlib.Omega.{arith}
-use Rattle.register.specs.Decimal.{digitsOf}
 use Rattle.register.specs.RegisterLaws.{digits-end, tenth-fits, digit-behind}
 use lib.ListN.{length}
 use borrow.Author.Needs.{needs}
@@ -24,7 +23,6 @@ abbrev put-digits-below : ℕ → In 1 put-digits-kinds.ps
 put-digits-below t =
     and 1 put-digits-kinds.ps (falls 1 put-digits-kinds.ps _<_ μ-put-digits t) put-digits.Pre
 
--- src/piece.rt:26:9
 put-digits-returns :
     (t : ℕ) →
     put-digits-lts.Need-returns
@@ -33,14 +31,12 @@ put-digits-returns :
     put-digits.Post
 put-digits-returns t c = digits-end _ _ _ (c .if1 .taken)
 
--- src/piece.rt:28:9
 put-digits-put-digits-requires : (t : ℕ) → put-digits-lts.Need-put-digits-requires (
   put-digits-below t,
   put-digits.Post,
 ) (put-digits-at t) put-digits.Post
 put-digits-put-digits-requires t c κs = (omega arith, omega (arith, (tenth-fits (c .before .before .before .args .at) (c .before .before .before .args .x) (length (c .before .before .before .args .out .now)) (omega arith) (c .before .before .before .pre .1))))
 
--- src/piece.rt:29:18
 put-digits-add-out :
     (t : ℕ) →
     put-digits-lts.Need-add-out
@@ -49,7 +45,6 @@ put-digits-add-out :
     put-digits.Post
 put-digits-add-out t c = search needs
 
--- src/piece.rt:29:17
 put-digits-cast-out :
     (t : ℕ) →
     put-digits-lts.Need-cast-out
@@ -58,28 +53,24 @@ put-digits-cast-out :
     put-digits.Post
 put-digits-cast-out t c = search needs
 
--- src/piece.rt:29:5
 put-digits-slice-write-out : (t : ℕ) → put-digits-lts.Need-slice-write-out (
   put-digits-below t,
   put-digits.Post,
 ) (put-digits-at t) put-digits.Post
 put-digits-slice-write-out t c = omega (arith, (tenth-fits (c .before .before .before .before .before .before .args .at) (c .before .before .before .before .before .before .args .x) (length (c .before .before .before .before .before .before .args .out .now)) (omega arith) (c .before .before .before .before .before .before .pre .1)), c .before .before .put-digits .ensures .1)
 
--- src/piece.rt:30:5
 put-digits-add-result : (t : ℕ) → put-digits-lts.Need-add-result (
   put-digits-below t,
   put-digits.Post,
 ) (put-digits-at t) put-digits.Post
 put-digits-add-result t c = omega (arith, (tenth-fits (c .before .before .before .before .before .before .args .at) (c .before .before .before .before .before .before .args .x) (length (c .before .before .before .before .before .before .args .out .now)) (omega arith) (c .before .before .before .before .before .before .pre .1)), c .before .before .put-digits .ensures .1)
 
--- src/piece.rt:21:1
 put-digits-same-length : (t : ℕ) → put-digits-lts.Need-same-length (
   put-digits-below t,
   put-digits.Post,
 ) (put-digits-at t) put-digits.Post
 put-digits-same-length t c = search needs
 
--- src/piece.rt:21:1
 put-digits-returns-2 : (t : ℕ) → put-digits-lts.Need-returns-2 (
   put-digits-below t,
   put-digits.Post,

@@ -8,8 +8,6 @@ use Rattle.register.specs.RegisterLaws.{piece-byte, piece-end}
 use borrow.Author.Needs.{needs}
 use Rattle.register.proofs.piece.put.Statement.{statement}
 use Rattle.register.proofs.piece.put.Tie as tie
-use Rattle.register.proofs.piece.put.Reads as reads
-use Rattle.register.proofs.piece.put.Lts as lts
 
 abbrev Inv-loop : tie.InvT-loop
 Inv-loop out₀ at piece i₀ out i = (i ≤ length piece) × (at + length piece ≤ length out₀) × (length out ≡ length out₀) × (out ≡ paste out₀ at piece i)
@@ -17,43 +15,33 @@ Inv-loop out₀ at piece i₀ out i = (i ≤ length piece) × (at + length piece
 abbrev μ-loop : tie.MeasureT-loop
 μ-loop out₀ at piece i₀ out i = length piece - i
 
--- src/piece.rt:13:5
 loop-holds : tie.Need-loop-holds Inv-loop μ-loop
 loop-holds c = (omega arith, c .pre, refl, paste-zero (c .args .out .now) (c .args .at) (c .args .piece .now))
 
--- src/piece.rt:14:23
 shared-slice-read-out : tie.Need-shared-slice-read-out Inv-loop μ-loop
 shared-slice-read-out c = search needs
 
--- src/piece.rt:14:13
 add-out : tie.Need-add-out Inv-loop μ-loop
 add-out c = search needs
 
--- src/piece.rt:14:9
 slice-write-out : tie.Need-slice-write-out Inv-loop μ-loop
 slice-write-out c = search needs
 
--- src/piece.rt:15:9
 add-i : tie.Need-add-i Inv-loop μ-loop
 add-i c = search needs
 
--- src/piece.rt:13:5
 loop-less : tie.Need-loop-less Inv-loop μ-loop
 loop-less c = search needs
 
--- src/piece.rt:13:5
 loop-again : tie.Need-loop-again Inv-loop μ-loop
 loop-again c = let a = c .before .before .before .args in let l = c .before .before .loop in (omega arith, l .inv .1, length-set (l .out) (a .at + l .i) (getD (a .piece .now) (l .i) 0) ∙ l .inv .2, piece-byte (a .at) (l .i) (a .piece .now) (a .out .now) (l .out) (l .inv .1) (omega arith) (l .inv .3))
 
--- src/piece.rt:17:5
 add-result : tie.Need-add-result Inv-loop μ-loop
 add-result c = search needs
 
--- src/piece.rt:8:1
 same-length : tie.Need-same-length Inv-loop μ-loop
 same-length c = search needs
 
--- src/piece.rt:8:1
 returns : tie.Need-returns Inv-loop μ-loop
 returns c = let a = c .before .before .args in let l = c .before .loop in piece-end (a .at) (l .i) (a .piece .now) (a .out .now) (l .out) (omega arith) (l .inv .3)
 

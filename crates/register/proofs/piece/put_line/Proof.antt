@@ -5,32 +5,22 @@ use Rattle.register.specs.RegisterLaws.{line-end}
 use borrow.Author.Needs.{needs}
 use Rattle.register.proofs.piece.put_line.Statement.{statement}
 use Rattle.register.proofs.piece.put_line.Tie as tie
-use Rattle.register.proofs.piece.put_line.Reads as reads
-use Rattle.register.proofs.piece.put_line.Lts as lts
-use Rattle.register.proofs.piece.put.Reads as put-reads
-use Rattle.register.proofs.piece.put_number.Reads as put-number-reads
 
--- src/piece.rt:47:9
 put-requires : tie.Need-put-requires
 put-requires c κs = search needs
 
--- src/piece.rt:48:9
 put-number-requires : tie.Need-put-number-requires
 put-number-requires c κs = search needs
 
--- src/piece.rt:49:19
 slice-aggregate-put : tie.Need-slice-aggregate-put
 slice-aggregate-put c = search needs
 
--- src/piece.rt:49:5
 put-requires-2 : tie.Need-put-requires-2
 put-requires-2 c κs = search needs
 
--- src/piece.rt:43:1
 same-length : tie.Need-same-length
 same-length c = search needs
 
--- src/piece.rt:43:1
 returns : tie.Need-returns
 returns c = (line-end _ _ _ _ _ _ _ _ _ _ (omega arith) (c .before .before .before .before .before .before .before .before .before .before .before .put .ensures) (c .before .before .before .before .before .before .before .put-number .ensures .0) (c .before .before .put2 .ensures), omega arith)
 

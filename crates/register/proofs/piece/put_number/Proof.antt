@@ -5,36 +5,25 @@ use Rattle.register.specs.RegisterLaws.{number-zero, number-more}
 use borrow.Author.Needs.{needs}
 use Rattle.register.proofs.piece.put_number.Statement.{statement}
 use Rattle.register.proofs.piece.put_number.Tie as tie
-use Rattle.register.proofs.piece.put_number.Reads as reads
-use Rattle.register.proofs.piece.put_number.Lts as lts
-use Rattle.register.proofs.piece.put.Reads as put-reads
-use Rattle.register.proofs.piece.put_digits.Reads as put-digits-reads
 
--- src/piece.rt:38:29
 slice-aggregate-put : tie.Need-slice-aggregate-put
 slice-aggregate-put c = search needs
 
--- src/piece.rt:38:9
 put-requires : tie.Need-put-requires
 put-requires c κs = search needs
 
--- src/piece.rt:38:9
 same-length : tie.Need-same-length
 same-length c = search needs
 
--- src/piece.rt:38:9
 returns : tie.Need-returns
 returns c = (number-zero _ _ _ _ _ (c .before .before .before .before .before .if1 .taken) (c .before .before .put .ensures), omega arith)
 
--- src/piece.rt:40:5
 put-digits-requires : tie.Need-put-digits-requires
 put-digits-requires c κs = omega (arith, digits-length (c .before .before .before .args .x) (omega arith))
 
--- src/piece.rt:33:1
 same-length-2 : tie.Need-same-length-2
 same-length-2 c = search needs
 
--- src/piece.rt:33:1
 returns-2 : tie.Need-returns-2
 returns-2 c = (number-more _ _ _ _ _ (omega arith) (c .before .before .put-digits .ensures), omega (arith, digits-length (c .before .before .before .before .before .before .args .x) (omega arith), c .before .before .put-digits .ensures .1))
 

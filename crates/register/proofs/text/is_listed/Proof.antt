@@ -7,22 +7,16 @@ use Rattle.sets.specs.Set.{member}
 use Rattle.bitmaps.specs.Bit.{bit}
 use Rattle.register.proofs.text.is_listed.Statement.{statement}
 use Rattle.register.proofs.text.is_listed.Tie as tie
-use Rattle.register.proofs.text.is_listed.Reads as reads
-use Rattle.register.proofs.text.is_listed.Lts as lts
 
--- src/text.rt:13:6
 shared-slice-read-result : tie.Need-shared-slice-read-result
 shared-slice-read-result c = search needs
 
--- src/text.rt:13:26
 cast-result : tie.Need-cast-result
 cast-result c = search needs
 
--- src/text.rt:13:6
 shr-result : tie.Need-shr-result
 shr-result c = search needs
 
--- src/text.rt:9:1
 returns : tie.Need-returns
 unfolding bit member
 returns c = search needs

@@ -5,54 +5,37 @@ use Rattle.register.specs.RegisterLaws.{accepted-end}
 use borrow.Author.Needs.{needs}
 use Rattle.register.proofs.text.put_accepted.Statement.{statement}
 use Rattle.register.proofs.text.put_accepted.Tie as tie
-use Rattle.register.proofs.text.put_accepted.Reads as reads
-use Rattle.register.proofs.text.put_accepted.Lts as lts
-use Rattle.register.proofs.piece.put.Reads as put-reads
-use Rattle.register.proofs.piece.put_line.Reads as put-line-reads
-use Rattle.register.proofs.text.put_conditions.Reads as put-conditions-reads
-use Rattle.register.proofs.text.put_entries.Reads as put-entries-reads
 
--- src/text.rt:77:48
 slice-aggregate-put : tie.Need-slice-aggregate-put
 slice-aggregate-put c = search needs
 
--- src/text.rt:77:9
 put-requires : tie.Need-put-requires
 put-requires c κs = search needs
 
--- src/text.rt:78:63
 slice-aggregate-put-line : tie.Need-slice-aggregate-put-line
 slice-aggregate-put-line c = search needs
 
--- src/text.rt:78:9
 put-line-requires : tie.Need-put-line-requires
 put-line-requires c κs = search needs
 
--- src/text.rt:79:9
 put-entries-requires : tie.Need-put-entries-requires
 put-entries-requires c κs = search needs
 
--- src/text.rt:80:67
 slice-aggregate-put-line-2 : tie.Need-slice-aggregate-put-line-2
 slice-aggregate-put-line-2 c = search needs
 
--- src/text.rt:80:9
 put-line-requires-2 : tie.Need-put-line-requires-2
 put-line-requires-2 c κs = search needs
 
--- src/text.rt:81:50
 add-put-conditions : tie.Need-add-put-conditions
 add-put-conditions c = search needs
 
--- src/text.rt:81:5
 put-conditions-requires : tie.Need-put-conditions-requires
 put-conditions-requires c κs = search needs
 
--- src/text.rt:65:1
 same-length : tie.Need-same-length
 same-length c = search needs
 
--- src/text.rt:65:1
 returns : tie.Need-returns
 returns c = accepted-end _ _ _ _ _ _ _ _ _ _ _ _ _ _ _ _ _ _ refl (omega arith) (c .before .before .before .before .before .before .before .before .before .before .before .before .before .before .before .before .before .before .before .before .put .ensures) (c .before .before .before .before .before .before .before .before .before .before .before .before .before .before .before .put-line .ensures .0) (c .before .before .before .before .before .before .before .before .before .before .before .put-entries .ensures .0) (c .before .before .before .before .before .before .put-line2 .ensures .0) (c .before .before .put-conditions .ensures .0)
 

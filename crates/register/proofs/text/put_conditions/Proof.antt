@@ -1,6 +1,5 @@
 -- `put_conditions` meets its contract. Invariant: the lines of the conditions passed are written.
 use Prim.Native.Nat.{_+_, _-_, _*_, _≤_}
-use native.Mathlib.Nat.{mul-le-mul-right}
 use native.Mathlib.Omega.{arith}
 use borrow.Author.Needs.{needs}
 use mathlib.Core.Path.{_≡_, refl}
@@ -9,10 +8,6 @@ use Rattle.register.specs.Register.{conditions, Wrote}
 use Rattle.register.specs.RegisterLaws.{conditions-none, conditions-more, condition-row, row-fits, row-short}
 use Rattle.register.proofs.text.put_conditions.Statement.{statement}
 use Rattle.register.proofs.text.put_conditions.Tie as tie
-use Rattle.register.proofs.text.put_conditions.Reads as reads
-use Rattle.register.proofs.text.put_conditions.Lts as lts
-use Rattle.bitmaps.proofs.ones.count_ones.Reads as count-ones-reads
-use Rattle.register.proofs.text.put_condition.Reads as put-condition-reads
 
 abbrev Inv-loop : tie.InvT-loop
 Inv-loop out₀ at looks size n end₀ c₀ row₀ out end c row = (c ≤ n) × (row ≡ c * size) × (length out ≡ length out₀) × Wrote at (conditions looks size c) out₀ end out × (end ≤ at + 52 * c)
@@ -20,51 +15,39 @@ Inv-loop out₀ at looks size n end₀ c₀ row₀ out end c row = (c ≤ n) × 
 abbrev μ-loop : tie.MeasureT-loop
 μ-loop out₀ at looks size n end₀ c₀ row₀ out end c row = n - c
 
--- src/text.rt:55:5
 loop-holds : tie.Need-loop-holds Inv-loop μ-loop
 loop-holds c = (omega arith, omega arith, refl, conditions-none (c .before .before .args .at) (c .before .before .args .out .now) (c .before .before .args .looks .now) (c .before .before .args .size), omega arith)
 
--- src/text.rt:56:20
 add-next : tie.Need-add-next Inv-loop μ-loop
 add-next c = omega (arith, row-fits (c .before .before .before .before .args .size) (c .before .before .before .before .args .n) (c .before .loop .c) (omega arith))
 
--- src/text.rt:57:47
 sub-count-ones : tie.Need-sub-count-ones Inv-loop μ-loop
 sub-count-ones c = search needs
 
--- src/text.rt:57:47
 part-count-ones-start : tie.Need-part-count-ones-start Inv-loop μ-loop
 part-count-ones-start c = search needs
 
--- src/text.rt:57:47
 part-count-ones-end : tie.Need-part-count-ones-end Inv-loop μ-loop
 part-count-ones-end c = omega (arith, row-fits (c .before .before .before .before .args .size) (c .before .before .before .before .args .n) (c .before .loop .c) (omega arith))
 
--- src/text.rt:57:13
 count-ones-requires : tie.Need-count-ones-requires Inv-loop μ-loop
 count-ones-requires c κs = row-short (c .before .before .before .before .before .args .size) (c .before .before .loop .row) (c .before .before .before .before .before .args .looks .now) (omega arith)
 
--- src/text.rt:58:9
 put-condition-requires : tie.Need-put-condition-requires Inv-loop μ-loop
 put-condition-requires c κs = search needs
 
--- src/text.rt:59:9
 add-c : tie.Need-add-c Inv-loop μ-loop
 add-c c = search needs
 
--- src/text.rt:55:5
 loop-less : tie.Need-loop-less Inv-loop μ-loop
 loop-less c = search needs
 
--- src/text.rt:55:5
 loop-again : tie.Need-loop-again Inv-loop μ-loop
 loop-again c = let a = c .before .before .before .before .before .before .before .before .before .before .args in let l = c .before .before .before .before .before .before .before .loop in (omega arith, omega arith, omega arith, conditions-more (a .at) (a .out .now) _ _ _ _ _ _ _ (omega arith) (l .inv .3) (condition-row _ _ _ _ _ _ _ _ _ (l .inv .1) (c .before .before .before .before .count-ones .ensures) (c .before .before .put-condition .ensures .0)), omega arith)
 
--- src/text.rt:48:1
 same-length : tie.Need-same-length Inv-loop μ-loop
 same-length c = search needs
 
--- src/text.rt:48:1
 returns : tie.Need-returns Inv-loop μ-loop
 returns c = let e : c .before .loop .c ≡ c .before .before .before .before .args .n = omega arith in (rw e at (c .before .loop .inv .3), omega arith)
 

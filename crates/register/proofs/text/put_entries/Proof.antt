@@ -8,9 +8,6 @@ use Rattle.register.specs.Register.{entries, Wrote}
 use Rattle.register.specs.RegisterLaws.{entries-none, entries-more}
 use Rattle.register.proofs.text.put_entries.Statement.{statement}
 use Rattle.register.proofs.text.put_entries.Tie as tie
-use Rattle.register.proofs.text.put_entries.Reads as reads
-use Rattle.register.proofs.text.put_entries.Lts as lts
-use Rattle.register.proofs.text.put_entry.Reads as put-entry-reads
 
 abbrev Inv-loop : tie.InvT-loop
 Inv-loop out₀ at listed rows end₀ row₀ out end row = (row ≤ rows) × (length out ≡ length out₀) × Wrote at (entries listed row) out₀ end out × (end ≤ at + 27 * row)
@@ -18,31 +15,24 @@ Inv-loop out₀ at listed rows end₀ row₀ out end row = (row ≤ rows) × (le
 abbrev μ-loop : tie.MeasureT-loop
 μ-loop out₀ at listed rows end₀ row₀ out end row = rows - row
 
--- src/text.rt:32:5
 loop-holds : tie.Need-loop-holds Inv-loop μ-loop
 loop-holds c = (omega arith, refl, entries-none (c .before .before .args .at) (c .before .before .args .out .now) (c .before .before .args .listed .now), omega arith)
 
--- src/text.rt:33:9
 put-entry-requires : tie.Need-put-entry-requires Inv-loop μ-loop
 put-entry-requires c κs = (omega arith, omega arith)
 
--- src/text.rt:34:9
 add-row : tie.Need-add-row Inv-loop μ-loop
 add-row c = search needs
 
--- src/text.rt:32:5
 loop-less : tie.Need-loop-less Inv-loop μ-loop
 loop-less c = search needs
 
--- src/text.rt:32:5
 loop-again : tie.Need-loop-again Inv-loop μ-loop
 loop-again c = let a = c .before .before .before .before .before .before .before .before .args in let l = c .before .before .before .before .before .loop in (omega arith, omega arith, entries-more (a .at) (a .out .now) _ _ _ _ _ _ (omega arith) (l .inv .2) (c .before .before .put-entry .ensures .0), omega arith)
 
--- src/text.rt:26:1
 same-length : tie.Need-same-length Inv-loop μ-loop
 same-length c = search needs
 
--- src/text.rt:26:1
 returns : tie.Need-returns Inv-loop μ-loop
 returns c = let e : c .before .loop .row ≡ c .before .before .before .before .args .rows = omega arith in (rw e at (c .before .loop .inv .2), omega arith)
 

@@ -6,32 +6,22 @@ use Rattle.register.specs.RegisterLaws.{entry-listed, entry-not}
 use borrow.Author.Needs.{needs}
 use Rattle.register.proofs.text.put_entry.Statement.{statement}
 use Rattle.register.proofs.text.put_entry.Tie as tie
-use Rattle.register.proofs.text.put_entry.Reads as reads
-use Rattle.register.proofs.text.put_entry.Lts as lts
-use Rattle.register.proofs.piece.put_line.Reads as put-line-reads
-use Rattle.register.proofs.text.is_listed.Reads as is-listed-reads
 
--- src/text.rt:20:8
 is-listed-requires : tie.Need-is-listed-requires
 is-listed-requires c κs = search needs
 
--- src/text.rt:21:48
 slice-aggregate-put-line : tie.Need-slice-aggregate-put-line
 slice-aggregate-put-line c = search needs
 
--- src/text.rt:21:9
 put-line-requires : tie.Need-put-line-requires
 put-line-requires c κs = search needs
 
--- src/text.rt:21:9
 same-length : tie.Need-same-length
 same-length c = search needs
 
--- src/text.rt:21:9
 returns : tie.Need-returns
 returns c = (entry-listed _ _ _ _ _ _ (sym (c .before .before .before .before .before .before .is-listed .ensures) ∙ c .before .before .before .before .before .if1 .taken) (c .before .before .put-line .ensures .0), omega arith)
 
--- src/text.rt:16:1
 returns-2 : tie.Need-returns-2
 returns-2 c = (entry-not _ _ _ _ (sym (c .before .is-listed .ensures) ∙ c .if1 .left), omega arith)
 

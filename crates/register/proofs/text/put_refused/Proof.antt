@@ -5,32 +5,22 @@ use Rattle.register.specs.RegisterLaws.{refused-end}
 use borrow.Author.Needs.{needs}
 use Rattle.register.proofs.text.put_refused.Statement.{statement}
 use Rattle.register.proofs.text.put_refused.Tie as tie
-use Rattle.register.proofs.text.put_refused.Reads as reads
-use Rattle.register.proofs.text.put_refused.Lts as lts
-use Rattle.register.proofs.piece.put.Reads as put-reads
-use Rattle.register.proofs.piece.put_line.Reads as put-line-reads
 
--- src/text.rt:88:42
 slice-aggregate-put : tie.Need-slice-aggregate-put
 slice-aggregate-put c = search needs
 
--- src/text.rt:88:9
 put-requires : tie.Need-put-requires
 put-requires c κs = search needs
 
--- src/text.rt:89:39
 slice-aggregate-put-line : tie.Need-slice-aggregate-put-line
 slice-aggregate-put-line c = search needs
 
--- src/text.rt:89:5
 put-line-requires : tie.Need-put-line-requires
 put-line-requires c κs = search needs
 
--- src/text.rt:84:1
 same-length : tie.Need-same-length
 same-length c = search needs
 
--- src/text.rt:84:1
 returns : tie.Need-returns
 returns c = refused-end _ _ _ _ _ _ (omega arith) (c .before .before .before .before .before .before .before .put .ensures) (c .before .before .put-line .ensures .0)
 
