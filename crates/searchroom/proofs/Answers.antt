@@ -11,7 +11,7 @@ use Rattle.searchroom.specs.declared.word.Answer.the-variants.{Refused, 
 use Rattle.query.specs.Ladder.{Tables}
 use Rattle.searchroom.specs.Input.{Input, decodeInput}
 use Rattle.searchroom.specs.Answers.{catalogueAnswer, questionAnswer, Answered}
-use Rattle.searchroom.proofs.Inputs.{Begun}
+use Rattle.searchroom.specs.Begun.{Begun}
 
 module _ (b : List ℕ) (l : Layout) where
   pub answered-refused : (d : Decoded Catalogue) → LaidOut b l d → (l .refusal ≡ 0 → ⊥) → Answered (catalogueAnswer d) (Refused (l .refusal))

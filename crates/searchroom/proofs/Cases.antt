@@ -2,7 +2,7 @@
 use Prim.Native.Nat.{ℕ, zero, suc}
 use mathlib.Core.Path.{_≡_, refl, sym, ap}
 use mathlib.Core.Bool.{Bool, xor}
-use mathlib.Core.List.{List, [], _∷_, _++_}
+use mathlib.Core.List.{[]}
 use lib.Count.{ones, onesIn as digitOnes}
 use Rattle.fields.specs.Numbers.{numberAt, bytesOf}
 use Rattle.fields.specs.Header.{headerAt}
@@ -28,7 +28,7 @@ use Rattle.fields.specs.Decoded.{Decoded, refused, accepted}
 use Rattle.catalogue.specs.Catalogue.{Catalogue}
 use Rattle.query.specs.Query.{Query}
 use Rattle.searchroom.specs.Input.{Input, withQuery}
-use Rattle.searchroom.specs.Run.{rowCount, foundCount, lookCount}
+use Rattle.searchroom.specs.Run.{rowCount}
 use Rattle.searchroom.specs.Cases.{Holds, findsNothing, noRows, cases, AllHold}
 
 -- a catalogue without rows has empty bitmaps, whatever is asked

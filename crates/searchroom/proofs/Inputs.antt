@@ -18,8 +18,9 @@ use Rattle.query.specs.declared.whole.Reading.the-variants as reading
 use Rattle.query.specs.Query.{Query}
 use Rattle.query.specs.Ladder.{Tables}
 use Rattle.query.specs.Decode.{decodeTagged, decodeQuery}
-use Rattle.query.specs.Handed.{Tabled, Handed}
-use Rattle.searchroom.specs.Input.{Input, withQuery, thenQuestion, decodeInput}
+use Rattle.query.specs.Handed.{Handed}
+use Rattle.searchroom.specs.Input.{withQuery, thenQuestion, decodeInput}
+use Rattle.searchroom.specs.Begun.{Begun}
 
 shown-tag : (b : List ℕ) (rows tag start : ℕ) (c : Column) → Shows b rows tag start c → tag ≡ tagOf c
 shown-tag b rows tag start (numbers ns) s = s .0
@@ -38,13 +39,6 @@ laid-tags b l C h = ext-getD 0 (take (l .columns) (l .tags)) (tagsOf C) (omega (
         getD-take (l .columns) (l .tags) i 0 j
         ∙ shown-tag b (l .rows) (getD (l .tags) i 0) (getD (l .starts) i 0) (getD (C .columns) i (numbers [])) (column-shown b l C i h j)
         ∙ sym (tags-at (C .columns) i (numbers []) (omega (arith, h .2)))
-
--- an accepted catalogue and question: the decoded input, and all that the layout and the tables show of it
-pub record Begun (b q : List ℕ) (l : Layout) (n : ℕ) (T : Tables) : Type 0 where
-  pub input : Input
-  pub decoded : decodeInput b q ≡ accepted input
-  pub laid : LaidOut b l (accepted (input .catalogue))
-  pub tabled : Tabled (tagsOf (input .catalogue)) q (input .query) n T
 
 -- a layout has a tag for each column
 pub laid-columns-few : (b : List ℕ) (l : Layout) (d : Decoded Catalogue) → LaidOut b l d → l .columns ≤ length (l .tags)

@@ -1,4 +1,9 @@
 pub mod Inputs
 pub mod Finishing
+pub mod Running
 pub mod Cases
 pub mod Answers
+pub mod DemandLaws
+pub mod DemandTables
+pub mod DemandRuns
+pub mod Demands

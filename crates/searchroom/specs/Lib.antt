@@ -1,8 +1,10 @@
 pub mod Word
 pub mod Refusals
 pub mod Input
+pub mod Begun
 pub mod Answers
 pub mod Run
 pub mod Finish
+pub mod Demands
 pub mod Parish
 pub mod Cases

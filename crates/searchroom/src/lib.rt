@@ -3,4 +3,5 @@ pub mod catalogue_call;
 pub mod finish;
 pub mod question_call;
 pub mod refusal;
+pub mod run_call;
 pub mod word;

@@ -4,83 +4,58 @@ use Rattle.searchroom.proofs.Finishing.{counts-fit, front-length, room-
 use borrow.Author.Needs.{needs}
 use Rattle.searchroom.proofs.finish.finish.Statement.{statement}
 use Rattle.searchroom.proofs.finish.finish.Tie as tie
-use Rattle.searchroom.proofs.finish.finish.Reads as reads
-use Rattle.searchroom.proofs.finish.finish.Lts as lts
-use Rattle.bitmaps.proofs.copy.copy_lines.Reads as copy-lines-reads
-use Rattle.bitmaps.proofs.ones.count_ones.Reads as count-ones-reads
-use Rattle.fields.proofs.counter.eight_bytes.Reads as eight-bytes-reads
-use Rattle.fields.proofs.counter.put_eight_bytes.Reads as put-eight-bytes-reads
-use Rattle.searchroom.proofs.finish.bitmap_size.Reads as bitmap-size-reads
 
--- src/finish.rt:46:9
 returns : tie.Need-returns
 returns c = (counter-size-wrong _ _ _ _ _ _ _ (c .if1 .taken), omega arith)
 
--- src/finish.rt:48:9
 count-ones-requires : tie.Need-count-ones-requires
 count-ones-requires c κs = search needs
 
--- src/finish.rt:49:17
 mul-lines : tie.Need-mul-lines
 mul-lines c = search needs
 
--- src/finish.rt:50:44
 slice-aggregate-count-ones : tie.Need-slice-aggregate-count-ones
 slice-aggregate-count-ones c = front-length (c .before .before .before .before .before .before .before .before .args .probes .now) (c .before .before .before .before .before .before .before .before .args .n) (omega arith) (omega arith)
 
--- src/finish.rt:50:9
 count-ones-requires-2 : tie.Need-count-ones-requires-2
 count-ones-requires-2 c κs = let z = front-length (c .before .before .before .before .before .before .before .before .args .probes .now) (c .before .before .before .before .before .before .before .before .args .n) (omega arith) (omega arith) in omega (arith, z)
 
--- src/finish.rt:51:9
 eight-bytes-requires : tie.Need-eight-bytes-requires
 eight-bytes-requires c κs = search needs
 
--- src/finish.rt:52:8
 sub-if2 : tie.Need-sub-if2
 sub-if2 c = search needs
 
--- src/finish.rt:53:9
 same-length : tie.Need-same-length
 same-length c = search needs
 
--- src/finish.rt:53:9
 returns-2 : tie.Need-returns-2
 returns-2 c = (counter-passed _ _ _ _ _ _ _ (c .before .before .before .before .before .before .if1 .left) _ _ (c .before .eight-bytes .ensures) (c .before .before .before .count-ones2 .ensures) (c .if2 .taken), omega arith)
 
--- src/finish.rt:55:9
 bitmap-size-requires : tie.Need-bitmap-size-requires
 bitmap-size-requires c κs = search needs
 
--- src/finish.rt:56:5
 copy-lines-requires : tie.Need-copy-lines-requires
 copy-lines-requires c κs = search needs
 
--- src/finish.rt:57:5
 copy-lines-requires-2 : tie.Need-copy-lines-requires-2
 copy-lines-requires-2 c κs = (omega arith, omega arith, room-for (c .before .before .before .before .before .before .before .before .before .before .before .before .before .before .before .before .before .before .args .n) (c .before .before .before .before .before .bitmap-size .result) (c .before .before .before .before .before .before .before .before .before .before .before .before .before .before .before .before .before .before .args .rows) (c .before .before .before .before .before .before .before .before .before .before .before .before .before .before .before .before .before .before .args .looks .now) (c .before .before .before .before .before .bitmap-size .ensures) (c .before .before .before .before .before .before .before .before .before .before .before .before .before .before .before .before .before .before .pre .1 .1))
 
--- src/finish.rt:58:45
 add-put-eight-bytes : tie.Need-add-put-eight-bytes
 add-put-eight-bytes c = search needs
 
--- src/finish.rt:58:5
 put-eight-bytes-requires : tie.Need-put-eight-bytes-requires
 put-eight-bytes-requires c κs = search needs
 
--- src/finish.rt:32:1
 same-length-2 : tie.Need-same-length-2
 same-length-2 c = search needs
 
--- src/finish.rt:32:1
 same-length-3 : tie.Need-same-length-3
 same-length-3 c = search needs
 
--- src/finish.rt:32:1
 same-length-4 : tie.Need-same-length-4
 same-length-4 c = search needs
 
--- src/finish.rt:32:1
 returns-3 : tie.Need-returns-3
 returns-3 c = let z = counts-fit (c .before .before .before .before .before .before .before .before .before .before .before .before .before .before .before .before .before .before .before .before .before .before .before .before .before .args .selected .now) (c .before .before .before .before .before .before .before .before .before .before .before .before .before .before .before .before .before .before .before .before .before .before .before .before .before .args .probes .now) (c .before .before .before .before .before .before .before .before .before .before .before .before .before .before .before .before .before .before .before .before .before .before .before .before .before .args .n) (λ i. c .before .before .before .before .before .before .before .before .before .before .before .before .before .before .before .before .before .before .before .before .before .before .before .before .shared-slice-known .given i .fits) (λ i. c .before .before .before .before .before .before .before .before .before .before .before .before .before .before .before .before .before .before .before .before .before .before .before .shared-slice-known2 .given i .fits) (omega arith) (omega arith) (omega arith) in (counter-taken _ _ _ _ _ _ _ (c .before .before .before .before .before .before .before .before .before .before .before .before .before .before .before .before .before .before .before .if1 .left) _ _ (c .before .before .before .before .before .before .before .before .before .before .before .before .before .before .eight-bytes .ensures) (c .before .before .before .before .before .before .before .before .before .before .before .before .before .before .before .before .count-ones2 .ensures) (omega arith) (omega arith) _ _ _ _ _ (c .before .before .before .before .before .before .before .before .before .before .before .before .before .before .before .before .before .before .count-ones .ensures) (c .before .before .before .before .before .before .before .before .before .before .before .before .bitmap-size .ensures) (c .before .before .before .before .before .before .before .before .before .before .copy-lines .ensures) (c .before .before .before .before .before .before .copy-lines2 .ensures) (c .before .before .put-eight-bytes .ensures), omega (arith, z, c .before .before .before .before .before .before .before .before .before .before .before .before .before .before .before .before .before .before .count-ones .ensures, c .before .before .before .before .before .before .before .before .before .before .before .before .before .before .before .before .count-ones2 .ensures))
 

@@ -1,5 +1,4 @@
 -- `check_question` meets its contract: by the layout and the reader, the number of the first check that fails, or how many predicates there are.
-use native.Mathlib.Omega.{arith}
 use mathlib.Core.Path.{refl}
 use Rattle.catalogue.specs.Decode.{decodeCatalogue}
 use Rattle.searchroom.proofs.Inputs.{laid-columns-few, laid-tags-length, layout-refuses, question-refuses, input-begun}
@@ -7,60 +6,43 @@ use Rattle.searchroom.proofs.Answers.{question-answer-refused, question
 use borrow.Author.Needs.{needs}
 use Rattle.searchroom.proofs.question_call.check_question.Statement.{statement}
 use Rattle.searchroom.proofs.question_call.check_question.Tie as tie
-use Rattle.searchroom.proofs.question_call.check_question.Reads as reads
-use Rattle.searchroom.proofs.question_call.check_question.Lts as lts
-use Rattle.catalogue.proofs.layout.lay_out.Reads as lay-out-reads
-use Rattle.query.proofs.whole.read_query.Reads as read-query-reads
 
--- src/question_call.rt:12:9
 lay-out-requires : tie.Need-lay-out-requires
 lay-out-requires c κs = search needs
 
--- src/question_call.rt:15:9
 returns : tie.Need-returns
 returns c = question-answer-refused _ _ (layout-refuses (c .before .before .before .before .args .catalogue .now) (c .before .before .before .before .args .question .now) (c .before .lay-out .result) (c .before .lay-out .ensures) (c .if1 .taken))
 
--- src/question_call.rt:24:9
 array-share-prefix-tags : tie.Need-array-share-prefix-tags
 array-share-prefix-tags c = laid-columns-few (c .before .before .before .before .before .args .catalogue .now) (c .before .before .lay-out .result) (decodeCatalogue (c .before .before .before .before .before .args .catalogue .now)) (c .before .before .lay-out .ensures)
 
--- src/question_call.rt:24:9
 slice-aggregate-read-query : tie.Need-slice-aggregate-read-query
 slice-aggregate-read-query c = laid-tags-length (c .before .before .before .before .before .before .args .catalogue .now) (c .before .before .before .lay-out .result) (decodeCatalogue (c .before .before .before .before .before .before .args .catalogue .now)) (c .before .before .before .lay-out .ensures)
 
--- src/question_call.rt:26:9
 slice-aggregate-read-query-2 : tie.Need-slice-aggregate-read-query-2
 slice-aggregate-read-query-2 c = search needs
 
--- src/question_call.rt:27:9
 slice-aggregate-read-query-3 : tie.Need-slice-aggregate-read-query-3
 slice-aggregate-read-query-3 c = search needs
 
--- src/question_call.rt:28:9
 slice-aggregate-read-query-4 : tie.Need-slice-aggregate-read-query-4
 slice-aggregate-read-query-4 c = search needs
 
--- src/question_call.rt:29:9
 slice-aggregate-read-query-5 : tie.Need-slice-aggregate-read-query-5
 slice-aggregate-read-query-5 c = search needs
 
--- src/question_call.rt:23:11
 read-query-requires : tie.Need-read-query-requires
 read-query-requires c κs = search needs
 
--- src/question_call.rt:31:26
 enum-known-e : tie.Need-enum-known-e
 enum-known-e c = search needs
 
--- src/question_call.rt:32:29
 enum-known-n : tie.Need-enum-known-n
 enum-known-n c = search needs
 
--- src/question_call.rt:9:1
 returns-2 : tie.Need-returns-2
 returns-2 c = question-answer-refused _ _ (question-refuses (c .before .before .before .before .before .before .before .before .before .before .before .before .before .before .before .before .before .before .args .catalogue .now) (c .before .before .before .before .before .before .before .before .before .before .before .before .before .before .before .before .before .before .args .question .now) (c .before .before .before .before .before .before .before .before .before .before .before .before .before .before .before .lay-out .result) _ refl _ _ (c .before .before .before .before .before .before .before .before .before .before .before .before .before .before .before .lay-out .ensures) (c .before .before .before .before .before .before .before .before .before .before .before .before .before .before .if1 .left) (c .before .before .before .before .before .before .before .read-query .ensures) _ (c .before .e .given .1))
 
--- src/question_call.rt:9:1
 returns-3 : tie.Need-returns-3
 returns-3 c = question-answer-accepted _ _ _ _ _ (input-begun (c .before .before .before .before .before .before .before .before .before .before .before .before .before .before .before .before .before .before .args .catalogue .now) (c .before .before .before .before .before .before .before .before .before .before .before .before .before .before .before .before .before .before .args .question .now) (c .before .before .before .before .before .before .before .before .before .before .before .before .before .before .before .lay-out .result) _ refl _ _ (c .before .before .before .before .before .before .before .before .before .before .before .before .before .before .before .lay-out .ensures) (c .before .before .before .before .before .before .before .before .before .before .before .before .before .before .if1 .left) (c .before .before .before .before .before .before .before .read-query .ensures) _ (c .before .n .given .1))
 

@@ -1,0 +1,191 @@
+-- The demands page, proved: one proof for each of its statements, in its order.
+use Prim.Native.Nat.{ℕ, suc, _+_, _*_, _/_, _%_, _^_, _≤_, _<_}
+use native.Mathlib.Nat.{mul-comm}
+use native.Mathlib.Omega.{arith}
+use mathlib.Core.Path.{_≡_, refl, sym, ap, _∙_, subst}
+use mathlib.Core.Bool.{true, _&&_}
+use mathlib.Core.Logic.{inl, inr}
+use mathlib.Core.List.{List, [], _∷_}
+use lib.ListN.{length}
+use lib.Dec.{ltb}
+use Rattle.fields.specs.Numbers.{numberAt}
+use Rattle.fields.proofs.Laws.{number-of-bytes}
+use Rattle.predicate.specs.declared.answer.Answer.{Answer as Outcome}
+use Rattle.predicate.specs.declared.answer.Answer.the-variants.{No, Yes}
+use Rattle.predicate.specs.Meaning.{outcome}
+use Rattle.strategy.specs.Bools.{not-true, and-parts, ltb-yes, ltb-lt}
+use Rattle.strategy.specs.Assignment.{Assignment, Among}
+use Rattle.strategy.specs.Tree.{eval, size}
+use Rattle.strategy.specs.TreeLaws.{all-none, all-more, any-none, any-more}
+use Rattle.strategy.specs.Order.{isOrder}
+use Rattle.strategy.specs.Strategy.{Strategy, State, Right, run, predicates, probes as probesOf}
+use Rattle.strategy.specs.Trace.{trace}
+use Rattle.strategy.specs.Ours.{ours}
+use Rattle.strategy.specs.Optimality.{optimal, optimal-count}
+use Rattle.strategy.specs.QueryLaws.{query-ours, query-right}
+use Rattle.bitmaps.specs.Sums.{sumOf, countOf}
+use Rattle.bitmaps.specs.SumLaws.{sum-same}
+use Rattle.bitmaps.specs.Bit.{bit}
+use Rattle.run.specs.Run.{predicateAt, isSelected, isProbed}
+use Rattle.searchroom.specs.declared.word.Answer.the-variants.{Refused, Accepted}
+use Rattle.searchroom.specs.Refusals.{noSuchPlace}
+use Rattle.searchroom.specs.Input.{Input}
+use Rattle.searchroom.specs.Answers.{outcomeNumber}
+use Rattle.searchroom.specs.Run.{rowCount, predicateCount, selection, probes, foundCount, lookCount}
+use Rattle.searchroom.specs.Demands.{after, Reads, RunningOrder, rowBytes, Kept, FirstBroken, pattern, treeValue, listedRow, looksRow, Demand1Number, Demand1Refused, Demand1Accepted, Demand1Limits, Demand1Catalogue, Demand1Question, Demand1Outcome, Demand2Tree, Demand2Listed, Demand2Looks, Demand2Further, Demand2Counts, Demand2Tally, Demand3, Demand3Ours, Demand3Run}
+use Rattle.searchroom.proofs.DemandLaws.{catalogue-limited, query-sound, reads-input, broken-input, broken-range, reads-limited, reads-sound, unpacked}
+use Rattle.searchroom.proofs.DemandTables.{sum-le, row-of, row-count, front-old, order-plain, held, traced-due, probed-due, found-count, look-count, look-count-le, look-count-rows, selection-length, listed-row, probes-length, looks-row}
+use Rattle.searchroom.proofs.DemandRuns.{Cases, kept-run, broken-run, broken-number, run-cases, broken-gives, kept-gives}
+
+-- DEMAND 1
+
+pub demand-1-number : Demand1Number
+demand-1-number l e p = (λ h. go h (run-cases l), λ x. broken-gives l e x .1)
+  where
+    go : after l .word % 2 ^ 8 ≡ e → Cases l → FirstBroken l e
+    go h (inl x) = absurd (omega (arith, kept-gives l (x .0) (x .1) .1))
+    go h (inr x) = subst (λ (k : ℕ). FirstBroken l k) (sym (broken-gives l (x .0) (x .1) .1) ∙ h) (x .1)
+
+pub demand-1-refused : Demand1Refused
+demand-1-refused l e x =
+    let r = broken-run l e x in
+    (broken-gives l e x, ap (λ (s : _). s .listed) r, ap (λ (s : _). s .looks) r, ap (λ (s : _). s .tally) r)
+
+pub demand-1-accepted : Demand1Accepted
+demand-1-accepted l = (λ h. go h (run-cases l), λ x. kept-gives l (x .0) (x .1) .1)
+  where
+    go : after l .word % 2 ^ 8 ≡ 0 → Cases l → (i : Input) × Kept l i
+    go h (inl x) = x
+    go h (inr x) = absurd (omega (arith, broken-gives l (x .0) (x .1) .1, broken-number l (x .0) (x .1)))
+
+pub demand-1-catalogue : Demand1Catalogue
+demand-1-catalogue b = (
+  λ e h. let s : (1 ≤ e) × (e ≤ 6) = rw h at (catalogue-limited b) in
+      rw h (unpacked (Refused e) (omega arith)),
+  λ C h. let s : (C .rows ≤ 2048) × (1 ≤ length (C .columns)) × (length (C .columns) ≤ 16) = rw h at (catalogue-limited b) in
+      rw h (unpacked (Accepted (C .rows) (length (C .columns)) 0) (omega arith)),
+)
+
+pub demand-1-question : Demand1Question
+demand-1-question b q = (
+  λ e x. let s = broken-range b q e x in
+      rw (broken-input b q e x) (unpacked (Refused e) (omega arith)),
+  λ i r. let Q = reads-sound b q i r in
+      rw (reads-input b q i r) (unpacked (Accepted (predicateCount i) 0 0) (omega arith)),
+)
+
+pub demand-1-outcome : Demand1Outcome
+demand-1-outcome b q entry c = (
+  λ e x. let s = broken-range b q e x in
+      rw (broken-input b q e x) (unpacked (Refused e) (omega arith)),
+  λ i r n. rw (reads-input b q i r, not-true (ltb entry (rowCount i) && ltb c (predicateCount i)) (λ h. n (inside i h)))
+      (unpacked (Refused noSuchPlace) (omega arith)),
+  λ i r x y. let z = small (outcome (i .catalogue) (predicateAt (i .query) c) entry) in
+      rw (reads-input b q i r, ltb-yes entry (rowCount i) x, ltb-yes c (predicateCount i) y)
+      (unpacked (Accepted (outcomeNumber (outcome (i .catalogue) (predicateAt (i .query) c) entry)) 0 0) (omega arith)),
+)
+  where
+    inside : (i : Input) → (ltb entry (rowCount i) && ltb c (predicateCount i)) ≡ true → (entry < rowCount i) × (c < predicateCount i)
+    inside i h =
+        let p = and-parts (ltb entry (rowCount i)) (ltb c (predicateCount i)) h in
+        (ltb-lt entry (rowCount i) (p .0), ltb-lt c (predicateCount i) (p .1))
+
+    small : (a : Outcome) → outcomeNumber a ≤ 1
+    small No = omega arith
+    small Yes = omega arith
+
+pub demand-1-limits : Demand1Limits
+demand-1-limits = (
+  λ b e h. rw h at (catalogue-limited b),
+  λ C q e h. rw h at (query-sound C q),
+  λ b q i r. let C = reads-limited b q i r in let Q = reads-sound b q i r in (C .0, C .1, C .2, Q .some, Q .few, Q .nested),
+)
+
+-- DEMAND 2
+
+pub demand-2-tree : Demand2Tree
+unfolding eval
+demand-2-tree a = (λ c. refl, all-none a, all-more a, any-none a, any-more a)
+
+pub demand-2-listed : Demand2Listed
+unfolding isSelected
+demand-2-listed l i k =
+    rw (kept-run l i k, listed-row i (l .listed)) (row-of (λ e. treeValue i (pattern i e) ≡ true) (isSelected (i .catalogue) (i .query)) (rowCount i) (λ e. (λ x. x, λ x. x)))
+
+pub demand-2-looks : Demand2Looks
+demand-2-looks l i k c m =
+    rw (kept-run l i k, looks-row i (l .order) (l .looks) c m)
+    (row-of _ (isProbed (i .catalogue) (i .query) (l .order) c) (rowCount i) (λ e. probed-due i (l .order) (k .order) c e))
+
+pub demand-2-counts : Demand2Counts
+demand-2-counts l i k = rw (← found, ← looked) (kept-gives l i k)
+  where
+    found : foundCount i ≡ countOf (bit (listedRow i (after l .listed))) (rowCount i)
+    found = rw (kept-run l i k, listed-row i (l .listed)) (found-count i ∙ sym (row-count (isSelected (i .catalogue) (i .query)) (rowCount i)))
+
+    looked : lookCount i (l .order) ≡ sumOf (λ c. countOf (bit (looksRow i (after l .looks) c)) (rowCount i)) (predicateCount i)
+    looked =
+        look-count i (l .order)
+        ∙ sum-same (λ c. countOf (isProbed (i .catalogue) (i .query) (l .order) c) (rowCount i)) (λ c. countOf (bit (looksRow i (after l .looks) c)) (rowCount i)) (predicateCount i)
+        (λ c m. rw (kept-run l i k, looks-row i (l .order) (l .looks) c m) (sym (row-count (isProbed (i .catalogue) (i .query) (l .order) c) (rowCount i))))
+
+pub demand-2-tally : Demand2Tally
+demand-2-tally l i k =
+    let t = ap (λ (s : _). s .tally) (kept-run l i k) in (
+      kept-gives l i k .4,
+      subst (λ (x : ℕ). lookCount i (l .order) ≤ x) (mul-comm (predicateCount i) (rowCount i)) (look-count-le i (l .order) (rowCount i) (omega arith)),
+      t,
+      ap (λ (x : List ℕ). numberAt x 0 8) t ∙ number-of-bytes 8 (numberAt (l .tally) 0 8 + lookCount i (l .order)) (omega (arith, k .tally .1)),
+    )
+
+pub demand-2-further : Demand2Further
+demand-2-further l i k =
+    rw (kept-run l i k) (
+      front-old (selection i) (l .listed) (rowBytes i) (selection-length i),
+      front-old (probes i (l .order)) (l .looks) (predicateCount i * rowBytes i) (probes-length i (l .order)),
+    )
+
+-- DEMAND 3
+
+length-predicates : (s : State) → length (predicates s) ≡ length s
+unfolding predicates
+length-predicates [] = refl
+length-predicates (x ∷ s) = ap suc (length-predicates s)
+
+module _ (b q : List ℕ) (i : Input) (r : Reads b q i) (order : List ℕ) (o : RunningOrder i order) where
+  -- the order is one of as many predicates as the tree has leaves
+  of-tree : isOrder (size (i .query .tree)) order ≡ true
+  of-tree = rw (reads-sound b q i r .leaves) (order-plain (predicateCount i) order .1 o)
+
+  ours-run : (a : Assignment) → run (ours (treeValue i) order) a order ≡ trace (treeValue i) a order
+  ours-run = query-ours (i .query .tree) (reads-sound b q i r .numbered) order of-tree
+
+-- a right way makes at least as many looks as are due
+counted : (i : Input) (order : List ℕ) → RunningOrder i order → (way : Strategy) → Right (treeValue i) order way → (a : Assignment)
+    → length (predicates (trace (treeValue i) a order)) ≤ length (probesOf way a order)
+counted i order o way R a = rw (length-predicates, length-predicates) (optimal-count (treeValue i) order (held i order o .once) way R a)
+
+pub demand-3 : Demand3
+demand-3 b q i r order o way R a =
+    rw (ours-run b q i r order o a) (optimal (treeValue i) order (held i order o .once) way R a, counted i order o way R a)
+
+pub demand-3-ours : Demand3Ours
+demand-3-ours b q i r order o a = (
+  λ c. rw (ours-run b q i r order o a) (traced-due i order o a c),
+  query-right (i .query .tree) (reads-sound b q i r .numbered) order (of-tree b q i r order o) a,
+)
+
+pub demand-3-run : Demand3Run
+demand-3-run l i k way R = (looks, count)
+  where
+    looks : (e c : ℕ) → e < rowCount i → c < predicateCount i → bit (looksRow i (after l .looks) c) e ≡ true → Among c (probesOf way (pattern i e) (l .order))
+    looks e c m n h =
+        optimal (treeValue i) (l .order) (held i (l .order) (k .order) .once) way R (pattern i e) c
+        (traced-due i (l .order) (k .order) (pattern i e) c .1 (demand-2-looks l i k c n .bits e m .0 h))
+
+    count : after l .word / 2 ^ 40 ≤ sumOf (λ e. length (probesOf way (pattern i e) (l .order))) (rowCount i)
+    count =
+        subst (λ (x : ℕ). x ≤ sumOf (λ e. length (probesOf way (pattern i e) (l .order))) (rowCount i))
+        (sym (kept-gives l i k .4 ∙ look-count-rows i (l .order) (k .order)))
+        (sum-le (λ e. length (predicates (trace (treeValue i) (pattern i e) (l .order)))) (λ e. length (probesOf way (pattern i e) (l .order))) (rowCount i)
+        (λ e m. counted i (l .order) (k .order) way R (pattern i e)))
