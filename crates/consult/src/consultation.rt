@@ -1,0 +1,41 @@
+// One consultation: a run with the tally at zero, and its register.
+ghost use Prim.Native.Nat.{_≤_};
+ghost use lib.ListN.{length};
+ghost use Rattle.register.specs.Register.{refused};
+ghost use Rattle.consult.specs.Consultation.{unreadable, consultationOf, Printed};
+
+pub struct Refusal;
+
+impl Refusal {
+    pub const UNREADABLE: u64 = 19;
+}
+
+// The register of three files, to the front of the output; its length.
+pub fn consultation(catalogue: &[u8], question: &[u8], order: &[u8], out: &mut [u8]) -> usize
+    requires { ⌜ (length (now order) ≤ 64) × (65536 ≤ length (now out)) ⌝ }
+    ensures { λ r. ⌜ Printed (consultationOf (now (catalogue .entry)) (now (question .entry)) (now (order .entry))) (now (out .entry)) r (now (out .exit)) ⌝ }
+{
+    let mut listed = [0u8; 256];
+    let mut looks = [0u8; 16384];
+    let mut tally = [0u8; 8];
+    let word = searchroom::run_call::searchroom_run(
+        catalogue,
+        question,
+        order,
+        &mut listed,
+        &mut looks,
+        &mut tally,
+    );
+    let layout = catalogue::layout::lay_out(catalogue);
+    let rows = layout.rows;
+    register::text::write_register(word, rows, order.len(), &listed, &looks, out)
+}
+
+// The register where a file cannot be read.
+pub fn not_readable(out: &mut [u8]) -> usize
+    requires { ⌜ 65536 ≤ length (now out) ⌝ }
+    ensures { λ r. ⌜ Printed (refused unreadable) (now (out .entry)) r (now (out .exit)) ⌝ }
+{
+    let none = [0u8; 0];
+    register::text::write_register(Refusal::UNREADABLE, 0, 0, &none, &none, out)
+}

@@ -1,0 +1,3 @@
+// The text of the register that `consult` prints.
+pub mod piece;
+pub mod text;

@@ -1,0 +1,117 @@
+// The register: its first line, and what a run found or the number of its refusal.
+ghost use mathlib.Core.Path.{_≡_};
+ghost use Prim.Native.Nat.{_+_, _*_, _/_, _^_, _≤_, _<_};
+ghost use lib.ListN.{length};
+ghost use Rattle.bitmaps.specs.Bitmap.{bytesFor, putFront};
+ghost use Rattle.bitmaps.specs.Bit.{bit};
+ghost use Rattle.register.specs.Register.{entryIf, entries, conditionLine, conditions, accepted, refused, registerOf, roomFor, Wrote};
+
+fn is_listed(listed: &[u8], row: usize) -> bool
+    requires { ⌜ row / 8 < length (now listed) ⌝ }
+    ensures { λ r. ⌜ r ≡ bit (now (listed .entry)) row ⌝ }
+{
+    (listed[row / 8] >> (row % 8)) % 2 == 1
+}
+
+fn put_entry(out: &mut [u8], at: usize, listed: &[u8], row: usize) -> usize
+    requires { ⌜ (row / 8 < length (now listed)) × (at + 27 ≤ length (now out)) ⌝ }
+    ensures { λ r. ⌜ Wrote at (entryIf (bit (now (listed .entry)) row) row) (now (out .entry)) r (now (out .exit)) × (r ≤ at + 27) ⌝ }
+{
+    if is_listed(listed, row) {
+        return crate::piece::put_line(out, at, b"entry ", row as u64);
+    }
+    at
+}
+
+fn put_entries(out: &mut [u8], at: usize, listed: &[u8], rows: usize) -> usize
+    requires { ⌜ (rows ≤ length (now listed) * 8) × (at + 27 * rows ≤ length (now out)) ⌝ }
+    ensures { λ r. ⌜ Wrote at (entries (now (listed .entry)) rows) (now (out .entry)) r (now (out .exit)) × (r ≤ at + 27 * rows) ⌝ }
+{
+    let mut end = at;
+    let mut row: usize = 0;
+    while row < rows {
+        end = put_entry(out, end, listed, row);
+        row += 1;
+    }
+    end
+}
+
+fn put_condition(out: &mut [u8], at: usize, c: usize, count: u64) -> usize
+    requires { ⌜ at + 52 ≤ length (now out) ⌝ }
+    ensures { λ r. ⌜ Wrote at (conditionLine c count) (now (out .entry)) r (now (out .exit)) × (r ≤ at + 52) ⌝ }
+{
+    let number = crate::piece::put(out, at, b"condition ");
+    let end = crate::piece::put_number(out, number, c as u64);
+    crate::piece::put_line(out, end, b" ", count)
+}
+
+fn put_conditions(out: &mut [u8], at: usize, looks: &[u8], size: usize, n: usize) -> usize
+    requires { ⌜ (size < 2 ^ 61) × (n * size ≤ length (now looks)) × (at + 52 * n ≤ length (now out)) ⌝ }
+    ensures { λ r. ⌜ Wrote at (conditions (now (looks .entry)) size n) (now (out .entry)) r (now (out .exit)) × (r ≤ at + 52 * n) ⌝ }
+{
+    let mut end = at;
+    let mut c: usize = 0;
+    let mut row: usize = 0;
+    while c < n {
+        let next = row + size;
+        let count = bitmaps::ones::count_ones(&looks[row..next]);
+        end = put_condition(out, end, c, count);
+        c += 1;
+        row = next;
+    }
+    end
+}
+
+fn put_accepted(
+    found: u64,
+    looked: u64,
+    rows: usize,
+    n: usize,
+    listed: &[u8],
+    looks: &[u8],
+    out: &mut [u8],
+) -> usize
+    requires { ⌜ (bytesFor rows ≤ length (now listed)) × (n * bytesFor rows ≤ length (now looks)) × (roomFor rows n ≤ length (now out)) ⌝ }
+    ensures { λ r. ⌜ Wrote 0 (accepted found looked rows n (now (listed .entry)) (now (looks .entry))) (now (out .entry)) r (now (out .exit)) ⌝ }
+{
+    let found_line = crate::piece::put(out, 0, b"consultation register\n");
+    let entry_lines = crate::piece::put_line(out, found_line, b"found ", found);
+    let looks_line = put_entries(out, entry_lines, listed, rows);
+    let condition_lines = crate::piece::put_line(out, looks_line, b"looks ", looked);
+    put_conditions(out, condition_lines, looks, (rows + 7) / 8, n)
+}
+
+fn put_refused(number: u64, out: &mut [u8]) -> usize
+    requires { ⌜ 76 ≤ length (now out) ⌝ }
+    ensures { λ r. ⌜ Wrote 0 (refused number) (now (out .entry)) r (now (out .exit)) ⌝ }
+{
+    let next = crate::piece::put(out, 0, b"consultation register\n");
+    crate::piece::put_line(out, next, b"refused ", number)
+}
+
+// The register of a run that gave `word` and wrote the two tables, to the front of the output; its length.
+pub fn write_register(
+    word: u64,
+    rows: usize,
+    n: usize,
+    listed: &[u8],
+    looks: &[u8],
+    out: &mut [u8],
+) -> usize
+    requires { ⌜ (bytesFor rows ≤ length (now listed)) × (n * bytesFor rows ≤ length (now looks)) × (roomFor rows n ≤ length (now out)) ⌝ }
+    ensures { λ r. ⌜ (now (out .exit) ≡ putFront (registerOf word rows n (now (listed .entry)) (now (looks .entry))) (now (out .entry))) × (r ≡ length (registerOf word rows n (now (listed .entry)) (now (looks .entry)))) ⌝ }
+{
+    let number = word % 256;
+    if number != 0 {
+        return put_refused(number, out);
+    }
+    put_accepted(
+        word / 256 % 65536,
+        word / 1099511627776,
+        rows,
+        n,
+        listed,
+        looks,
+        out,
+    )
+}
