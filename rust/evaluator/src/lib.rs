@@ -1,0 +1,13 @@
+//! Document 01 in plain Rust, written from the paper alone.
+//!
+//! It shares nothing with the engine and is meant to be believed by reading: values are decoded first, then every rule is
+//! worked out as its sentence says it, at whatever cost. Tests hold the engine to its answers.
+
+mod catalogue;
+mod field;
+pub mod refusal;
+mod word;
+
+pub use catalogue::{BLANK_NUMBER, Catalogue, Column, read_catalogue};
+pub use refusal::Number;
+pub use word::{catalogue_word, pack, refused};

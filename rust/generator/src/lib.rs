@@ -1,0 +1,13 @@
+//! Random inputs from a seed: decoded values, their bytes, and damages to bytes.
+//!
+//! The same seed gives the same input on every machine, so that a test which fails names the seed and no more.
+
+mod catalogue;
+mod damage;
+mod encode;
+mod rng;
+
+pub use catalogue::{catalogue, catalogue_of, text};
+pub use damage::{Damage, damage};
+pub use encode::{encode_catalogue, encode_texts, field};
+pub use rng::Rng;

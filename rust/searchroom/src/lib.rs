@@ -1,0 +1,26 @@
+//! The searchroom engine from Rust: safe calls over `libsearchroom.a`.
+//!
+//! The engine takes byte slices and numbers and trusts none of them: every call may be made with any bytes, and answers
+//! either with its result or with the [`Refusal`] that is due. Nothing has to be checked beforehand.
+//!
+//! ```
+//! // One entry and one column of numbers, holding the year 1701.
+//! let catalogue = [67, 0, 3, 0, 1, 1, 78, 0, 4, 0, 0, 0x06, 0xA5];
+//! let size = searchroom::check_catalogue(&catalogue)?;
+//! assert_eq!((size.entries, size.columns), (1, 1));
+//! # Ok::<(), searchroom::Refusal>(())
+//! ```
+
+mod catalogue;
+mod refusal;
+mod sys;
+mod word;
+
+pub use catalogue::{Size, check_catalogue};
+pub use refusal::Refusal;
+pub use word::Word;
+
+/// The calls as C sees them: the answer is the packed [`Word`], not taken apart.
+pub mod raw {
+    pub use crate::catalogue::check_catalogue_word as check_catalogue;
+}

@@ -1,0 +1,15 @@
+//! What the tests in `tests/` share: lent memory with guards, comparison with the evaluator, and reports.
+
+mod catalogue;
+mod fault;
+mod lent;
+mod report;
+mod seen;
+
+pub use catalogue::compare_catalogue;
+pub use lent::{Lent, Side};
+pub use report::hex;
+pub use seen::Seen;
+
+/// The catalogue of document 01's parish of three entries.
+pub const PARISH_CATALOGUE: &[u8] = include_bytes!("../../../examples/parish/catalogue.bin");
