@@ -4,10 +4,12 @@
 //! worked out as its sentence says it, at whatever cost. Tests hold the engine to its answers.
 
 mod catalogue;
+mod condition;
 mod field;
 pub mod refusal;
 mod word;
 
 pub use catalogue::{BLANK_NUMBER, Catalogue, Column, read_catalogue};
+pub use condition::{Answer, Condition, Test, fold, outcome, read_condition};
 pub use refusal::Number;
 pub use word::{catalogue_word, pack, refused};

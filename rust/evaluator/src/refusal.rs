@@ -15,3 +15,6 @@ pub const COLUMN_FORM: Number = 4;
 pub const TEXT_SLOT: Number = 5;
 /// Bytes left over after the last column.
 pub const CATALOGUE_LEFT_OVER: Number = 6;
+/// A condition's payload is under two bytes, or names no such column, an unknown kind, a kind not fitting the column, or
+/// an operand of wrong length or range.
+pub const CONDITION: Number = 11;
