@@ -18,8 +18,8 @@
  * Each call says below what its results are. A refusal comes with zeros for every result, and the call has then altered
  * nothing that it was lent. The first check that fails, in the order stated at the call, decides the number.
  *
- * Fields. Catalogues are made of fields: a one-byte tag, a two-byte length, then that many bytes, the payload. All
- * numbers are unsigned, most significant byte first. Entries and columns count from 0.
+ * Fields. Catalogues and questions are made of fields: a one-byte tag, a two-byte length, then that many bytes, the
+ * payload. All numbers are unsigned, most significant byte first. Entries, columns and conditions count from 0.
  */
 #ifndef SEARCHROOM_H
 #define SEARCHROOM_H
@@ -33,9 +33,11 @@ extern "C" {
 
 /* Limits. */
 enum {
-    SEARCHROOM_MAX_ENTRIES = 2048, /* entries of a catalogue */
-    SEARCHROOM_MAX_COLUMNS = 16,   /* columns of a catalogue, which has at least one */
-    SEARCHROOM_MAX_TEXT = 23       /* bytes of a text in a catalogue */
+    SEARCHROOM_MAX_ENTRIES = 2048,  /* entries of a catalogue */
+    SEARCHROOM_MAX_COLUMNS = 16,    /* columns of a catalogue, which has at least one */
+    SEARCHROOM_MAX_TEXT = 23,       /* bytes of a text in a catalogue, or of a text operand */
+    SEARCHROOM_MAX_CONDITIONS = 64, /* conditions of a question, which has at least one */
+    SEARCHROOM_MAX_DEPTH = 8        /* groups inside each other, the outermost being 1 */
 };
 
 /* Refusal numbers. */
@@ -52,7 +54,27 @@ enum {
     /* Catalogue: a text slot has a length over 23, or a byte after its text that is not zero. */
     SEARCHROOM_TEXT_SLOT = 5,
     /* Catalogue: bytes left over after the last column. */
-    SEARCHROOM_CATALOGUE_LEFT_OVER = 6
+    SEARCHROOM_CATALOGUE_LEFT_OVER = 6,
+    /* Question: fewer than three bytes left in the enclosing payload where a field should start, or the field's length
+       passes its end. */
+    SEARCHROOM_QUESTION_FIELD = 7,
+    /* Question: a tag that is neither a group's nor a condition's. */
+    SEARCHROOM_UNKNOWN_TAG = 8,
+    /* Question: a group without a member. */
+    SEARCHROOM_EMPTY_GROUP = 9,
+    /* Question: a group deeper than 8. */
+    SEARCHROOM_TOO_DEEP = 10,
+    /* Question: a condition's payload is under two bytes, or names no such column, an unknown kind, a kind that does not
+       fit the column, or an operand of wrong length or range. */
+    SEARCHROOM_BAD_CONDITION = 11,
+    /* Question: a 65th condition. */
+    SEARCHROOM_TOO_MANY_CONDITIONS = 12,
+    /* Question: a condition's payload is byte for byte that of an earlier one. */
+    SEARCHROOM_REPEATED_CONDITION = 13,
+    /* Question: bytes left over after its field. */
+    SEARCHROOM_QUESTION_LEFT_OVER = 14,
+    /* Numbers: no such entry or condition. */
+    SEARCHROOM_NO_SUCH_PLACE = 18
 };
 
 /* The refusal's number in a packed word, SEARCHROOM_ACCEPTED where the call is accepted. */
@@ -74,6 +96,15 @@ static inline const char *searchroom_text(unsigned number)
     case SEARCHROOM_COLUMN_FORM: return "a column has a wrong tag or length";
     case SEARCHROOM_TEXT_SLOT: return "a text slot has a length over 23 or a stray byte after its text";
     case SEARCHROOM_CATALOGUE_LEFT_OVER: return "bytes are left over after the last column of the catalogue";
+    case SEARCHROOM_QUESTION_FIELD: return "a field of the question is cut short";
+    case SEARCHROOM_UNKNOWN_TAG: return "a field of the question is neither a group nor a condition";
+    case SEARCHROOM_EMPTY_GROUP: return "a group of the question has no member";
+    case SEARCHROOM_TOO_DEEP: return "a group of the question stands deeper than 8";
+    case SEARCHROOM_BAD_CONDITION: return "a condition has a wrong column, kind or operand";
+    case SEARCHROOM_TOO_MANY_CONDITIONS: return "the question has over 64 conditions";
+    case SEARCHROOM_REPEATED_CONDITION: return "a condition is byte for byte an earlier one";
+    case SEARCHROOM_QUESTION_LEFT_OVER: return "bytes are left over after the question";
+    case SEARCHROOM_NO_SUCH_PLACE: return "there is no such entry or condition";
     default: return "unknown refusal";
     }
 }
@@ -96,6 +127,45 @@ uint64_t searchroom_check_catalogue(const uint8_t *catalogue, size_t catalogue_l
 
 static inline unsigned searchroom_entries(uint64_t word) { return searchroom_first(word); }
 static inline unsigned searchroom_columns(uint64_t word) { return searchroom_second(word); }
+
+/*
+ * Checks a question against a catalogue.
+ *
+ * A question is one field:
+ *     tag 65, an all-of group, or tag 79, an any-of group: the payload is its members, one or more, each again such a field;
+ *     groups stand at most 8 deep;
+ *     tag 80, a condition: a column byte, a kind byte, and an operand.
+ * There are 1 to 64 conditions, numbered from 0 as they stand. Kinds:
+ *     0  number from low to high: two four-byte numbers, low <= high < 4,294,967,295; a blank gives no
+ *     1  number blank: no operand
+ *     2  text equals, 3 text begins with, 4 text contains: an operand of 1 to 23 bytes
+ *     5  text blank: no operand
+ *     128 to 133  the opposite outcome of 0 to 5, at every entry
+ * Text and operand are compared after folding (ISO/IEC 8859-1): bytes 65 to 90, and 192 to 222 except 215, gain 32.
+ *
+ * Results: first the number of conditions n (searchroom_conditions).
+ * Refusals: 1 to 6 for the catalogue; then 7 to 14, met while walking the question from front to back: at each field 7,
+ * then 8; at a group 10, then 9; at a condition 12, then 11, then 13; at the end 14.
+ * Writes nothing.
+ */
+uint64_t searchroom_check_question(const uint8_t *catalogue, size_t catalogue_len,
+                                   const uint8_t *question, size_t question_len);
+
+static inline unsigned searchroom_conditions(uint64_t word) { return searchroom_first(word); }
+
+/*
+ * Works out one condition of a question at one entry of a catalogue.
+ *
+ * Results: first the answer, 1 for yes and 0 for no (searchroom_answer).
+ * Refusals: 1 to 14 as for searchroom_check_question; then 18, the entry is not below the number of entries or the
+ * condition not below the number of conditions. Any 64-bit numbers may be given.
+ * Writes nothing.
+ */
+uint64_t searchroom_outcome(const uint8_t *catalogue, size_t catalogue_len,
+                            const uint8_t *question, size_t question_len,
+                            uint64_t entry, uint64_t condition);
+
+static inline unsigned searchroom_answer(uint64_t word) { return searchroom_first(word); }
 
 #ifdef __cplusplus
 }

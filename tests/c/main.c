@@ -64,6 +64,7 @@ uint8_t *read_file(const char *path, size_t *len)
 int main(void)
 {
     catalogue_cases();
+    question_cases();
     printf("%u passed, %u failed\n", passed, failed);
     return failed == 0 ? 0 : 1;
 }

@@ -5,9 +5,11 @@
 
 mod catalogue;
 mod plain;
+mod question;
 mod timing;
 
 fn main() {
     timing::print_head();
     catalogue::report();
+    question::report();
 }

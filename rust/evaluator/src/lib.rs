@@ -6,10 +6,12 @@
 mod catalogue;
 mod condition;
 mod field;
+mod question;
 pub mod refusal;
 mod word;
 
 pub use catalogue::{BLANK_NUMBER, Catalogue, Column, read_catalogue};
 pub use condition::{Answer, Condition, Test, fold, outcome, read_condition};
+pub use question::{Question, Tree, read_question};
 pub use refusal::Number;
-pub use word::{catalogue_word, pack, refused};
+pub use word::{catalogue_word, outcome_word, pack, question_word, refused};

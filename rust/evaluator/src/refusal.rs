@@ -15,6 +15,22 @@ pub const COLUMN_FORM: Number = 4;
 pub const TEXT_SLOT: Number = 5;
 /// Bytes left over after the last column.
 pub const CATALOGUE_LEFT_OVER: Number = 6;
+/// Fewer than three bytes left in the enclosing payload, or a field's length passes its end.
+pub const QUESTION_FIELD: Number = 7;
+/// A field's tag is not that of a group or a condition.
+pub const UNKNOWN_TAG: Number = 8;
+/// A group without a member.
+pub const EMPTY_GROUP: Number = 9;
+/// A group deeper than 8.
+pub const TOO_DEEP: Number = 10;
 /// A condition's payload is under two bytes, or names no such column, an unknown kind, a kind not fitting the column, or
 /// an operand of wrong length or range.
 pub const CONDITION: Number = 11;
+/// The 65th condition.
+pub const TOO_MANY_CONDITIONS: Number = 12;
+/// A condition's payload is byte for byte that of an earlier one.
+pub const REPEATED_CONDITION: Number = 13;
+/// Bytes left over after the question's field.
+pub const QUESTION_LEFT_OVER: Number = 14;
+/// No such entry or condition.
+pub const NO_SUCH_PLACE: Number = 18;

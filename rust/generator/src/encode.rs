@@ -1,4 +1,4 @@
-use evaluator::{Catalogue, Column};
+use evaluator::{Catalogue, Column, Condition, Question, Test, Tree};
 
 /// A field's bytes. The payload has at most 65,535 bytes.
 pub fn field(tag: u8, payload: &[u8]) -> Vec<u8> {
@@ -34,4 +34,33 @@ pub fn encode_texts(texts: &[Vec<u8>]) -> Vec<u8> {
         bytes.extend(slot);
     }
     bytes
+}
+
+/// A question's bytes.
+pub fn encode_question(question: &Question) -> Vec<u8> {
+    encode_tree(&question.tree, &question.conditions)
+}
+
+fn encode_tree(tree: &Tree, conditions: &[Condition]) -> Vec<u8> {
+    let members =
+        |members: &[Tree]| members.iter().flat_map(|member| encode_tree(member, conditions)).collect::<Vec<u8>>();
+    match tree {
+        Tree::AllOf(forest) => field(65, &members(forest)),
+        Tree::AnyOf(forest) => field(79, &members(forest)),
+        Tree::Condition(number) => field(80, &encode_condition(&conditions[*number])),
+    }
+}
+
+/// A condition's payload.
+pub fn encode_condition(condition: &Condition) -> Vec<u8> {
+    let (kind, operand) = match &condition.test {
+        Test::NumberFrom { low, high } => (0, [low.to_be_bytes(), high.to_be_bytes()].concat()),
+        Test::NumberBlank => (1, Vec::new()),
+        Test::Equals(operand) => (2, operand.clone()),
+        Test::BeginsWith(operand) => (3, operand.clone()),
+        Test::Contains(operand) => (4, operand.clone()),
+        Test::TextBlank => (5, Vec::new()),
+    };
+    let column = u8::try_from(condition.column).expect("a column fits one byte");
+    [&[column, kind + if condition.opposite { 128 } else { 0 }], operand.as_slice()].concat()
 }

@@ -5,9 +5,11 @@
 mod catalogue;
 mod damage;
 mod encode;
+mod question;
 mod rng;
 
 pub use catalogue::{catalogue, catalogue_of, text};
 pub use damage::{Damage, damage};
-pub use encode::{encode_catalogue, encode_texts, field};
+pub use encode::{encode_catalogue, encode_condition, encode_question, encode_texts, field};
+pub use question::{condition, faulty_question, question, question_of};
 pub use rng::Rng;

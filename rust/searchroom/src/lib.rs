@@ -12,15 +12,18 @@
 //! ```
 
 mod catalogue;
+mod question;
 mod refusal;
 mod sys;
 mod word;
 
 pub use catalogue::{Size, check_catalogue};
+pub use question::{Answer, check_question, outcome};
 pub use refusal::Refusal;
 pub use word::Word;
 
 /// The calls as C sees them: the answer is the packed [`Word`], not taken apart.
 pub mod raw {
     pub use crate::catalogue::check_catalogue_word as check_catalogue;
+    pub use crate::question::{check_question_word as check_question, outcome_word as outcome};
 }

@@ -40,6 +40,15 @@ refusals! {
     ColumnForm = 4, "a column has a wrong tag, or a length that does not fit the number of entries";
     TextSlot = 5, "a text slot has a length over 23, or a byte after its text that is not zero";
     CatalogueLeftOver = 6, "bytes are left over after the last column of the catalogue";
+    QuestionField = 7, "the question has fewer than three bytes left in a payload where a field should start, or the field's length passes its end";
+    UnknownTag = 8, "a field of the question is neither a group nor a condition";
+    EmptyGroup = 9, "a group of the question has no member";
+    TooDeep = 10, "a group of the question stands deeper than 8";
+    BadCondition = 11, "a condition is under two bytes, or names no such column, an unknown kind, a kind that does not fit the column, or an operand of wrong length or range";
+    TooManyConditions = 12, "the question has over 64 conditions";
+    RepeatedCondition = 13, "a condition is byte for byte an earlier one";
+    QuestionLeftOver = 14, "bytes are left over after the question";
+    NoSuchPlace = 18, "there is no such entry or condition";
 }
 
 impl Refusal {

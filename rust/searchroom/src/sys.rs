@@ -2,4 +2,20 @@
 
 unsafe extern "C" {
     pub fn searchroom_check_catalogue(catalogue: *const u8, catalogue_len: usize) -> u64;
+
+    pub fn searchroom_check_question(
+        catalogue: *const u8,
+        catalogue_len: usize,
+        question: *const u8,
+        question_len: usize,
+    ) -> u64;
+
+    pub fn searchroom_outcome(
+        catalogue: *const u8,
+        catalogue_len: usize,
+        question: *const u8,
+        question_len: usize,
+        entry: u64,
+        condition: u64,
+    ) -> u64;
 }

@@ -3,13 +3,18 @@
 mod catalogue;
 mod fault;
 mod lent;
+mod question;
 mod report;
 mod seen;
 
 pub use catalogue::compare_catalogue;
 pub use lent::{Lent, Side};
+pub use question::{compare_outcome, compare_question};
 pub use report::hex;
 pub use seen::Seen;
 
 /// The catalogue of document 01's parish of three entries.
 pub const PARISH_CATALOGUE: &[u8] = include_bytes!("../../../examples/parish/catalogue.bin");
+
+/// Its question: year 1700 to 1799 and parish beginning "ash", or year blank.
+pub const PARISH_QUESTION: &[u8] = include_bytes!("../../../examples/parish/question.bin");
