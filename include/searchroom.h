@@ -37,7 +37,10 @@ enum {
     SEARCHROOM_MAX_COLUMNS = 16,    /* columns of a catalogue, which has at least one */
     SEARCHROOM_MAX_TEXT = 23,       /* bytes of a text in a catalogue, or of a text operand */
     SEARCHROOM_MAX_CONDITIONS = 64, /* conditions of a question, which has at least one */
-    SEARCHROOM_MAX_DEPTH = 8        /* groups inside each other, the outermost being 1 */
+    SEARCHROOM_MAX_DEPTH = 8,       /* groups inside each other, the outermost being 1 */
+    SEARCHROOM_LISTED_BYTES = 256,  /* bytes that any run may write to the listed table */
+    SEARCHROOM_LOOKS_BYTES = 16384, /* bytes that any run may write to the looks table */
+    SEARCHROOM_TALLY_BYTES = 8      /* bytes of the house tally */
 };
 
 /* Refusal numbers. */
@@ -73,6 +76,12 @@ enum {
     SEARCHROOM_REPEATED_CONDITION = 13,
     /* Question: bytes left over after its field. */
     SEARCHROOM_QUESTION_LEFT_OVER = 14,
+    /* Run: the order is not n bytes holding each condition number once. */
+    SEARCHROOM_BAD_ORDER = 15,
+    /* Run: the listed table or the looks table is too short. */
+    SEARCHROOM_SHORT_TABLE = 16,
+    /* Run: the tally is not eight bytes, or the sum would pass 2^64 - 1. */
+    SEARCHROOM_BAD_TALLY = 17,
     /* Numbers: no such entry or condition. */
     SEARCHROOM_NO_SUCH_PLACE = 18
 };
@@ -104,6 +113,9 @@ static inline const char *searchroom_text(unsigned number)
     case SEARCHROOM_TOO_MANY_CONDITIONS: return "the question has over 64 conditions";
     case SEARCHROOM_REPEATED_CONDITION: return "a condition is byte for byte an earlier one";
     case SEARCHROOM_QUESTION_LEFT_OVER: return "bytes are left over after the question";
+    case SEARCHROOM_BAD_ORDER: return "the order does not hold each condition number once and nothing else";
+    case SEARCHROOM_SHORT_TABLE: return "a table is too short";
+    case SEARCHROOM_BAD_TALLY: return "the tally is not eight bytes, or the sum would pass 2^64 - 1";
     case SEARCHROOM_NO_SUCH_PLACE: return "there is no such entry or condition";
     default: return "unknown refusal";
     }
@@ -166,6 +178,42 @@ uint64_t searchroom_outcome(const uint8_t *catalogue, size_t catalogue_len,
                             uint64_t entry, uint64_t condition);
 
 static inline unsigned searchroom_answer(uint64_t word) { return searchroom_first(word); }
+
+/*
+ * Runs a question over a catalogue in a running order.
+ *
+ * An entry is listed exactly if the question's tree holds of it. Conditions are taken in the running order, n bytes that
+ * hold each condition number once. A look at a condition is made, and registered, exactly if it is due: with the conditions
+ * earlier in the order at their true outcomes, some outcomes of the later ones make this condition alone decide the tree.
+ * No way of working that is always right makes fewer looks.
+ *
+ * With E entries, a row of bits takes searchroom_row(E) bytes: entry e is the bit of weight 2^(e mod 8) in byte e div 8,
+ * unused bits are zero (searchroom_bit).
+ *     listed  at least one row; its first row is written: the listed entries
+ *     looks   at least n rows; its first n rows are written, one for each condition in condition-number order: the entries
+ *             at which it was looked at
+ *     tally   eight bytes, a number; the look count is added to it
+ * Further bytes of listed and looks stay as they are. SEARCHROOM_LISTED_BYTES and SEARCHROOM_LOOKS_BYTES bytes are enough for
+ * any run.
+ *
+ * Results: first the number of listed entries, third that of looks (searchroom_found, searchroom_look_count).
+ * Refusals: 1 to 14 as for searchroom_check_question; then 15, then 16, then 17. Nothing is then written.
+ */
+uint64_t searchroom_run(const uint8_t *catalogue, size_t catalogue_len,
+                        const uint8_t *question, size_t question_len,
+                        const uint8_t *order, size_t order_len,
+                        uint8_t *listed, size_t listed_len,
+                        uint8_t *looks, size_t looks_len,
+                        uint8_t *tally, size_t tally_len);
+
+static inline unsigned searchroom_found(uint64_t word) { return searchroom_first(word); }
+static inline uint32_t searchroom_look_count(uint64_t word) { return searchroom_third(word); }
+
+/* The bytes of a row of bits for so many entries. */
+static inline size_t searchroom_row(unsigned entries) { return ((size_t)entries + 7) / 8; }
+
+/* The bit of an entry in a row: 1 or 0. */
+static inline unsigned searchroom_bit(const uint8_t *row, unsigned entry) { return row[entry / 8] >> entry % 8 & 1u; }
 
 #ifdef __cplusplus
 }

@@ -28,5 +28,6 @@ uint8_t *read_file(const char *path, size_t *len);
 /* The cases of each call. */
 void catalogue_cases(void);
 void question_cases(void);
+void run_cases(void);
 
 #endif

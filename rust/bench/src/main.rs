@@ -6,10 +6,12 @@
 mod catalogue;
 mod plain;
 mod question;
+mod run;
 mod timing;
 
 fn main() {
     timing::print_head();
     catalogue::report();
     question::report();
+    run::report();
 }

@@ -8,10 +8,14 @@ mod condition;
 mod field;
 mod question;
 pub mod refusal;
+mod run;
+mod tables;
 mod word;
 
 pub use catalogue::{BLANK_NUMBER, Catalogue, Column, read_catalogue};
 pub use condition::{Answer, Condition, Test, fold, outcome, read_condition};
 pub use question::{Question, Tree, read_question};
 pub use refusal::Number;
+pub use run::{Found, due_by_reach, due_by_trying, find};
+pub use tables::{Ran, run};
 pub use word::{catalogue_word, outcome_word, pack, question_word, refused};

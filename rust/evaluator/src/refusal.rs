@@ -32,5 +32,11 @@ pub const TOO_MANY_CONDITIONS: Number = 12;
 pub const REPEATED_CONDITION: Number = 13;
 /// Bytes left over after the question's field.
 pub const QUESTION_LEFT_OVER: Number = 14;
+/// The order is not n bytes holding each number once.
+pub const ORDER: Number = 15;
+/// A table is too short.
+pub const TABLE: Number = 16;
+/// The tally is not eight bytes, or the sum would pass 2^64 − 1.
+pub const TALLY: Number = 17;
 /// No such entry or condition.
 pub const NO_SUCH_PLACE: Number = 18;

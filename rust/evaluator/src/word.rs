@@ -25,7 +25,7 @@ pub fn catalogue_word(catalogue: &[u8]) -> u64 {
 }
 
 /// The catalogue is checked first, then the question against it.
-fn read_both(catalogue: &[u8], question: &[u8]) -> Result<(Catalogue, Question), Number> {
+pub(crate) fn read_both(catalogue: &[u8], question: &[u8]) -> Result<(Catalogue, Question), Number> {
     let catalogue = read_catalogue(catalogue)?;
     let question = read_question(&catalogue, question)?;
     Ok((catalogue, question))

@@ -12,18 +12,23 @@
 //! ```
 
 mod catalogue;
+mod consultation;
 mod question;
 mod refusal;
+mod run;
 mod sys;
 mod word;
 
 pub use catalogue::{Size, check_catalogue};
+pub use consultation::{Consultation, consult};
 pub use question::{Answer, check_question, outcome};
 pub use refusal::Refusal;
+pub use run::{Counts, run};
 pub use word::Word;
 
 /// The calls as C sees them: the answer is the packed [`Word`], not taken apart.
 pub mod raw {
     pub use crate::catalogue::check_catalogue_word as check_catalogue;
     pub use crate::question::{check_question_word as check_question, outcome_word as outcome};
+    pub use crate::run::run_word as run;
 }

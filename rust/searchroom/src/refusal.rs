@@ -48,6 +48,9 @@ refusals! {
     TooManyConditions = 12, "the question has over 64 conditions";
     RepeatedCondition = 13, "a condition is byte for byte an earlier one";
     QuestionLeftOver = 14, "bytes are left over after the question";
+    BadOrder = 15, "the order does not hold each condition number once and nothing else";
+    ShortTable = 16, "a table is too short";
+    BadTally = 17, "the tally is not eight bytes, or the sum would pass 2^64 - 1";
     NoSuchPlace = 18, "there is no such entry or condition";
 }
 

@@ -18,4 +18,19 @@ unsafe extern "C" {
         entry: u64,
         condition: u64,
     ) -> u64;
+
+    pub fn searchroom_run(
+        catalogue: *const u8,
+        catalogue_len: usize,
+        question: *const u8,
+        question_len: usize,
+        order: *const u8,
+        order_len: usize,
+        listed: *mut u8,
+        listed_len: usize,
+        looks: *mut u8,
+        looks_len: usize,
+        tally: *mut u8,
+        tally_len: usize,
+    ) -> u64;
 }

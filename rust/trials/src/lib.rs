@@ -5,12 +5,14 @@ mod fault;
 mod lent;
 mod question;
 mod report;
+mod run;
 mod seen;
 
 pub use catalogue::compare_catalogue;
 pub use lent::{Lent, Side};
 pub use question::{compare_outcome, compare_question};
 pub use report::hex;
+pub use run::{Run, compare_run};
 pub use seen::Seen;
 
 /// The catalogue of document 01's parish of three entries.
@@ -18,3 +20,6 @@ pub const PARISH_CATALOGUE: &[u8] = include_bytes!("../../../examples/parish/cat
 
 /// Its question: year 1700 to 1799 and parish beginning "ash", or year blank.
 pub const PARISH_QUESTION: &[u8] = include_bytes!("../../../examples/parish/question.bin");
+
+/// Its running order 0, 1, 2.
+pub const PARISH_ORDER: &[u8] = include_bytes!("../../../examples/parish/order.bin");

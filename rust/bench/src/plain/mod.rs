@@ -2,6 +2,8 @@
 
 mod catalogue;
 mod question;
+mod run;
 
 pub use catalogue::check_catalogue;
 pub use question::{check_question, outcome};
+pub use run::{run_every_outcome, run_in_tree_order};

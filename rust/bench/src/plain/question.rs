@@ -1,6 +1,29 @@
 use super::catalogue::{Catalogue, Column, check_catalogue, field};
 
-/// A condition that was checked, its operand still in the question's bytes.
+/// A question that was checked, its operands still in its bytes.
+pub struct Question<'a> {
+    pub tree: Tree,
+    pub conditions: Vec<Condition<'a>>,
+}
+
+pub enum Tree {
+    Leaf(usize),
+    All(Vec<Tree>),
+    Any(Vec<Tree>),
+}
+
+impl Tree {
+    /// The tree's value, each outcome asked for only where the members before it left their group open.
+    pub fn value(&self, outcome: &impl Fn(usize) -> bool) -> bool {
+        match self {
+            Tree::Leaf(number) => outcome(*number),
+            Tree::All(members) => members.iter().all(|member| member.value(outcome)),
+            Tree::Any(members) => members.iter().any(|member| member.value(outcome)),
+        }
+    }
+}
+
+/// A condition that was checked.
 pub struct Condition<'a> {
     payload: &'a [u8],
     column: Column<'a>,
@@ -20,43 +43,46 @@ enum Test<'a> {
 /// Checks the catalogue, then the question against it.
 pub fn check_question(catalogue: &[u8], question: &[u8]) -> Result<usize, u8> {
     let catalogue = check_catalogue(catalogue)?;
-    Ok(read_question(&catalogue, question)?.len())
+    Ok(read_question(&catalogue, question)?.conditions.len())
 }
 
 /// Checks both, then works out one condition.
 pub fn outcome(catalogue: &[u8], question: &[u8], entry: u64, condition: u64) -> Result<bool, u8> {
     let catalogue = check_catalogue(catalogue)?;
-    let conditions = read_question(&catalogue, question)?;
+    let question = read_question(&catalogue, question)?;
     if entry >= catalogue.entries as u64 {
         return Err(18);
     }
-    let condition = conditions.get(usize::try_from(condition).map_err(|_| 18)?).ok_or(18)?;
+    let condition = question.conditions.get(usize::try_from(condition).map_err(|_| 18)?).ok_or(18)?;
     Ok(condition.holds(entry as usize))
 }
 
 /// Reads a question against a catalogue that was checked.
-fn read_question<'a>(catalogue: &Catalogue<'a>, question: &'a [u8]) -> Result<Vec<Condition<'a>>, u8> {
+pub fn read_question<'a>(catalogue: &Catalogue<'a>, question: &'a [u8]) -> Result<Question<'a>, u8> {
     let mut conditions = Vec::new();
-    let rest = member(catalogue, question, 1, &mut conditions)?;
-    if rest.is_empty() { Ok(conditions) } else { Err(14) }
+    let (tree, rest) = member(catalogue, question, 1, &mut conditions)?;
+    if rest.is_empty() { Ok(Question { tree, conditions }) } else { Err(14) }
 }
 
-/// Reads one member and gives what follows it.
 fn member<'a>(
     catalogue: &Catalogue<'a>,
     bytes: &'a [u8],
     depth: usize,
     conditions: &mut Vec<Condition<'a>>,
-) -> Result<&'a [u8], u8> {
+) -> Result<(Tree, &'a [u8]), u8> {
     let (tag, payload, rest) = field(bytes).ok_or(7)?;
-    match tag {
+    let tree = match tag {
         65 | 79 if depth > 8 => return Err(10),
         65 | 79 if payload.is_empty() => return Err(9),
         65 | 79 => {
+            let mut members = Vec::new();
             let mut inside = payload;
             while !inside.is_empty() {
-                inside = member(catalogue, inside, depth + 1, conditions)?;
+                let (tree, after) = member(catalogue, inside, depth + 1, conditions)?;
+                members.push(tree);
+                inside = after;
             }
+            if tag == 65 { Tree::All(members) } else { Tree::Any(members) }
         }
         80 if conditions.len() == 64 => return Err(12),
         80 => {
@@ -65,10 +91,11 @@ fn member<'a>(
                 return Err(13);
             }
             conditions.push(condition);
+            Tree::Leaf(conditions.len() - 1)
         }
         _ => return Err(8),
-    }
-    Ok(rest)
+    };
+    Ok((tree, rest))
 }
 
 impl<'a> Condition<'a> {
@@ -95,7 +122,7 @@ impl<'a> Condition<'a> {
     }
 
     /// Works the condition out at an entry.
-    fn holds(&self, entry: usize) -> bool {
+    pub fn holds(&self, entry: usize) -> bool {
         let met = match self.column {
             Column::Numbers(numbers) => {
                 let value = number(numbers, entry);
