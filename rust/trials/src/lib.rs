@@ -2,6 +2,7 @@
 
 mod catalogue;
 mod fault;
+mod fuzz;
 mod lent;
 mod question;
 mod report;
@@ -9,6 +10,7 @@ mod run;
 mod seen;
 
 pub use catalogue::compare_catalogue;
+pub use fuzz::Fuzz;
 pub use lent::{Lent, Side};
 pub use question::{compare_outcome, compare_question};
 pub use report::hex;
