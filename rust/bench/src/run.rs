@@ -4,7 +4,7 @@ use generator::{Rng, catalogue_of, encode_catalogue, encode_question, question_o
 use crate::{plain, timing};
 
 /// A catalogue and a question with its running order, as bytes.
-struct Asked {
+pub struct Asked {
     catalogue: Vec<u8>,
     question: Vec<u8>,
     order: Vec<u8>,
@@ -62,14 +62,14 @@ fn settled_early(rng: &mut Rng) -> Asked {
 }
 
 impl Asked {
-    fn new(rng: &mut Rng, catalogue: &Catalogue, question: &Question) -> Asked {
+    pub fn new(rng: &mut Rng, catalogue: &Catalogue, question: &Question) -> Asked {
         let mut order: Vec<u8> = (0..question.conditions.len() as u8).collect();
         rng.shuffle(&mut order);
         Asked { catalogue: encode_catalogue(catalogue), question: encode_question(question), order }
     }
 
     /// The engine's run, into tables that stay the same from run to run.
-    fn engine(&self) -> impl FnMut() -> Option<u32> {
+    pub fn engine(&self) -> impl FnMut() -> Option<u32> {
         let (mut listed, mut looks) = ([0; 256], [0; 16_384]);
         move || {
             let mut tally = [0; 8];
