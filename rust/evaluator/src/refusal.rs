@@ -40,3 +40,5 @@ pub const TABLE: Number = 16;
 pub const TALLY: Number = 17;
 /// No such entry or condition.
 pub const NO_SUCH_PLACE: Number = 18;
+/// `consult`: a file cannot be opened or read, or is longer than its limit.
+pub const FILE: Number = 19;

@@ -49,7 +49,7 @@ fn accepted_run(
 }
 
 /// An order is n bytes holding each condition number once.
-fn read_order(order: &[u8], count: usize) -> Result<Vec<usize>, Number> {
+pub(crate) fn read_order(order: &[u8], count: usize) -> Result<Vec<usize>, Number> {
     let order: Vec<usize> = order.iter().map(|&number| usize::from(number)).collect();
     let mut sorted = order.clone();
     sorted.sort_unstable();

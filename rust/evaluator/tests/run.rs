@@ -22,6 +22,13 @@ fn proved_cases_1_and_2() {
 }
 
 #[test]
+fn register_of_the_parish() {
+    let expected = include_str!("../../../examples/parish/expected");
+    assert_eq!(evaluator::register(CATALOGUE, QUESTION, &[0, 1, 2]), expected);
+    assert_eq!(evaluator::register(CATALOGUE, QUESTION, &[0, 1]), "consultation register\nrefused 15\n");
+}
+
+#[test]
 fn tables_of_the_parish() {
     let ran = run(CATALOGUE, QUESTION, &[0, 1, 2], &[255; 2], &[255; 4], &[0, 0, 0, 0, 0, 0, 0, 250]);
     assert_eq!(ran.word, 2 << 8 | 6 << 40);

@@ -6,6 +6,7 @@ mod fuzz;
 mod lent;
 mod question;
 mod report;
+mod room;
 mod run;
 mod seen;
 
@@ -14,6 +15,7 @@ pub use fuzz::Fuzz;
 pub use lent::{Lent, Side};
 pub use question::{compare_outcome, compare_question};
 pub use report::hex;
+pub use room::Room;
 pub use run::{Run, compare_run};
 pub use seen::Seen;
 
