@@ -173,6 +173,15 @@ fn no_entries() {
     assert_eq!(consult("P7", &nobody, &field(80, &[0, 1]), &[0]), expected);
 }
 
+/// 2,048 entries, twelve conditions three groups deep: `generator`'s second example.
+#[test]
+fn county() {
+    let (catalogue, question, order) = generator::county();
+    let printed = consult("county", &encode_catalogue(&catalogue), &encode_question(&question), &order);
+    let looks: usize = printed.lines().find_map(|line| line.strip_prefix("looks ")).unwrap().parse().unwrap();
+    assert!(printed.lines().count() > 50 && looks < 12 * 2_048 / 2, "the example shows little:\n{printed}");
+}
+
 #[test]
 fn random_consultations() {
     let mut seen = Seen::none();
