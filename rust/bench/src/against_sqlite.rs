@@ -22,7 +22,7 @@ pub fn report() {
         let asked = Asked::new(&mut rng, &made, &question);
         let mut engine = asked.engine();
         assert_eq!(engine(), Some(statement.number()), "SQLite counts other entries");
-        let what = format!("run, {count} conditions, 2048 entries, 4 columns");
+        let what = format!("run, conditions: {count}, four columns");
         timing::compare(&what, "SQLite, prepared count(*)", engine, || statement.number());
     }
 }

@@ -6,7 +6,7 @@ use crate::{plain, timing};
 /// Checking a catalogue: against the plain check, and against one pass that only sums the bytes.
 pub fn report() {
     for (columns, entries) in [(16, 2_048), (1, 2_048), (1, 64)] {
-        let what = format!("check_catalogue, {columns} text columns, {entries} entries");
+        let what = format!("check_catalogue, {entries} entries, text columns: {columns}");
         let bytes = texts(columns, entries);
         let size = searchroom::check_catalogue(&bytes).expect("the benchmark's catalogues are sound");
         let plainly = || plain::check_catalogue(&bytes).map(|read| (read.entries, read.columns.len()));

@@ -12,12 +12,12 @@ pub fn report() {
     for (count, depth) in [(1, 1), (6, 3), (20, 3), (64, 1), (64, 8)] {
         let asked: Question = question_of(&mut rng, &made, count, depth);
         let question = encode_question(&asked);
-        let what = format!("check_question, {count} conditions, depth up to {depth}");
+        let what = format!("check_question, conditions: {count}, depth up to {depth}");
         let engine = || searchroom::check_question(&catalogue, &question);
         assert_eq!(engine(), Ok(count as u16));
         assert_eq!(plain::check_question(&catalogue, &question), Ok(count));
         timing::compare(&what, "plain Rust check", engine, || plain::check_question(&catalogue, &question));
-        let what = format!("outcome, {count} conditions, depth up to {depth}");
+        let what = format!("outcome, conditions: {count}, depth up to {depth}");
         let engine = || searchroom::outcome(&catalogue, &question, 7, 0);
         let plainly = || plain::outcome(&catalogue, &question, 7, 0);
         assert_eq!(engine().map(|answer| answer == searchroom::Answer::Yes).ok(), plainly().ok());

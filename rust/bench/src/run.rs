@@ -16,7 +16,10 @@ pub fn report() {
     let made = mixed(&mut rng, 2_048);
     for (count, depth) in [(1, 1), (6, 1), (6, 3), (20, 1), (20, 3), (20, 8), (64, 1), (64, 3), (64, 8)] {
         let question = question_of(&mut rng, &made, count, depth);
-        against_plain(&format!("run, {count} conditions, depth {depth}"), &Asked::new(&mut rng, &made, &question));
+        against_plain(
+            &format!("run, conditions: {count}, depth up to {depth}"),
+            &Asked::new(&mut rng, &made, &question),
+        );
     }
     for (name, test) in [
         ("contains", Test::Contains(b"hby".to_vec())),
