@@ -1,0 +1,100 @@
+/*
+ * A small reading room: checks a catalogue and a question, runs the question, and prints the entries found and how often
+ * each condition was looked at.
+ *
+ *     reading_room FOLDER
+ *
+ * The folder holds catalogue.bin, question.bin and order.bin.
+ */
+#include <searchroom.h>
+#include <stdio.h>
+#include <stdlib.h>
+
+/* A file's bytes. */
+typedef struct {
+    uint8_t *bytes;
+    size_t len;
+} File;
+
+/* Reads a whole file of the folder; ends the program where it cannot be read. */
+static File read_file(const char *folder, const char *name)
+{
+    char path[4096];
+    if (snprintf(path, sizeof path, "%s/%s", folder, name) >= (int)sizeof path) {
+        fprintf(stderr, "%s: the folder's name is too long\n", folder);
+        exit(2);
+    }
+    enum { most = 1 << 20 }; /* more than the largest catalogue, which has 786,486 bytes */
+    FILE *stream = fopen(path, "rb");
+    File file = {malloc(most), 0};
+    if (stream == NULL || file.bytes == NULL) {
+        perror(path);
+        exit(2);
+    }
+    file.len = fread(file.bytes, 1, most, stream);
+    if (ferror(stream)) {
+        perror(path);
+        exit(2);
+    }
+    fclose(stream);
+    return file;
+}
+
+/* Gives back an accepted word; says why and ends the program where the call was refused. */
+static uint64_t accepted(const char *call, uint64_t word)
+{
+    unsigned refusal = searchroom_number(word);
+    if (refusal != SEARCHROOM_ACCEPTED) {
+        printf("%s refused %u: %s\n", call, refusal, searchroom_text(refusal));
+        exit(1);
+    }
+    return word;
+}
+
+/* The number of entries that have a one in a row. */
+static unsigned ones(const uint8_t *row, unsigned entries)
+{
+    unsigned count = 0;
+    for (unsigned e = 0; e < entries; e++)
+        count += searchroom_bit(row, e);
+    return count;
+}
+
+int main(int argc, char **argv)
+{
+    if (argc != 2) {
+        fprintf(stderr, "usage: %s FOLDER\n", argv[0]);
+        return 2;
+    }
+    File catalogue = read_file(argv[1], "catalogue.bin");
+    File question = read_file(argv[1], "question.bin");
+    File order = read_file(argv[1], "order.bin");
+
+    uint64_t size = accepted("catalogue", searchroom_check_catalogue(catalogue.bytes, catalogue.len));
+    unsigned entries = searchroom_entries(size);
+    printf("%u entries in %u columns\n", entries, searchroom_columns(size));
+
+    uint64_t asked = accepted("question", searchroom_check_question(catalogue.bytes, catalogue.len,
+                                                                    question.bytes, question.len));
+    unsigned conditions = searchroom_conditions(asked);
+
+    /* Tables that are long enough for any run, and a tally that starts at zero. */
+    static uint8_t listed[SEARCHROOM_LISTED_BYTES], looks[SEARCHROOM_LOOKS_BYTES], tally[SEARCHROOM_TALLY_BYTES];
+    uint64_t ran = accepted("run", searchroom_run(catalogue.bytes, catalogue.len, question.bytes, question.len,
+                                                  order.bytes, order.len, listed, sizeof listed, looks, sizeof looks,
+                                                  tally, sizeof tally));
+
+    printf("%u found:", searchroom_found(ran));
+    for (unsigned e = 0; e < entries; e++)
+        if (searchroom_bit(listed, e))
+            printf(" %u", e);
+    printf("\n%u looks instead of %u:\n", (unsigned)searchroom_look_count(ran), entries * conditions);
+    size_t row = searchroom_row(entries);
+    for (unsigned c = 0; c < conditions; c++)
+        printf("  condition %u at %u entries\n", c, ones(looks + c * row, entries));
+
+    free(catalogue.bytes);
+    free(question.bytes);
+    free(order.bytes);
+    return 0;
+}

@@ -1,0 +1,222 @@
+/*
+ * searchroom.h - the search engine of a record office's catalogue, for C99 and C++.
+ *
+ * Link with libsearchroom.a. The calls keep no state, allocate nothing and may be made from any thread.
+ *
+ * What a caller gives: byte slices, each a pointer and the number of bytes behind it, and numbers. Any bytes may be
+ * given: the engine trusts none of them, and there is nothing to check beforehand. Three things only are the caller's:
+ * a slice has the length given, a slice that a call writes overlaps no other slice of the same call, and no pointer is
+ * NULL, even where the length is 0.
+ *
+ * What a caller gets: one 64-bit number, the packed word.
+ *
+ *     bits  0 to  7   the refusal's number, SEARCHROOM_ACCEPTED (0) where the call is accepted
+ *     bits  8 to 23   first result
+ *     bits 24 to 39   second result
+ *     bits 40 to 63   third result
+ *
+ * Each call says below what its results are. A refusal comes with zeros for every result, and the call has then altered
+ * nothing that it was lent. The first check that fails, in the order stated at the call, decides the number.
+ *
+ * Fields. Catalogues and questions are made of fields: a one-byte tag, a two-byte length, then that many bytes, the
+ * payload. All numbers are unsigned, most significant byte first. Entries, columns and conditions count from 0.
+ */
+#ifndef SEARCHROOM_H
+#define SEARCHROOM_H
+
+#include <stddef.h>
+#include <stdint.h>
+
+#ifdef __cplusplus
+extern "C" {
+#endif
+
+/* Limits. */
+enum {
+    SEARCHROOM_MAX_ENTRIES = 2048,  /* entries of a catalogue */
+    SEARCHROOM_MAX_COLUMNS = 16,    /* columns of a catalogue, which has at least one */
+    SEARCHROOM_MAX_TEXT = 23,       /* bytes of a text in a catalogue, or of a text operand */
+    SEARCHROOM_MAX_CONDITIONS = 64, /* conditions of a question, which has at least one */
+    SEARCHROOM_MAX_DEPTH = 8,       /* groups inside each other, the outermost being 1 */
+    SEARCHROOM_LISTED_BYTES = 256,  /* bytes that any run may write to the listed table */
+    SEARCHROOM_LOOKS_BYTES = 16384, /* bytes that any run may write to the looks table */
+    SEARCHROOM_TALLY_BYTES = 8      /* bytes of the house tally */
+};
+
+/* Refusal numbers. */
+enum {
+    SEARCHROOM_ACCEPTED = 0,
+    /* Catalogue: fewer than three bytes left where a field should start, or the field's length passes the end. */
+    SEARCHROOM_CATALOGUE_FIELD = 1,
+    /* Catalogue: the first field is not tag 67 with length 3. */
+    SEARCHROOM_CATALOGUE_HEADER = 2,
+    /* Catalogue: over 2,048 entries, no column, or over 16 columns. */
+    SEARCHROOM_CATALOGUE_LIMITS = 3,
+    /* Catalogue: a column has a wrong tag, or a length that does not fit the number of entries. */
+    SEARCHROOM_COLUMN_FORM = 4,
+    /* Catalogue: a text slot has a length over 23, or a byte after its text that is not zero. */
+    SEARCHROOM_TEXT_SLOT = 5,
+    /* Catalogue: bytes left over after the last column. */
+    SEARCHROOM_CATALOGUE_LEFT_OVER = 6,
+    /* Question: fewer than three bytes left in the enclosing payload where a field should start, or the field's length
+       passes its end. */
+    SEARCHROOM_QUESTION_FIELD = 7,
+    /* Question: a tag that is neither a group's nor a condition's. */
+    SEARCHROOM_UNKNOWN_TAG = 8,
+    /* Question: a group without a member. */
+    SEARCHROOM_EMPTY_GROUP = 9,
+    /* Question: a group deeper than 8. */
+    SEARCHROOM_TOO_DEEP = 10,
+    /* Question: a condition's payload is under two bytes, or names no such column, an unknown kind, a kind that does not
+       fit the column, or an operand of wrong length or range. */
+    SEARCHROOM_BAD_CONDITION = 11,
+    /* Question: a 65th condition. */
+    SEARCHROOM_TOO_MANY_CONDITIONS = 12,
+    /* Question: a condition's payload is byte for byte that of an earlier one. */
+    SEARCHROOM_REPEATED_CONDITION = 13,
+    /* Question: bytes left over after its field. */
+    SEARCHROOM_QUESTION_LEFT_OVER = 14,
+    /* Run: the order is not n bytes holding each condition number once. */
+    SEARCHROOM_BAD_ORDER = 15,
+    /* Run: the listed table or the looks table is too short. */
+    SEARCHROOM_SHORT_TABLE = 16,
+    /* Run: the tally is not eight bytes, or the sum would pass 2^64 - 1. */
+    SEARCHROOM_BAD_TALLY = 17,
+    /* Numbers: no such entry or condition. */
+    SEARCHROOM_NO_SUCH_PLACE = 18
+};
+
+/* The refusal's number in a packed word, SEARCHROOM_ACCEPTED where the call is accepted. */
+static inline unsigned searchroom_number(uint64_t word) { return (unsigned)(word & 0xFF); }
+
+/* The three results in a packed word. */
+static inline unsigned searchroom_first(uint64_t word) { return (unsigned)(word >> 8 & 0xFFFF); }
+static inline unsigned searchroom_second(uint64_t word) { return (unsigned)(word >> 24 & 0xFFFF); }
+static inline uint32_t searchroom_third(uint64_t word) { return (uint32_t)(word >> 40); }
+
+/* The reason for a refusal in plain words, for messages. */
+static inline const char *searchroom_text(unsigned number)
+{
+    switch (number) {
+    case SEARCHROOM_ACCEPTED: return "accepted";
+    case SEARCHROOM_CATALOGUE_FIELD: return "a field of the catalogue is cut short";
+    case SEARCHROOM_CATALOGUE_HEADER: return "the catalogue does not start with a field of tag 67 and length 3";
+    case SEARCHROOM_CATALOGUE_LIMITS: return "the catalogue has over 2,048 entries, no column, or over 16 columns";
+    case SEARCHROOM_COLUMN_FORM: return "a column has a wrong tag or length";
+    case SEARCHROOM_TEXT_SLOT: return "a text slot has a length over 23 or a stray byte after its text";
+    case SEARCHROOM_CATALOGUE_LEFT_OVER: return "bytes are left over after the last column of the catalogue";
+    case SEARCHROOM_QUESTION_FIELD: return "a field of the question is cut short";
+    case SEARCHROOM_UNKNOWN_TAG: return "a field of the question is neither a group nor a condition";
+    case SEARCHROOM_EMPTY_GROUP: return "a group of the question has no member";
+    case SEARCHROOM_TOO_DEEP: return "a group of the question stands deeper than 8";
+    case SEARCHROOM_BAD_CONDITION: return "a condition has a wrong column, kind or operand";
+    case SEARCHROOM_TOO_MANY_CONDITIONS: return "the question has over 64 conditions";
+    case SEARCHROOM_REPEATED_CONDITION: return "a condition is byte for byte an earlier one";
+    case SEARCHROOM_QUESTION_LEFT_OVER: return "bytes are left over after the question";
+    case SEARCHROOM_BAD_ORDER: return "the order does not hold each condition number once and nothing else";
+    case SEARCHROOM_SHORT_TABLE: return "a table is too short";
+    case SEARCHROOM_BAD_TALLY: return "the tally is not eight bytes, or the sum would pass 2^64 - 1";
+    case SEARCHROOM_NO_SUCH_PLACE: return "there is no such entry or condition";
+    default: return "unknown refusal";
+    }
+}
+
+/*
+ * Checks a catalogue.
+ *
+ * A catalogue is a field of tag 67 and length 3, which holds the number of entries E (two bytes, 0 to 2,048) and of
+ * columns C (one byte, 1 to 16), and then C fields:
+ *     tag 78, a number column: E numbers of four bytes; 4,294,967,295 is a blank;
+ *     tag 84, a text column: E slots of 24 bytes, each a length 0 to 23, the text (any byte values), and zeros to the
+ *     end; length 0 is a blank.
+ *
+ * Results: first E, second C (searchroom_entries, searchroom_columns).
+ * Refusals: 1 to 6, met while walking from front to back: at each field expected 1; at the first field 2, then 3; at each
+ * column 4, then 5; at the end 6.
+ * Writes nothing.
+ */
+uint64_t searchroom_check_catalogue(const uint8_t *catalogue, size_t catalogue_len);
+
+static inline unsigned searchroom_entries(uint64_t word) { return searchroom_first(word); }
+static inline unsigned searchroom_columns(uint64_t word) { return searchroom_second(word); }
+
+/*
+ * Checks a question against a catalogue.
+ *
+ * A question is one field:
+ *     tag 65, an all-of group, or tag 79, an any-of group: the payload is its members, one or more, each again such a field;
+ *     groups stand at most 8 deep;
+ *     tag 80, a condition: a column byte, a kind byte, and an operand.
+ * There are 1 to 64 conditions, numbered from 0 as they stand. Kinds:
+ *     0  number from low to high: two four-byte numbers, low <= high < 4,294,967,295; a blank gives no
+ *     1  number blank: no operand
+ *     2  text equals, 3 text begins with, 4 text contains: an operand of 1 to 23 bytes
+ *     5  text blank: no operand
+ *     128 to 133  the opposite outcome of 0 to 5, at every entry
+ * Text and operand are compared after folding (ISO/IEC 8859-1): bytes 65 to 90, and 192 to 222 except 215, gain 32.
+ *
+ * Results: first the number of conditions n (searchroom_conditions).
+ * Refusals: 1 to 6 for the catalogue; then 7 to 14, met while walking the question from front to back: at each field 7,
+ * then 8; at a group 10, then 9; at a condition 12, then 11, then 13; at the end 14.
+ * Writes nothing.
+ */
+uint64_t searchroom_check_question(const uint8_t *catalogue, size_t catalogue_len,
+                                   const uint8_t *question, size_t question_len);
+
+static inline unsigned searchroom_conditions(uint64_t word) { return searchroom_first(word); }
+
+/*
+ * Works out one condition of a question at one entry of a catalogue.
+ *
+ * Results: first the answer, 1 for yes and 0 for no (searchroom_answer).
+ * Refusals: 1 to 14 as for searchroom_check_question; then 18, the entry is not below the number of entries or the
+ * condition not below the number of conditions. Any 64-bit numbers may be given.
+ * Writes nothing.
+ */
+uint64_t searchroom_outcome(const uint8_t *catalogue, size_t catalogue_len,
+                            const uint8_t *question, size_t question_len,
+                            uint64_t entry, uint64_t condition);
+
+static inline unsigned searchroom_answer(uint64_t word) { return searchroom_first(word); }
+
+/*
+ * Runs a question over a catalogue in a running order.
+ *
+ * An entry is listed exactly if the question's tree holds of it. Conditions are taken in the running order, n bytes that
+ * hold each condition number once. A look at a condition is made, and registered, exactly if it is due: with the conditions
+ * earlier in the order at their true outcomes, some outcomes of the later ones make this condition alone decide the tree.
+ * No way of working that is always right makes fewer looks.
+ *
+ * With E entries, a row of bits takes searchroom_row(E) bytes: entry e is the bit of weight 2^(e mod 8) in byte e div 8,
+ * unused bits are zero (searchroom_bit).
+ *     listed  at least one row; its first row is written: the listed entries
+ *     looks   at least n rows; its first n rows are written, one for each condition in condition-number order: the entries
+ *             at which it was looked at
+ *     tally   eight bytes, a number; the look count is added to it
+ * Further bytes of listed and looks stay as they are. SEARCHROOM_LISTED_BYTES and SEARCHROOM_LOOKS_BYTES bytes are enough for
+ * any run.
+ *
+ * Results: first the number of listed entries, third that of looks (searchroom_found, searchroom_look_count).
+ * Refusals: 1 to 14 as for searchroom_check_question; then 15, then 16, then 17. Nothing is then written.
+ */
+uint64_t searchroom_run(const uint8_t *catalogue, size_t catalogue_len,
+                        const uint8_t *question, size_t question_len,
+                        const uint8_t *order, size_t order_len,
+                        uint8_t *listed, size_t listed_len,
+                        uint8_t *looks, size_t looks_len,
+                        uint8_t *tally, size_t tally_len);
+
+static inline unsigned searchroom_found(uint64_t word) { return searchroom_first(word); }
+static inline uint32_t searchroom_look_count(uint64_t word) { return searchroom_third(word); }
+
+/* The bytes of a row of bits for so many entries. */
+static inline size_t searchroom_row(unsigned entries) { return ((size_t)entries + 7) / 8; }
+
+/* The bit of an entry in a row: 1 or 0. */
+static inline unsigned searchroom_bit(const uint8_t *row, unsigned entry) { return row[entry / 8] >> entry % 8 & 1u; }
+
+#ifdef __cplusplus
+}
+#endif
+
+#endif

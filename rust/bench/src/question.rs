@@ -1,0 +1,26 @@
+use evaluator::Question;
+use generator::{Rng, catalogue_of, encode_catalogue, encode_question, question_of};
+
+use crate::{plain, timing};
+
+/// Checking a question and working out one condition, against the plain calls. The catalogue is small, so that the time
+/// is the question's.
+pub fn report() {
+    let mut rng = Rng::new(3);
+    let made = catalogue_of(&mut rng, 8, 6);
+    let catalogue = encode_catalogue(&made);
+    for (count, depth) in [(1, 1), (6, 3), (20, 3), (64, 1), (64, 8)] {
+        let asked: Question = question_of(&mut rng, &made, count, depth);
+        let question = encode_question(&asked);
+        let what = format!("check_question, conditions: {count}, depth up to {depth}");
+        let engine = || searchroom::check_question(&catalogue, &question);
+        assert_eq!(engine(), Ok(count as u16));
+        assert_eq!(plain::check_question(&catalogue, &question), Ok(count));
+        timing::compare(&what, "plain Rust check", engine, || plain::check_question(&catalogue, &question));
+        let what = format!("outcome, conditions: {count}, depth up to {depth}");
+        let engine = || searchroom::outcome(&catalogue, &question, 7, 0);
+        let plainly = || plain::outcome(&catalogue, &question, 7, 0);
+        assert_eq!(engine().map(|answer| answer == searchroom::Answer::Yes).ok(), plainly().ok());
+        timing::compare(&what, "plain Rust outcome", engine, plainly);
+    }
+}

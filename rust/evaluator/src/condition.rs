@@ -1,0 +1,116 @@
+use crate::catalogue::{BLANK_NUMBER, Catalogue, Column};
+use crate::refusal::{self, Number};
+
+const MAX_OPERAND: usize = 23;
+const OPPOSITE: u8 = 128;
+
+/// A condition on one column. At every entry it gives what its test gives, or the opposite.
+#[derive(Clone, Debug, PartialEq, Eq)]
+pub struct Condition {
+    pub column: usize,
+    pub test: Test,
+    pub opposite: bool,
+}
+
+/// Kinds 0 to 5.
+#[derive(Clone, Debug, PartialEq, Eq)]
+pub enum Test {
+    NumberFrom { low: u32, high: u32 },
+    NumberBlank,
+    Equals(Vec<u8>),
+    BeginsWith(Vec<u8>),
+    Contains(Vec<u8>),
+    TextBlank,
+}
+
+/// What working out a condition at an entry answers.
+#[derive(Clone, Copy, Debug, PartialEq, Eq)]
+pub enum Answer {
+    No,
+    Yes,
+}
+
+impl Answer {
+    /// The number that a call gives for it.
+    pub fn number(self) -> usize {
+        match self {
+            Answer::No => 0,
+            Answer::Yes => 1,
+        }
+    }
+
+    /// How a run takes it.
+    pub fn truth(self) -> bool {
+        self == Answer::Yes
+    }
+}
+
+/// Reads a condition's payload against the catalogue's columns; every fault of it is refusal 11.
+pub fn read_condition(catalogue: &Catalogue, payload: &[u8]) -> Result<Condition, Number> {
+    let &[column, kind, ref operand @ ..] = payload else { return Err(refusal::CONDITION) };
+    let column = usize::from(column);
+    let (kind, opposite) = if kind < OPPOSITE { (kind, false) } else { (kind - OPPOSITE, true) };
+    let test = match (catalogue.columns.get(column), kind) {
+        (Some(Column::Numbers(_)), 0) => read_range(operand),
+        (Some(Column::Numbers(_)), 1) => operand.is_empty().then_some(Test::NumberBlank),
+        (Some(Column::Texts(_)), 2) => read_text(operand).map(Test::Equals),
+        (Some(Column::Texts(_)), 3) => read_text(operand).map(Test::BeginsWith),
+        (Some(Column::Texts(_)), 4) => read_text(operand).map(Test::Contains),
+        (Some(Column::Texts(_)), 5) => operand.is_empty().then_some(Test::TextBlank),
+        _ => None,
+    };
+    Ok(Condition { column, test: test.ok_or(refusal::CONDITION)?, opposite })
+}
+
+/// Two four-byte numbers, low ≤ high < 4,294,967,295.
+fn read_range(operand: &[u8]) -> Option<Test> {
+    let &[a, b, c, d, e, f, g, h] = operand else { return None };
+    let (low, high) = (u32::from_be_bytes([a, b, c, d]), u32::from_be_bytes([e, f, g, h]));
+    (low <= high && high < BLANK_NUMBER).then_some(Test::NumberFrom { low, high })
+}
+
+/// An operand of 1 to 23 bytes.
+fn read_text(operand: &[u8]) -> Option<Vec<u8>> {
+    (1..=MAX_OPERAND).contains(&operand.len()).then(|| operand.to_vec())
+}
+
+/// Works out a condition at an entry. Both are there in the catalogue.
+pub fn outcome(catalogue: &Catalogue, condition: &Condition, entry: usize) -> Answer {
+    let met = match &catalogue.columns[condition.column] {
+        Column::Numbers(numbers) => number_meets(&condition.test, numbers[entry]),
+        Column::Texts(texts) => text_meets(&condition.test, &texts[entry]),
+    };
+    if met != condition.opposite { Answer::Yes } else { Answer::No }
+}
+
+fn number_meets(test: &Test, number: u32) -> bool {
+    match test {
+        Test::NumberFrom { low, high } => number != BLANK_NUMBER && *low <= number && number <= *high,
+        Test::NumberBlank => number == BLANK_NUMBER,
+        _ => unreachable!("a test of texts on a number column"),
+    }
+}
+
+fn text_meets(test: &Test, text: &[u8]) -> bool {
+    match test {
+        Test::Equals(operand) => folded(text) == folded(operand),
+        Test::BeginsWith(operand) => folded(text).starts_with(&folded(operand)),
+        // From each starting place in the text.
+        Test::Contains(operand) => (0..text.len()).any(|place| folded(&text[place..]).starts_with(&folded(operand))),
+        Test::TextBlank => text.is_empty(),
+        _ => unreachable!("a test of numbers on a text column"),
+    }
+}
+
+fn folded(text: &[u8]) -> Vec<u8> {
+    text.iter().map(|&byte| fold(byte)).collect()
+}
+
+/// The fold rule: 65 to 90 and 192 to 222 except 215 gain 32; every other byte is unchanged.
+pub fn fold(byte: u8) -> u8 {
+    match byte {
+        215 => 215,
+        65..=90 | 192..=222 => byte + 32,
+        _ => byte,
+    }
+}

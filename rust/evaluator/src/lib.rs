@@ -1,0 +1,23 @@
+//! Document 01 in plain Rust, written from the paper alone.
+//!
+//! It shares nothing with the engine and is meant to be believed by reading: values are decoded first, then every rule is
+//! worked out as its sentence says it, at whatever cost. Tests hold the engine to its answers.
+
+mod catalogue;
+mod condition;
+mod field;
+mod question;
+pub mod refusal;
+mod register;
+mod run;
+mod tables;
+mod word;
+
+pub use catalogue::{BLANK_NUMBER, Catalogue, Column, read_catalogue};
+pub use condition::{Answer, Condition, Test, fold, outcome, read_condition};
+pub use question::{Question, Tree, read_question};
+pub use refusal::Number;
+pub use register::{refused_register, register};
+pub use run::{Found, due_by_reach, due_by_trying, find};
+pub use tables::{Ran, run};
+pub use word::{catalogue_word, outcome_word, pack, question_word, refused};

@@ -1,0 +1,71 @@
+use crate::refusal::{self, Number};
+use crate::run::{Found, find};
+use crate::word::{pack, read_both, refused};
+
+/// What a run answers, and its three lent tables afterwards.
+#[derive(Clone, Debug, PartialEq, Eq)]
+pub struct Ran {
+    pub word: u64,
+    pub listed: Vec<u8>,
+    pub looks: Vec<u8>,
+    pub tally: Vec<u8>,
+}
+
+/// Runs a question: the tables are given as they were lent. A refusal alters none of them.
+pub fn run(catalogue: &[u8], question: &[u8], order: &[u8], listed: &[u8], looks: &[u8], tally: &[u8]) -> Ran {
+    accepted_run(catalogue, question, order, listed, looks, tally).unwrap_or_else(|number| Ran {
+        word: refused(number),
+        listed: listed.to_vec(),
+        looks: looks.to_vec(),
+        tally: tally.to_vec(),
+    })
+}
+
+fn accepted_run(
+    catalogue: &[u8],
+    question: &[u8],
+    order: &[u8],
+    listed: &[u8],
+    looks: &[u8],
+    tally: &[u8],
+) -> Result<Ran, Number> {
+    let (catalogue, question) = read_both(catalogue, question)?;
+    let count = question.conditions.len();
+    let order = read_order(order, count)?;
+    let row = catalogue.entries.div_ceil(8);
+    if listed.len() < row || looks.len() < count * row {
+        return Err(refusal::TABLE);
+    }
+    let tally: [u8; 8] = tally.try_into().map_err(|_| refusal::TALLY)?;
+    let found = find(&catalogue, &question, &order);
+    let sum = u64::from_be_bytes(tally).checked_add(found.look_count() as u64).ok_or(refusal::TALLY)?;
+    let Found { listed: entries, looks: conditions } = &found;
+    Ok(Ran {
+        word: pack(found.found_count(), 0, found.look_count()),
+        listed: with_front(listed, bits(entries)),
+        looks: with_front(looks, conditions.iter().flat_map(|entries| bits(entries)).collect()),
+        tally: sum.to_be_bytes().to_vec(),
+    })
+}
+
+/// An order is n bytes holding each condition number once.
+pub(crate) fn read_order(order: &[u8], count: usize) -> Result<Vec<usize>, Number> {
+    let order: Vec<usize> = order.iter().map(|&number| usize::from(number)).collect();
+    let mut sorted = order.clone();
+    sorted.sort_unstable();
+    if sorted.into_iter().eq(0..count) { Ok(order) } else { Err(refusal::ORDER) }
+}
+
+/// One bit for each entry: entry e is the bit of weight 2^(e mod 8) in byte e div 8, unused bits zero.
+fn bits(entries: &[bool]) -> Vec<u8> {
+    let mut bytes = vec![0; entries.len().div_ceil(8)];
+    for (entry, _) in entries.iter().enumerate().filter(|(_, bit)| **bit) {
+        bytes[entry / 8] += 1 << (entry % 8);
+    }
+    bytes
+}
+
+/// The table with its front replaced; its further bytes stay.
+fn with_front(table: &[u8], front: Vec<u8>) -> Vec<u8> {
+    [front.as_slice(), &table[front.len()..]].concat()
+}

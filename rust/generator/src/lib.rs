@@ -1,0 +1,17 @@
+//! Random inputs from a seed: decoded values, their bytes, and damages to bytes.
+//!
+//! The same seed gives the same input on every machine, so that a test which fails names the seed and no more.
+
+mod catalogue;
+mod county;
+mod damage;
+mod encode;
+mod question;
+mod rng;
+
+pub use catalogue::{catalogue, catalogue_of, text};
+pub use county::county;
+pub use damage::{Damage, damage};
+pub use encode::{encode_catalogue, encode_condition, encode_question, encode_texts, field};
+pub use question::{condition, faulty_question, question, question_of};
+pub use rng::Rng;

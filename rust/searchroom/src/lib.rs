@@ -1,0 +1,34 @@
+//! The searchroom engine from Rust: safe calls over `libsearchroom.a`.
+//!
+//! The engine takes byte slices and numbers and trusts none of them: every call may be made with any bytes, and answers
+//! either with its result or with the [`Refusal`] that is due. Nothing has to be checked beforehand.
+//!
+//! ```
+//! // One entry and one column of numbers, holding the year 1701.
+//! let catalogue = [67, 0, 3, 0, 1, 1, 78, 0, 4, 0, 0, 0x06, 0xA5];
+//! let size = searchroom::check_catalogue(&catalogue)?;
+//! assert_eq!((size.entries, size.columns), (1, 1));
+//! # Ok::<(), searchroom::Refusal>(())
+//! ```
+
+mod catalogue;
+mod consultation;
+mod question;
+mod refusal;
+mod run;
+mod sys;
+mod word;
+
+pub use catalogue::{Size, check_catalogue};
+pub use consultation::{Consultation, consult};
+pub use question::{Answer, check_question, outcome};
+pub use refusal::Refusal;
+pub use run::{Counts, run};
+pub use word::Word;
+
+/// The calls as C sees them: the answer is the packed [`Word`], not taken apart.
+pub mod raw {
+    pub use crate::catalogue::check_catalogue_word as check_catalogue;
+    pub use crate::question::{check_question_word as check_question, outcome_word as outcome};
+    pub use crate::run::run_word as run;
+}

@@ -1,0 +1,75 @@
+use std::error::Error;
+use std::fmt;
+
+/// Declares [`Refusal`] from one table: the name, its number, and the text that says it.
+macro_rules! refusals {
+    ($($name:ident = $number:literal, $text:literal;)*) => {
+        /// Why a call declines. The first check that fails decides; a refused call alters nothing that it was lent.
+        ///
+        /// ```
+        /// let refusal = searchroom::check_catalogue(b"").unwrap_err();
+        /// assert_eq!(refusal, searchroom::Refusal::CatalogueField);
+        /// assert_eq!(refusal.number(), 1);
+        /// println!("refused {}: {refusal}", refusal.number());
+        /// ```
+        #[derive(Clone, Copy, Debug, PartialEq, Eq, Hash)]
+        #[non_exhaustive]
+        #[repr(u8)]
+        pub enum Refusal {
+            $(#[doc = concat!($number, ": ", $text, ".")] $name = $number,)*
+        }
+
+        impl Refusal {
+            /// Every refusal, by ascending number.
+            pub const ALL: &'static [Refusal] = &[$(Refusal::$name),*];
+
+            /// The reason in plain words.
+            pub fn text(self) -> &'static str {
+                match self {
+                    $(Refusal::$name => $text,)*
+                }
+            }
+        }
+    };
+}
+
+refusals! {
+    CatalogueField = 1, "the catalogue has fewer than three bytes left where a field should start, or the field's length passes the end";
+    CatalogueHeader = 2, "the catalogue does not start with a field of tag 67 and length 3";
+    CatalogueLimits = 3, "the catalogue has over 2,048 entries, no column, or over 16 columns";
+    ColumnForm = 4, "a column has a wrong tag, or a length that does not fit the number of entries";
+    TextSlot = 5, "a text slot has a length over 23, or a byte after its text that is not zero";
+    CatalogueLeftOver = 6, "bytes are left over after the last column of the catalogue";
+    QuestionField = 7, "the question has fewer than three bytes left in a payload where a field should start, or the field's length passes its end";
+    UnknownTag = 8, "a field of the question is neither a group nor a condition";
+    EmptyGroup = 9, "a group of the question has no member";
+    TooDeep = 10, "a group of the question stands deeper than 8";
+    BadCondition = 11, "a condition is under two bytes, or names no such column, an unknown kind, a kind that does not fit the column, or an operand of wrong length or range";
+    TooManyConditions = 12, "the question has over 64 conditions";
+    RepeatedCondition = 13, "a condition is byte for byte an earlier one";
+    QuestionLeftOver = 14, "bytes are left over after the question";
+    BadOrder = 15, "the order does not hold each condition number once and nothing else";
+    ShortTable = 16, "a table is too short";
+    BadTally = 17, "the tally is not eight bytes, or the sum would pass 2^64 - 1";
+    NoSuchPlace = 18, "there is no such entry or condition";
+}
+
+impl Refusal {
+    /// The refusal's number.
+    pub fn number(self) -> u8 {
+        self as u8
+    }
+
+    /// The refusal that has this number, if there is one.
+    pub fn from_number(number: u8) -> Option<Refusal> {
+        Refusal::ALL.iter().copied().find(|refusal| refusal.number() == number)
+    }
+}
+
+impl fmt::Display for Refusal {
+    fn fmt(&self, f: &mut fmt::Formatter<'_>) -> fmt::Result {
+        f.write_str(self.text())
+    }
+}
+
+impl Error for Refusal {}

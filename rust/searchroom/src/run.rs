@@ -1,0 +1,63 @@
+use crate::{Refusal, Word, sys};
+
+/// The counts of an accepted run.
+#[derive(Clone, Copy, Debug, PartialEq, Eq, Hash)]
+pub struct Counts {
+    /// The number of listed entries.
+    pub found: u16,
+    /// The number of looks, over all conditions and entries.
+    pub looks: u32,
+}
+
+/// Runs a question over a catalogue in a running order, into tables of the caller's.
+///
+/// With E entries and n conditions, a row takes ceiling(E / 8) bytes: entry e is the bit of weight 2^(e mod 8) in byte
+/// e div 8, unused bits zero. `listed` receives one row, `looks` one row for each condition in condition-number order;
+/// further bytes of either stay as they are. `tally` is eight bytes, most significant first, to which the look count is
+/// added. A refusal alters none of the three.
+///
+/// [`consult`](crate::consult) does the same with tables of its own.
+///
+/// # Errors
+/// Refusals 1 to 14 as for [`check_question`](crate::check_question), then [`Refusal::BadOrder`], [`Refusal::ShortTable`] and
+/// [`Refusal::BadTally`].
+pub fn run(
+    catalogue: &[u8],
+    question: &[u8],
+    order: &[u8],
+    listed: &mut [u8],
+    looks: &mut [u8],
+    tally: &mut [u8],
+) -> Result<Counts, Refusal> {
+    let word = run_word(catalogue, question, order, listed, looks, tally).accepted()?;
+    Ok(Counts { found: word.first(), looks: word.third() })
+}
+
+/// Runs a question. The first result is the number of listed entries, the third that of looks.
+pub fn run_word(
+    catalogue: &[u8],
+    question: &[u8],
+    order: &[u8],
+    listed: &mut [u8],
+    looks: &mut [u8],
+    tally: &mut [u8],
+) -> Word {
+    // SAFETY: the call reads the bytes of the first three slices and writes none but those of the last three; these
+    // overlap no other, for they are borrowed alone. No pointer of a slice is null.
+    Word(unsafe {
+        sys::searchroom_run(
+            catalogue.as_ptr(),
+            catalogue.len(),
+            question.as_ptr(),
+            question.len(),
+            order.as_ptr(),
+            order.len(),
+            listed.as_mut_ptr(),
+            listed.len(),
+            looks.as_mut_ptr(),
+            looks.len(),
+            tally.as_mut_ptr(),
+            tally.len(),
+        )
+    })
+}

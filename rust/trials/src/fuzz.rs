@@ -1,0 +1,174 @@
+//! Abuse: inputs changed at random, over and over, with the evaluator as judge of every call.
+//!
+//! The archive cannot be instrumented, so the evaluator's answers stand in for coverage: an input whose answers were not
+//! met before is kept and changed further.
+
+use std::collections::HashSet;
+
+use evaluator::{question_word, read_catalogue};
+use generator::{Damage, Rng, catalogue_of, damage, encode_catalogue, encode_question, field, question_of};
+
+use crate::{
+    PARISH_CATALOGUE, PARISH_ORDER, PARISH_QUESTION, Run, Seen, compare_catalogue, compare_outcome, compare_question,
+    compare_run,
+};
+
+/// No more inputs than this are kept.
+const KEPT: usize = 4_000;
+/// A catalogue or question longer than this is cut, so that steps stay fast.
+const LONGEST: usize = 3_000;
+
+/// Bytes that mean something in some place.
+const TELLING: [u8; 20] = [0, 1, 2, 3, 4, 5, 7, 8, 22, 23, 24, 63, 64, 65, 67, 78, 79, 80, 84, 128];
+
+/// A fuzzing in progress. The same seed goes the same way.
+pub struct Fuzz {
+    seed: u64,
+    rng: Rng,
+    kept: Vec<Run>,
+    met: HashSet<[u64; 4]>,
+    steps: u64,
+    seen: Seen,
+}
+
+impl Fuzz {
+    pub fn new(seed: u64) -> Fuzz {
+        let mut rng = Rng::new(seed);
+        let parish = Run {
+            catalogue: PARISH_CATALOGUE.to_vec(),
+            question: PARISH_QUESTION.to_vec(),
+            order: PARISH_ORDER.to_vec(),
+            listed: vec![0; 1],
+            looks: vec![0; 3],
+            tally: vec![0; 8],
+        };
+        let mut kept = vec![Run::default(), parish.clone()];
+        for count in [1, 2, 3, 4, 5, 6, 7, 8, 9, 63, 64, 64] {
+            let (entries, columns, depth) = (rng.between(0, 18), rng.between(1, 4), rng.between(1, 8));
+            let made = catalogue_of(&mut rng, entries, columns);
+            let asked = question_of(&mut rng, &made, count, depth);
+            let (catalogue, question) = (encode_catalogue(&made), encode_question(&asked));
+            kept.push(Run { catalogue, question, ..parish.clone() });
+        }
+        Fuzz { seed, rng, kept, met: HashSet::new(), steps: 0, seen: Seen::none() }
+    }
+
+    /// How many inputs were tried, and how many kinds of answers were met.
+    pub fn progress(&self) -> (u64, usize) {
+        (self.steps, self.met.len())
+    }
+
+    /// How often each refusal number was answered.
+    pub fn seen(&self) -> &Seen {
+        &self.seen
+    }
+
+    /// Changes one of the kept inputs and makes every call with it. Panics where the engine and the evaluator differ.
+    pub fn step(&mut self) {
+        let mut given = self.rng.pick(&self.kept).clone();
+        for _ in 0..self.rng.between(1, 3) {
+            self.change(&mut given);
+        }
+        let answers = self.judge(&given);
+        if self.met.insert(answers) {
+            let room = if self.kept.len() < KEPT { self.kept.len() } else { self.rng.below(KEPT) };
+            self.kept.insert(room, given);
+            self.kept.truncate(KEPT);
+        }
+        self.steps += 1;
+    }
+
+    /// The answers of all calls, on which the engine and the evaluator must agree.
+    fn judge(&mut self, given: &Run) -> [u64; 4] {
+        let label = format!("fuzz seed {}, step {}", self.seed, self.steps);
+        let [entry, condition] = [(); 2].map(|()| match self.rng.below(8) {
+            0 => self.rng.next_u64(),
+            1 => 1 << self.rng.below(64),
+            _ => self.rng.below(8) as u64,
+        });
+        let words = [
+            compare_catalogue(&label, &given.catalogue),
+            compare_question(&label, &given.catalogue, &given.question),
+            compare_outcome(&label, &given.catalogue, &given.question, entry, condition),
+            compare_run(&label, given).word,
+        ];
+        words.iter().for_each(|&word| self.seen.count(word));
+        words
+    }
+
+    fn change(&mut self, given: &mut Run) {
+        let rng = &mut self.rng;
+        let other = rng.pick(&self.kept);
+        match rng.below(10) {
+            0..3 => change_bytes(rng, &mut given.catalogue, &other.catalogue),
+            3..6 => change_bytes(rng, &mut given.question, &other.question),
+            6 => change_bytes(rng, &mut given.order, &other.order),
+            7 => change_tables(rng, given),
+            8 => given.catalogue.clone_from(&other.catalogue),
+            _ => {
+                // One group more round it, alone, beside another question, or beside a short condition.
+                let short = field(80, &[rng.below(3) as u8, rng.below(6) as u8, rng.byte()]);
+                let beside = *rng.pick(&[&[], other.question.as_slice(), &short]);
+                given.question = field(*rng.pick(&[65, 79]), &[&given.question, beside].concat());
+            }
+        }
+        given.catalogue.truncate(LONGEST);
+        given.question.truncate(LONGEST);
+        if rng.chance(70) {
+            fit(rng, given);
+        }
+    }
+}
+
+fn change_bytes(rng: &mut Rng, bytes: &mut Vec<u8>, other: &[u8]) {
+    let mut place = |length: usize| rng.below(length + 1);
+    let (a, b) = (place(bytes.len()), place(bytes.len()));
+    let (from, to) = (a.min(b), a.max(b));
+    match rng.below(8) {
+        0 => drop(bytes.drain(from..to)),
+        1 => {
+            let copy = bytes[from..to].to_vec();
+            bytes.splice(from..from, copy);
+        }
+        2 => {
+            let taken = other[..rng.below(other.len() + 1)].to_vec();
+            bytes.splice(from..to, taken);
+        }
+        3 | 4 if !bytes.is_empty() => {
+            let at = rng.below(bytes.len());
+            bytes[at] = *rng.pick(&TELLING);
+        }
+        5 if !bytes.is_empty() => {
+            let at = rng.below(bytes.len());
+            bytes[at] ^= 1 << rng.below(8);
+        }
+        _ => {
+            let how = *rng.pick(&Damage::ALL);
+            damage(rng, bytes, how);
+        }
+    }
+}
+
+fn change_tables(rng: &mut Rng, given: &mut Run) {
+    for table in [&mut given.listed, &mut given.looks, &mut given.tally] {
+        if rng.chance(40) {
+            let length = (table.len() + rng.below(4)).saturating_sub(rng.below(4));
+            *table = rng.bytes(length);
+        }
+    }
+    if rng.chance(20) {
+        given.tally = (u64::MAX - rng.below(200) as u64).to_be_bytes().to_vec();
+    }
+}
+
+/// Gives an accepted question an order and tables that fit it.
+fn fit(rng: &mut Rng, given: &mut Run) {
+    let word = question_word(&given.catalogue, &given.question);
+    if let (Ok(catalogue), 0) = (read_catalogue(&given.catalogue), word as u8) {
+        let (row, count) = (catalogue.entries.div_ceil(8), (word >> 8) as usize);
+        given.order = (0..count as u8).collect();
+        rng.shuffle(&mut given.order);
+        (given.listed, given.looks) = (rng.bytes(row), rng.bytes(row * count));
+        given.tally = rng.bytes(8);
+    }
+}

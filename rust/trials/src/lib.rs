@@ -1,0 +1,29 @@
+//! What the tests in `tests/` share: lent memory with guards, comparison with the evaluator, and reports.
+
+mod catalogue;
+mod fault;
+mod fuzz;
+mod lent;
+mod question;
+mod report;
+mod room;
+mod run;
+mod seen;
+
+pub use catalogue::compare_catalogue;
+pub use fuzz::Fuzz;
+pub use lent::{Lent, Side};
+pub use question::{compare_outcome, compare_question};
+pub use report::hex;
+pub use room::Room;
+pub use run::{Run, compare_run};
+pub use seen::Seen;
+
+/// The catalogue of document 01's parish of three entries.
+pub const PARISH_CATALOGUE: &[u8] = include_bytes!("../../../examples/parish/catalogue.bin");
+
+/// Its question: year 1700 to 1799 and parish beginning "ash", or year blank.
+pub const PARISH_QUESTION: &[u8] = include_bytes!("../../../examples/parish/question.bin");
+
+/// Its running order 0, 1, 2.
+pub const PARISH_ORDER: &[u8] = include_bytes!("../../../examples/parish/order.bin");

@@ -1,0 +1,64 @@
+use std::fmt;
+
+use evaluator::Ran;
+
+use crate::{Lent, Side, fault, hex};
+
+/// All that a run is given, the tables as they are lent.
+#[derive(Clone, Debug, Default)]
+pub struct Run {
+    pub catalogue: Vec<u8>,
+    pub question: Vec<u8>,
+    pub order: Vec<u8>,
+    pub listed: Vec<u8>,
+    pub looks: Vec<u8>,
+    pub tally: Vec<u8>,
+}
+
+impl fmt::Display for Run {
+    fn fmt(&self, f: &mut fmt::Formatter<'_>) -> fmt::Result {
+        let parts = ["catalogue", "question", "order", "listed", "looks", "tally"];
+        for (name, bytes) in parts.into_iter().zip(self.slices()) {
+            writeln!(f, "{name}: {}", hex(bytes))?;
+        }
+        Ok(())
+    }
+}
+
+impl Run {
+    fn slices(&self) -> [&[u8]; 6] {
+        [&self.catalogue, &self.question, &self.order, &self.listed, &self.looks, &self.tally]
+    }
+}
+
+/// Makes a run by the engine, in guarded memory, and by the evaluator: the word and every lent byte afterwards must be
+/// the same. Gives the evaluator's results.
+pub fn compare_run(label: &str, given: &Run) -> Ran {
+    let expected =
+        evaluator::run(&given.catalogue, &given.question, &given.order, &given.listed, &given.looks, &given.tally);
+    fault::trying(label);
+    for side in Side::BOTH {
+        let mut lent = given.slices().map(|bytes| Lent::new(bytes, side));
+        let [catalogue, question, order, listed, looks, tally] = &mut lent;
+        let word = searchroom::raw::run(
+            catalogue.bytes(),
+            question.bytes(),
+            order.bytes(),
+            listed.bytes_mut(),
+            looks.bytes_mut(),
+            tally.bytes_mut(),
+        );
+        let ran = Ran {
+            word: word.0,
+            listed: listed.bytes().to_vec(),
+            looks: looks.bytes().to_vec(),
+            tally: tally.bytes().to_vec(),
+        };
+        assert!(ran == expected, "{label}:\nthe engine gave {ran:?}\nthe evaluator {expected:?}\n{given}");
+        let inputs = [catalogue, question, order].map(|input| input.bytes().to_vec());
+        let unaltered = inputs.iter().zip(given.slices()).all(|(after, before)| after == before);
+        let unaltered = unaltered && lent.iter_mut().all(Lent::marks_stand);
+        assert!(unaltered, "{label}: the run wrote to its inputs or beside a table\n{given}");
+    }
+    expected
+}

@@ -1,0 +1,204 @@
+//! The program `consult` as a user runs it: what it prints, byte for byte.
+
+use std::fs;
+use std::os::unix::fs::{PermissionsExt, symlink};
+
+use evaluator::{Catalogue, Column, Condition, Question, Test, Tree, refused_register, register};
+use generator::{Rng, catalogue_of, encode_catalogue, encode_question, faulty_question, field, question_of};
+use trials::{PARISH_CATALOGUE, PARISH_ORDER, PARISH_QUESTION, Room, Seen};
+
+const FILES: [(&str, usize); 3] = [("catalogue.bin", 65_536), ("question.bin", 4_096), ("order.bin", 64)];
+
+fn parish() -> Room {
+    Room::new(PARISH_CATALOGUE, PARISH_QUESTION, PARISH_ORDER)
+}
+
+/// What the program prints for these files, which must be what the evaluator's register is.
+fn consult(label: &str, catalogue: &[u8], question: &[u8], order: &[u8]) -> String {
+    let printed = Room::new(catalogue, question, order).consult();
+    assert_eq!(printed, register(catalogue, question, order), "{label}");
+    printed
+}
+
+#[test]
+fn proved_case_1_prints_the_register_of_document_01() {
+    let expected =
+        "consultation register\nfound 2\nentry 0\nentry 2\nlooks 6\ncondition 0 3\ncondition 1 1\ncondition 2 2\n";
+    assert_eq!(consult("P1", PARISH_CATALOGUE, PARISH_QUESTION, PARISH_ORDER), expected);
+    assert_eq!(include_str!("../../../examples/parish/expected"), expected);
+}
+
+#[test]
+fn proved_case_2_prints_other_looks() {
+    let expected =
+        "consultation register\nfound 2\nentry 0\nentry 2\nlooks 7\ncondition 0 2\ncondition 1 2\ncondition 2 3\n";
+    assert_eq!(consult("P2", PARISH_CATALOGUE, PARISH_QUESTION, &[2, 1, 0]), expected);
+}
+
+/// The tally starts at zero in each consultation, and none leaves anything behind.
+#[test]
+fn consulting_again_prints_the_same() {
+    let room = parish();
+    assert_eq!(room.consult(), room.consult());
+    let mut names: Vec<_> = fs::read_dir(room.path(".")).unwrap().map(|entry| entry.unwrap().file_name()).collect();
+    names.sort();
+    assert_eq!(names, ["catalogue.bin", "consult", "order.bin", "question.bin"]);
+}
+
+#[test]
+fn each_refusal_that_files_can_cause() {
+    let (c, q, o) = (PARISH_CATALOGUE, PARISH_QUESTION, PARISH_ORDER);
+    let nested = |depth: usize| (0..depth).fold(field(80, &[0, 1]), |inner, _| field(65, &inner));
+    let many = |count: u8| field(79, &(0..count).flat_map(|n| field(80, &[1, 2, n])).collect::<Vec<_>>());
+    let mut stray = c.to_vec();
+    stray[95] = 1;
+    type Case<'a> = (&'a [u8], &'a [u8], &'a [u8], u8);
+    let cases: [Case; 16] = [
+        (b"", q, o, 1),
+        (&field(66, &[0, 3, 2]), q, o, 2),
+        (&field(67, &[8, 1, 1]), q, o, 3),
+        (&[&c[..6], &field(79, &[0; 12])].concat(), q, o, 4),
+        (&stray, q, o, 5),
+        (&[c, &[0]].concat(), q, o, 6),
+        (c, b"", o, 7),
+        (c, &field(1, &[]), o, 8),
+        (c, &field(65, &[]), o, 9),
+        (c, &nested(9), &[0], 10),
+        (c, &field(80, &[0, 6]), o, 11),
+        (c, &many(65), o, 12),
+        (c, &field(79, &field(80, &[0, 1]).repeat(2)), o, 13),
+        (c, &[q, &[0]].concat(), o, 14),
+        (c, q, b"", 15),
+        (c, q, &[0, 0, 2], 15),
+    ];
+    for (catalogue, question, order, number) in cases {
+        let printed = consult(&format!("refusal {number}"), catalogue, question, order);
+        assert_eq!(printed, format!("consultation register\nrefused {number}\n"));
+    }
+}
+
+#[test]
+fn refusal_19_where_a_file_is_missing_or_cannot_be_read() {
+    let refused = refused_register(19);
+    for (name, _) in FILES {
+        let room = parish();
+        fs::remove_file(room.path(name)).unwrap();
+        assert_eq!(room.consult(), refused, "{name} is missing");
+        fs::create_dir(room.path(name)).unwrap();
+        assert_eq!(room.consult(), refused, "{name} is a folder");
+        fs::remove_dir(room.path(name)).unwrap();
+        symlink("nowhere", room.path(name)).unwrap();
+        assert_eq!(room.consult(), refused, "{name} leads nowhere");
+        fs::remove_file(room.path(name)).unwrap();
+        // Opens, but the first read fails.
+        symlink("/proc/self/mem", room.path(name)).unwrap();
+        assert_eq!(room.consult(), refused, "{name} cannot be read");
+        fs::remove_file(room.path(name)).unwrap();
+        room.set(name, b"");
+        fs::set_permissions(room.path(name), fs::Permissions::from_mode(0o000)).unwrap();
+        assert_eq!(room.consult(), refused, "{name} must not be read");
+    }
+}
+
+/// At its limit a file is read, and refused for what it holds; one byte more is 19, even where all else is refused too.
+#[test]
+fn files_at_their_limits_and_one_byte_over() {
+    let parts = [PARISH_CATALOGUE, PARISH_QUESTION, PARISH_ORDER];
+    for (at, number) in [(0, 6), (1, 14), (2, 15)] {
+        let (name, limit) = FILES[at];
+        for (length, number) in [(limit, number), (limit + 1, 19), (limit + 4_096, 19), (3 * limit, 19)] {
+            let room = parish();
+            let mut bytes = parts[at].to_vec();
+            bytes.resize(length, 0);
+            room.set(name, &bytes);
+            assert_eq!(room.consult(), refused_register(number), "{name} of {length} bytes");
+        }
+    }
+    let room = Room::new(b"", b"", &[0; 65]);
+    assert_eq!(room.consult(), refused_register(19), "19 comes before 1");
+}
+
+/// 655 entries in seven columns of numbers and three of texts fill 65,536 bytes.
+#[test]
+fn accepted_catalogue_of_exactly_65_536_bytes() {
+    let mut rng = Rng::new(6);
+    let column = |c: u32| match c {
+        0..7 => Column::Numbers((0..655).map(|entry| entry % (c + 2)).collect()),
+        _ => Column::Texts((0..655).map(|entry| vec![b'A' + (entry % 23) as u8; entry % 24]).collect()),
+    };
+    let made = Catalogue { entries: 655, columns: (0..10).map(column).collect() };
+    let bytes = encode_catalogue(&made);
+    assert_eq!(bytes.len(), 65_536);
+    let asked = encode_question(&question_of(&mut rng, &made, 9, 3));
+    let order: Vec<u8> = (0..9).rev().collect();
+    assert!(consult("65,536 bytes", &bytes, &asked, &order).contains("\nfound "));
+    assert_eq!(Room::new(&[bytes, vec![0]].concat(), &asked, &order).consult(), refused_register(19));
+}
+
+/// 2,048 entries, all listed or none: the longest register that a file can cause.
+#[test]
+fn two_thousand_and_forty_eight_entries() {
+    let texts = Column::Texts((0..2_048).map(|entry: usize| entry.to_string().into_bytes()).collect());
+    let made = Catalogue { entries: 2_048, columns: vec![Column::Numbers((0..2_048).collect()), texts] };
+    let bytes = encode_catalogue(&made);
+    let range = |low, opposite| Condition { column: 0, test: Test::NumberFrom { low, high: 9_999 }, opposite };
+    for opposite in [false, true] {
+        let conditions: Vec<_> = (0..64).map(|low| range(low * 10, opposite)).collect();
+        let asked = Question { tree: Tree::AnyOf((0..64).map(Tree::Condition).collect()), conditions };
+        let order: Vec<u8> = (0..64).rev().collect();
+        let printed = consult("2,048 entries, 64 conditions", &bytes, &encode_question(&asked), &order);
+        let found = if opposite { 630 } else { 2_048 };
+        assert_eq!(printed.lines().nth(1), Some(format!("found {found}").as_str()));
+        assert_eq!(printed.lines().count(), 3 + found + 64);
+    }
+}
+
+#[test]
+fn sixty_four_and_sixty_five_conditions_eight_and_nine_nested_groups() {
+    let many = |count: u8| field(79, &(0..count).flat_map(|n| field(80, &[1, 2, n])).collect::<Vec<_>>());
+    let order: Vec<u8> = (0..64).collect();
+    assert!(consult("64 conditions", PARISH_CATALOGUE, &many(64), &order).ends_with("condition 63 3\n"));
+    assert_eq!(consult("65 conditions", PARISH_CATALOGUE, &many(65), &order), refused_register(12));
+    let nested = |depth: usize| (0..depth).fold(field(80, &[0, 1]), |inner, _| field(65, &inner));
+    let expected = "consultation register\nfound 1\nentry 2\nlooks 3\ncondition 0 3\n";
+    assert_eq!(consult("8 nested groups", PARISH_CATALOGUE, &nested(8), &[0]), expected);
+    assert_eq!(consult("9 nested groups", PARISH_CATALOGUE, &nested(9), &[0]), refused_register(10));
+}
+
+#[test]
+fn no_entries() {
+    let nobody = field(67, &[0, 0, 1]);
+    let nobody = [nobody, field(78, &[])].concat();
+    let expected = "consultation register\nfound 0\nlooks 0\ncondition 0 0\n";
+    assert_eq!(consult("P7", &nobody, &field(80, &[0, 1]), &[0]), expected);
+}
+
+/// 2,048 entries, twelve conditions three groups deep: `generator`'s second example.
+#[test]
+fn county() {
+    let (catalogue, question, order) = generator::county();
+    let printed = consult("county", &encode_catalogue(&catalogue), &encode_question(&question), &order);
+    let looks: usize = printed.lines().find_map(|line| line.strip_prefix("looks ")).unwrap().parse().unwrap();
+    assert!(printed.lines().count() > 50 && looks < 12 * 2_048 / 2, "the example shows little:\n{printed}");
+}
+
+#[test]
+fn random_consultations() {
+    let mut seen = Seen::none();
+    for seed in 0..400 {
+        let mut rng = Rng::new(seed);
+        let (entries, columns) = (rng.between(0, 70), rng.between(1, 4));
+        let made = catalogue_of(&mut rng, entries, columns);
+        let catalogue = encode_catalogue(&made);
+        let faults = *rng.pick(&[0, 0, 0, 10]);
+        let asked = faulty_question(&mut rng, &made, faults);
+        let word = evaluator::question_word(&catalogue, &asked);
+        let mut order: Vec<u8> = (0..(word >> 8) as u8).collect();
+        rng.shuffle(&mut order);
+        if asked.len() <= 4_096 {
+            consult(&format!("seed {seed}"), &catalogue, &asked, &order);
+            seen.count(word);
+        }
+    }
+    seen.assert_each(0..=0, 100);
+}

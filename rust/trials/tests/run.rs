@@ -1,0 +1,438 @@
+//! `searchroom_run` against the evaluator: the word and every lent byte, accepted and refused.
+
+use evaluator::{Catalogue, Column, Condition, Question, Ran, Test, Tree, pack, refused};
+use generator::{
+    Damage, Rng, catalogue, catalogue_of, damage, encode_catalogue, encode_question, faulty_question, field, question,
+    question_of,
+};
+use searchroom::{Refusal, consult};
+use trials::{PARISH_CATALOGUE, PARISH_ORDER, PARISH_QUESTION, Run, Seen, compare_run};
+
+/// A run with tables just long enough, filled with ones, and a tally of 0.
+fn fitting(catalogue: &Catalogue, question: &Question, order: &[u8]) -> Run {
+    let row = catalogue.entries.div_ceil(8);
+    Run {
+        catalogue: encode_catalogue(catalogue),
+        question: encode_question(question),
+        order: order.to_vec(),
+        listed: vec![0xFF; row],
+        looks: vec![0xFF; row * question.conditions.len()],
+        tally: vec![0; 8],
+    }
+}
+
+fn parish(order: &[u8]) -> Run {
+    Run {
+        catalogue: PARISH_CATALOGUE.to_vec(),
+        question: PARISH_QUESTION.to_vec(),
+        order: order.to_vec(),
+        listed: vec![0],
+        looks: vec![0; 3],
+        tally: vec![0; 8],
+    }
+}
+
+/// The condition numbers in some order.
+fn shuffled(rng: &mut Rng, count: usize) -> Vec<u8> {
+    let mut order: Vec<u8> = (0..count as u8).collect();
+    rng.shuffle(&mut order);
+    order
+}
+
+/// One entry for each pattern of `count` outcomes: condition c is met at entry e exactly if bit c of e is one.
+fn every_pattern(count: usize) -> (Catalogue, Vec<Condition>) {
+    let column = |c: usize| Column::Numbers((0..1_u32 << count).map(|entry| entry >> c & 1).collect());
+    let condition = |column| Condition { column, test: Test::NumberFrom { low: 1, high: 1 }, opposite: false };
+    let catalogue = Catalogue { entries: 1 << count, columns: (0..count).map(column).collect() };
+    (catalogue, (0..count).map(condition).collect())
+}
+
+#[test]
+fn proved_cases_1_and_2_as_run() {
+    let ran = compare_run("P1", &parish(PARISH_ORDER));
+    assert_eq!(ran.word, pack(2, 0, 6));
+    assert_eq!(
+        (ran.listed, ran.looks, ran.tally),
+        (vec![0b101], vec![0b111, 0b001, 0b110], vec![0, 0, 0, 0, 0, 0, 0, 6])
+    );
+    let ran = compare_run("P2", &parish(&[2, 1, 0]));
+    assert_eq!((ran.word, ran.listed), (pack(2, 0, 7), vec![0b101]));
+    assert_eq!(ran.looks.iter().map(|row| row.count_ones()).collect::<Vec<_>>(), [2, 2, 3]);
+}
+
+#[test]
+fn wrapper_gives_the_parish_as_values() {
+    let mut tally = 250;
+    let found = consult(PARISH_CATALOGUE, PARISH_QUESTION, PARISH_ORDER, &mut tally).expect("accepted");
+    assert_eq!((found.counts().found, found.counts().looks, tally), (2, 6, 256));
+    assert_eq!(found.listed().collect::<Vec<_>>(), [0, 2]);
+    let looked_at = |condition| found.looked_at(condition).collect::<Vec<_>>();
+    assert_eq!([0, 1, 2, 3].map(looked_at), [vec![0, 1, 2], vec![0], vec![1, 2], vec![]]);
+    let order = consult(PARISH_CATALOGUE, PARISH_QUESTION, &[0; 1_000], &mut tally);
+    assert_eq!((order, tally), (Err(Refusal::BadOrder), 256));
+    let mut full = u64::MAX - 5;
+    assert_eq!(consult(PARISH_CATALOGUE, PARISH_QUESTION, PARISH_ORDER, &mut full), Err(Refusal::BadTally));
+    assert_eq!(full, u64::MAX - 5);
+}
+
+/// P7: with no entry, any accepted question finds 0 with 0 looks, in tables of no bytes, whatever the tally.
+#[test]
+fn proved_case_7_no_entries() {
+    let nobody = Catalogue { entries: 0, columns: vec![Column::Numbers(vec![])] };
+    for (count, depth) in [(1, 1), (1, 8), (5, 2), (64, 8)] {
+        let mut rng = Rng::new(count as u64);
+        let asked = question_of(&mut rng, &nobody, count, depth);
+        let order = shuffled(&mut rng, count);
+        for (tables, tally) in [(0, 0), (3, u64::MAX)] {
+            let given = Run {
+                listed: vec![7; tables],
+                looks: vec![7; tables],
+                tally: tally.to_be_bytes().to_vec(),
+                ..fitting(&nobody, &asked, &order)
+            };
+            let ran = compare_run("no entries", &given);
+            assert_eq!((ran.word, ran.listed, ran.tally), (pack(0, 0, 0), given.listed, given.tally));
+        }
+    }
+}
+
+#[test]
+fn proved_case_10_and_other_orders() {
+    let two = field(79, &[80, 0, 2, 0, 1, 80, 0, 2, 0, 129]);
+    let with = |order: &[u8]| Run { question: two.clone(), looks: vec![0; 2], ..parish(order) };
+    for order in [[0, 1], [1, 0]] {
+        assert_eq!(compare_run("a right order", &with(&order)).word as u8, 0);
+    }
+    let wrong: [&[u8]; 14] = [
+        &[],
+        &[0],
+        &[1],
+        &[0, 0],
+        &[1, 1],
+        &[0, 2],
+        &[2, 0],
+        &[1, 2],
+        &[0, 255],
+        &[0, 64],
+        &[0, 1, 0],
+        &[0, 1, 2],
+        &[0, 0, 1],
+        &[1; 300],
+    ];
+    for order in wrong {
+        assert_eq!(compare_run(&format!("order {order:?}"), &with(order)).word, refused(15), "{order:?}");
+    }
+}
+
+#[test]
+fn orders_of_sixty_four() {
+    let mut rng = Rng::new(4);
+    let made = catalogue_of(&mut rng, 20, 6);
+    let asked = question_of(&mut rng, &made, 64, 4);
+    let forward: Vec<u8> = (0..64).collect();
+    let backward: Vec<u8> = (0..64).rev().collect();
+    for order in [forward.clone(), backward, shuffled(&mut rng, 64), shuffled(&mut rng, 64)] {
+        assert_eq!(compare_run("64 conditions", &fitting(&made, &asked, &order)).word as u8, 0);
+    }
+    for at in 0..64 {
+        for value in [(at as u8 + 1) % 64, 64, 128 + at as u8, 255] {
+            let mut order = forward.clone();
+            order[at] = value;
+            let label = format!("64 conditions, place {at} set to {value}");
+            assert_eq!(compare_run(&label, &fitting(&made, &asked, &order)).word, refused(15));
+        }
+    }
+    for length in [63, 65] {
+        let order: Vec<u8> = (0..length).collect();
+        assert_eq!(compare_run("63 or 65 long", &fitting(&made, &asked, &order)).word, refused(15));
+    }
+}
+
+/// Both tables just long enough, one byte short, and longer with further bytes that stay.
+#[test]
+fn tables_of_every_length() {
+    for entries in [0, 1, 7, 8, 9, 16, 17, 2_047, 2_048] {
+        for count in [1, 3, 64] {
+            let mut rng = Rng::new(entries as u64 * 100 + count as u64);
+            let made = catalogue_of(&mut rng, entries, 3);
+            let asked = question_of(&mut rng, &made, count, 3);
+            let fit = fitting(&made, &asked, &shuffled(&mut rng, count));
+            let (row, rows) = (fit.listed.len(), fit.looks.len());
+            for (more_listed, more_looks) in [(0, 0), (-1, 0), (0, -1), (-1, -1), (1, 0), (0, 1), (50, 70)] {
+                let length = |fit: usize, more: isize| fit.checked_add_signed(more);
+                let (Some(listed), Some(looks)) = (length(row, more_listed), length(rows, more_looks)) else {
+                    continue;
+                };
+                let label = format!("{entries} entries, {count} conditions, tables of {listed} and {looks}");
+                let given = Run { listed: rng.bytes(listed), looks: rng.bytes(looks), ..fit.clone() };
+                let Ran { word, .. } = compare_run(&label, &given);
+                assert_eq!(word == refused(16), listed < row || looks < rows, "{label}");
+            }
+        }
+    }
+}
+
+#[test]
+fn proved_case_11_and_other_tallies() {
+    let with = |tally: u64| Run { tally: tally.to_be_bytes().to_vec(), ..parish(PARISH_ORDER) };
+    // The parish's run has six looks.
+    for (tally, fits) in [
+        (0, true),
+        (1, true),
+        (250, true),
+        (0x00FF_FFFF_FFFF_FFFF, true),
+        (u64::MAX - 7, true),
+        (u64::MAX - 6, true),
+        (u64::MAX - 5, false),
+        (u64::MAX - 1, false),
+        (u64::MAX, false),
+    ] {
+        let ran = compare_run(&format!("tally {tally}"), &with(tally));
+        if fits {
+            assert_eq!((ran.word, ran.tally), (pack(2, 0, 6), (tally + 6).to_be_bytes().to_vec()), "tally {tally}");
+        } else {
+            assert_eq!(ran.word, refused(17), "tally {tally}");
+        }
+    }
+    let one = Run {
+        catalogue: vec![67, 0, 3, 0, 1, 1, 78, 0, 4, 0, 0, 0, 0],
+        question: field(80, &[0, 1]),
+        order: vec![0],
+        looks: vec![0],
+        ..with(u64::MAX)
+    };
+    assert_eq!(compare_run("P11", &one).word, refused(17));
+    for length in [0, 1, 7, 9, 16, 128] {
+        for byte in [0, 255] {
+            let given = Run { tally: vec![byte; length], ..parish(PARISH_ORDER) };
+            assert_eq!(compare_run(&format!("tally of {length} bytes"), &given).word, refused(17));
+        }
+    }
+}
+
+#[test]
+fn earlier_of_two_refusals_decides() {
+    let sound = parish(PARISH_ORDER);
+    let mut worse = Run { tally: vec![0; 7], ..sound.clone() };
+    assert_eq!(compare_run("17 alone", &worse).word, refused(17));
+    worse.looks.pop();
+    assert_eq!(compare_run("16 before 17", &worse).word, refused(16));
+    worse = Run { listed: vec![], ..worse };
+    assert_eq!(compare_run("16 by both tables", &worse).word, refused(16));
+    worse.order = vec![0, 1, 1];
+    assert_eq!(compare_run("15 before 16", &worse).word, refused(15));
+    worse.question.push(0);
+    assert_eq!(compare_run("14 before 15", &worse).word, refused(14));
+    worse.question = vec![80];
+    assert_eq!(compare_run("7 before 15", &worse).word, refused(7));
+    worse.catalogue.push(0);
+    assert_eq!(compare_run("6 before 7", &worse).word, refused(6));
+    worse.catalogue.clear();
+    assert_eq!(compare_run("1 before all", &worse).word, refused(1));
+    assert_eq!(compare_run("nothing at all", &Run::default()).word, refused(1));
+}
+
+/// Every order of up to four conditions, in trees of every shape the generator makes, on every pattern of outcomes.
+#[test]
+fn every_pattern_in_every_order() {
+    for seed in 0..400 {
+        let mut rng = Rng::new(seed);
+        let count = rng.between(1, 4);
+        let depth = rng.between(1, 4);
+        let (made, conditions) = every_pattern(count);
+        let Question { tree, .. } = question_of(&mut rng, &made, count, depth);
+        let asked = Question { tree, conditions };
+        for order in permutations(count) {
+            compare_run(&format!("seed {seed}, order {order:?}"), &fitting(&made, &asked, &order));
+        }
+    }
+}
+
+fn permutations(count: usize) -> Vec<Vec<u8>> {
+    let mut all = vec![vec![]];
+    for number in 0..count as u8 {
+        let longer = |order: &Vec<u8>| {
+            (0..=order.len()).map(|at| [&order[..at], &[number], &order[at..]].concat()).collect::<Vec<_>>()
+        };
+        all = all.iter().flat_map(longer).collect();
+    }
+    all
+}
+
+/// The same for more conditions and deeper trees, in a few orders.
+#[test]
+fn every_pattern_of_up_to_nine() {
+    for seed in 0..60 {
+        let mut rng = Rng::new(seed);
+        let (count, depth) = (rng.between(5, 9), rng.between(1, 8));
+        let (made, conditions) = every_pattern(count);
+        let Question { tree, .. } = question_of(&mut rng, &made, count, depth);
+        let asked = Question { tree, conditions };
+        let order = shuffled(&mut rng, count);
+        compare_run(&format!("every pattern, seed {seed}"), &fitting(&made, &asked, &order));
+    }
+}
+
+/// "Mistakes a good clerk makes", each on every pattern of outcomes.
+#[test]
+fn mistakes_of_a_good_clerk() {
+    let leaf = Tree::Condition;
+    let all = Tree::AllOf;
+    let any = Tree::AnyOf;
+    let trees = [
+        ("outer group settled", any(vec![leaf(0), all(vec![leaf(1), any(vec![leaf(2), leaf(3)])])])),
+        ("group of unlooked members", all(vec![leaf(0), all(vec![leaf(1), all(vec![leaf(2), leaf(3)])])])),
+        ("groups of one", any(vec![all(vec![any(vec![leaf(0)])]), all(vec![leaf(1)]), any(vec![leaf(2), leaf(3)])])),
+        ("two groups of two", all(vec![any(vec![leaf(0), leaf(1)]), any(vec![leaf(2), leaf(3)])])),
+    ];
+    for (label, tree) in trees {
+        let (made, conditions) = every_pattern(4);
+        let asked = Question { tree, conditions };
+        for order in permutations(4) {
+            compare_run(&format!("{label}, order {order:?}"), &fitting(&made, &asked, &order));
+        }
+    }
+    // Year before 1700 and year after 1800 are unconnected: after one yes the other is still due.
+    let years = Catalogue { entries: 3, columns: vec![Column::Numbers(vec![1_650, 1_750, 1_850])] };
+    let before = Condition { column: 0, test: Test::NumberFrom { low: 0, high: 1_699 }, opposite: false };
+    let after = Condition { column: 0, test: Test::NumberFrom { low: 1_801, high: 9_999 }, opposite: false };
+    let asked = Question { tree: all(vec![leaf(0), leaf(1)]), conditions: vec![before, after] };
+    let ran = compare_run("unconnected", &fitting(&years, &asked, &[0, 1]));
+    assert_eq!((ran.word, ran.looks), (pack(0, 0, 4), vec![0b111, 0b001]));
+}
+
+#[test]
+fn eight_nested_groups() {
+    for seed in 0..40 {
+        let mut rng = Rng::new(seed);
+        let (made, conditions) = every_pattern(8);
+        let mut tree = Tree::Condition(7);
+        for number in (0..7).rev() {
+            let members = vec![Tree::Condition(number), tree];
+            tree = if rng.chance(50) { Tree::AllOf(members) } else { Tree::AnyOf(members) };
+        }
+        let asked = Question { tree: Tree::AllOf(vec![tree]), conditions };
+        let order = shuffled(&mut rng, 8);
+        let ran = compare_run(&format!("eight nested groups, seed {seed}"), &fitting(&made, &asked, &order));
+        assert_eq!(ran.word as u8, 0);
+    }
+}
+
+/// The most looks that a run can make: 131,072, which do not fit 16 bits, by the tally's last place too.
+#[test]
+fn largest_run() {
+    let numbers = Column::Numbers((0..2_048).map(|entry| entry % 7).collect());
+    let made = Catalogue { entries: 2_048, columns: vec![numbers] };
+    let condition = |low| Condition { column: 0, test: Test::NumberFrom { low, high: 9_000 }, opposite: low > 0 };
+    let conditions: Vec<Condition> = (0..64).map(|n| condition(if n == 0 { 0 } else { 6 + n })).collect();
+    let asked = Question { tree: Tree::AllOf((0..64).map(Tree::Condition).collect()), conditions };
+    let order: Vec<u8> = (0..64).collect();
+    let full = fitting(&made, &asked, &order);
+    let ran = compare_run("largest run", &full);
+    assert_eq!(ran.word, pack(2_048, 0, 131_072));
+    assert_eq!(ran.looks, vec![0xFF; 16_384]);
+    for (tally, word) in [(u64::MAX - 131_072, pack(2_048, 0, 131_072)), (u64::MAX - 131_071, refused(17))] {
+        let given = Run { tally: tally.to_be_bytes().to_vec(), ..full.clone() };
+        assert_eq!(compare_run("largest run, fullest tally", &given).word, word);
+    }
+}
+
+/// From zeros, over a sequence of runs, the tally is the sum of the look counts of the accepted ones.
+#[test]
+fn tally_over_a_sequence_of_runs() {
+    let mut tally = vec![0; 8];
+    let mut sum = 0;
+    for seed in 0..200 {
+        let mut rng = Rng::new(seed);
+        let made = catalogue_of(&mut rng, 9, 3);
+        let asked = question_of(&mut rng, &made, 5, 3);
+        let mut order = shuffled(&mut rng, 5);
+        if seed % 5 == 0 {
+            order.pop();
+        }
+        let ran = compare_run(&format!("seed {seed}"), &Run { tally, ..fitting(&made, &asked, &order) });
+        sum += ran.word >> 40;
+        tally = ran.tally;
+        assert_eq!(tally, sum.to_be_bytes(), "after seed {seed}");
+    }
+    assert!(sum > 1_000);
+}
+
+#[test]
+fn random_runs_are_accepted() {
+    let (mut listed, mut skipped) = (0, 0);
+    for seed in 0..3_000 {
+        let mut rng = Rng::new(seed);
+        let made = match seed % 20 {
+            0 => catalogue(&mut rng),
+            _ => {
+                let (entries, columns) = (rng.between(0, 40), rng.between(1, 6));
+                catalogue_of(&mut rng, entries, columns)
+            }
+        };
+        let asked = if made.entries > 300 { question_of(&mut rng, &made, 6, 3) } else { question(&mut rng, &made) };
+        let count = asked.conditions.len();
+        let order = shuffled(&mut rng, count);
+        let ran = compare_run(&format!("random run, seed {seed}"), &fitting(&made, &asked, &order));
+        assert_eq!(ran.word as u8, 0, "seed {seed}");
+        listed += ran.word >> 8 & 0xFFFF;
+        skipped += (made.entries * count) as u64 - (ran.word >> 40);
+    }
+    assert!(listed > 10_000 && skipped > 10_000, "{listed} entries listed, {skipped} looks skipped");
+}
+
+#[test]
+fn random_and_damaged_runs_reach_every_refusal() {
+    let mut seen = Seen::none();
+    for seed in 0..30_000 {
+        let mut rng = Rng::new(seed);
+        let (entries, columns) = (rng.between(0, 10), rng.between(1, 4));
+        let made = catalogue_of(&mut rng, entries, columns);
+        let mut catalogue = encode_catalogue(&made);
+        let faults = *rng.pick(&[0, 0, 0, 5]);
+        let mut asked = faulty_question(&mut rng, &made, faults);
+        for (bytes, percent) in [(&mut catalogue, 8), (&mut asked, 15)] {
+            if rng.chance(percent) {
+                let how = *rng.pick(&Damage::ALL);
+                damage(&mut rng, bytes, how);
+            }
+        }
+        // The number of conditions, if the question is accepted, for an order and tables that fit or nearly so.
+        let count = match evaluator::question_word(&catalogue, &asked) {
+            word if word as u8 == 0 => (word >> 8) as usize,
+            _ => rng.below(5),
+        };
+        let mut order = shuffled(&mut rng, count);
+        if rng.chance(10) {
+            damage_order(&mut rng, &mut order);
+        }
+        let row = entries.div_ceil(8);
+        let length = |rng: &mut Rng, fit: usize| match rng.below(20) {
+            0 => fit.saturating_sub(1),
+            1..4 => fit + rng.below(9),
+            _ => fit,
+        };
+        let (listed, looks) = (length(&mut rng, row), length(&mut rng, row * count));
+        let (listed, looks) = (rng.bytes(listed), rng.bytes(looks));
+        let tally = match rng.below(20) {
+            0 => (u64::MAX - rng.below(40) as u64).to_be_bytes().to_vec(),
+            1 => vec![0; *rng.pick(&[0, 7, 9])],
+            _ => rng.next_u64().to_be_bytes().to_vec(),
+        };
+        let given = Run { catalogue, question: asked, order, listed, looks, tally };
+        seen.count(compare_run(&format!("seed {seed}"), &given).word);
+    }
+    seen.assert_each(0..=17, 10);
+}
+
+fn damage_order(rng: &mut Rng, order: &mut Vec<u8>) {
+    match rng.below(4) {
+        0 => drop(order.pop()),
+        1 => order.push(rng.below(65) as u8),
+        _ if !order.is_empty() => {
+            let at = rng.below(order.len());
+            order[at] = if rng.chance(50) { *rng.pick(order) } else { rng.byte() };
+        }
+        _ => {}
+    }
+}

@@ -1,0 +1,100 @@
+//! How much stack a call takes: the calls keep their tables there, and a caller's threads must have room for them.
+
+use std::ffi::{c_int, c_void};
+use std::ptr;
+
+use evaluator::{Catalogue, Column, Condition, Question, Test, Tree};
+use generator::{encode_catalogue, encode_question};
+use trials::Run;
+
+/// The promise: less than this.
+const PROMISED: usize = 256 * 1_024;
+/// What the thread has, so that a call which takes more than promised is still measured.
+const GIVEN: usize = 1_024 * 1_024;
+const PAINT: u8 = 0xC3;
+
+/// A `pthread_attr_t`, as large as on x86-64 Linux.
+#[repr(C, align(8))]
+struct Attributes([u8; 56]);
+
+unsafe extern "C" {
+    fn pthread_attr_init(attributes: *mut Attributes) -> c_int;
+    fn pthread_attr_setstack(attributes: *mut Attributes, stack: *mut c_void, len: usize) -> c_int;
+    fn pthread_create(
+        thread: *mut usize,
+        attributes: *const Attributes,
+        start: extern "C" fn(*mut c_void) -> *mut c_void,
+        argument: *mut c_void,
+    ) -> c_int;
+    fn pthread_join(thread: usize, result: *mut *mut c_void) -> c_int;
+}
+
+/// The bytes of stack that are touched while a thread does this.
+fn stack_taken(work: extern "C" fn(*mut c_void) -> *mut c_void, argument: *mut c_void) -> usize {
+    let mut stack = vec![PAINT; GIVEN + 4_096];
+    let start = stack.as_mut_ptr().align_offset(4_096);
+    let (mut attributes, mut thread) = (Attributes([0; 56]), 0);
+    // SAFETY: the stack outlives the thread, which is joined here.
+    unsafe {
+        assert_eq!(pthread_attr_init(&raw mut attributes), 0);
+        assert_eq!(pthread_attr_setstack(&raw mut attributes, stack[start..].as_mut_ptr().cast(), GIVEN), 0);
+        assert_eq!(pthread_create(&raw mut thread, &raw const attributes, work, argument), 0);
+        assert_eq!(pthread_join(thread, ptr::null_mut()), 0);
+    }
+    let untouched = stack[start..].iter().take_while(|&&byte| byte == PAINT).count();
+    GIVEN - untouched
+}
+
+extern "C" fn nothing(_: *mut c_void) -> *mut c_void {
+    ptr::null_mut()
+}
+
+extern "C" fn every_call(given: *mut c_void) -> *mut c_void {
+    // SAFETY: the one argument that the test passes, which it does not use meanwhile.
+    let Run { catalogue, question, order, listed, looks, tally } = unsafe { &mut *given.cast::<Run>() };
+    let words = [
+        searchroom::raw::check_catalogue(catalogue),
+        searchroom::raw::check_question(catalogue, question),
+        searchroom::raw::outcome(catalogue, question, 0, 0),
+        searchroom::raw::run(catalogue, question, order, listed, looks, tally),
+    ];
+    if words.iter().all(|word| word.number() == 0) { given } else { ptr::null_mut() }
+}
+
+/// Eight groups deep, with 64 conditions, over 2,048 entries.
+fn largest() -> Run {
+    let made = Catalogue { entries: 2_048, columns: vec![Column::Numbers((0..2_048).collect())] };
+    let condition = |low| Condition { column: 0, test: Test::NumberFrom { low, high: 2_000 }, opposite: false };
+    let mut tree = Tree::AnyOf((7..64).map(Tree::Condition).collect());
+    for number in (0..7).rev() {
+        tree = Tree::AllOf(vec![Tree::Condition(number), tree]);
+    }
+    let asked = Question { tree, conditions: (0..64).map(condition).collect() };
+    Run {
+        catalogue: encode_catalogue(&made),
+        question: encode_question(&asked),
+        order: (0..64).collect(),
+        listed: vec![0; 256],
+        looks: vec![0; 16_384],
+        tally: vec![0; 8],
+    }
+}
+
+#[test]
+fn calls_take_less_stack_than_promised() {
+    let mut given = largest();
+    let before = given.tally.clone();
+    let thread_alone = stack_taken(nothing, ptr::null_mut());
+    let taken = stack_taken(every_call, (&raw mut given).cast()) - thread_alone;
+    assert_ne!(given.tally, before, "the run was accepted");
+    println!("the calls take at most {taken} bytes of stack");
+    assert!(taken < PROMISED, "{taken} bytes of stack, promised are less than {PROMISED}");
+    // The reader stops at the ninth group, however many there are.
+    let mut question = vec![80, 0, 0];
+    while question.len() + 3 <= 65_538 {
+        question = [[65].as_slice(), &(question.len() as u16).to_be_bytes(), &question].concat();
+    }
+    let mut given = Run { question, ..largest() };
+    let taken = stack_taken(every_call, (&raw mut given).cast()) - thread_alone;
+    assert!(taken < PROMISED, "{taken} bytes of stack for 21,845 nested groups");
+}

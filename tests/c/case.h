@@ -1,0 +1,33 @@
+/* Test cases in C: each is a function that expects things; a case passes if all that it expects holds. */
+#ifndef CASE_H
+#define CASE_H
+
+#include <stddef.h>
+#include <stdint.h>
+
+/* Fails the case that is running unless the two numbers are equal. */
+#define EXPECT_EQ(actual, expected) expect_eq((uint64_t)(actual), (uint64_t)(expected), #actual, __FILE__, __LINE__)
+
+/* Fails the case that is running unless the condition holds. */
+#define EXPECT(condition) expect_eq((condition) ? 1u : 0u, 1u, #condition, __FILE__, __LINE__)
+
+void expect_eq(uint64_t actual, uint64_t expected, const char *what, const char *file, int line);
+
+/* Runs a case and counts it as passed or failed. */
+void run_case(const char *name, void (*body)(void));
+
+#define CASE(body) run_case(#body, body)
+
+/* A copy of bytes whose end lies hard against an unreadable page: to read or write past it is a fault. */
+uint8_t *lend(const uint8_t *bytes, size_t len);
+void give_back(uint8_t *lent, size_t len);
+
+/* The bytes of a file, which must be there; the caller frees them. */
+uint8_t *read_file(const char *path, size_t *len);
+
+/* The cases of each call. */
+void catalogue_cases(void);
+void question_cases(void);
+void run_cases(void);
+
+#endif

@@ -1,0 +1,125 @@
+/* searchroom_run. */
+#include "../../include/searchroom.h"
+#include "case.h"
+#include <stdlib.h>
+#include <string.h>
+
+static uint8_t *catalogue, *question;
+static size_t catalogue_len, question_len;
+
+/* A run of the parish with tables of these lengths, every table against an unreadable page and filled with one byte. */
+typedef struct {
+    const uint8_t *order;
+    size_t order_len, listed_len, looks_len, tally_len;
+    uint8_t fill;
+} Lengths;
+
+/* The tables afterwards. */
+static uint8_t listed[SEARCHROOM_LISTED_BYTES], looks[SEARCHROOM_LOOKS_BYTES], tally[64];
+
+static uint64_t run(Lengths with)
+{
+    memset(listed, with.fill, sizeof listed);
+    memset(looks, with.fill, sizeof looks);
+    memset(tally, with.fill, sizeof tally);
+    uint8_t *lent_listed = lend(listed, with.listed_len);
+    uint8_t *lent_looks = lend(looks, with.looks_len);
+    uint8_t *lent_tally = lend(tally, with.tally_len);
+    uint64_t word = searchroom_run(catalogue, catalogue_len, question, question_len, with.order, with.order_len,
+                                   lent_listed, with.listed_len, lent_looks, with.looks_len, lent_tally, with.tally_len);
+    memcpy(listed, lent_listed, with.listed_len);
+    memcpy(looks, lent_looks, with.looks_len);
+    memcpy(tally, lent_tally, with.tally_len);
+    give_back(lent_listed, with.listed_len);
+    give_back(lent_looks, with.looks_len);
+    give_back(lent_tally, with.tally_len);
+    return word;
+}
+
+/* Every table still holds what it was filled with. */
+static int all_unaltered(uint8_t fill)
+{
+    for (size_t i = 0; i < sizeof listed; i++)
+        if (listed[i] != fill)
+            return 0;
+    for (size_t i = 0; i < sizeof looks; i++)
+        if (looks[i] != fill)
+            return 0;
+    for (size_t i = 0; i < sizeof tally; i++)
+        if (tally[i] != fill)
+            return 0;
+    return 1;
+}
+
+static void expect_refused(Lengths with, unsigned number)
+{
+    EXPECT_EQ(run(with), number);
+    EXPECT(all_unaltered(with.fill));
+}
+
+static const uint8_t forward[] = {0, 1, 2}, backward[] = {2, 1, 0}, repeated[] = {0, 0, 2};
+
+static void parish_in_order(void)
+{
+    uint64_t word = run((Lengths){forward, 3, 1, 3, 8, 0});
+    EXPECT_EQ(searchroom_number(word), SEARCHROOM_ACCEPTED);
+    EXPECT_EQ(searchroom_found(word), 2);
+    EXPECT_EQ(searchroom_second(word), 0);
+    EXPECT_EQ(searchroom_look_count(word), 6);
+    EXPECT_EQ(listed[0], 5);
+    EXPECT(memcmp(looks, (const uint8_t[]){7, 1, 6}, 3) == 0);
+    EXPECT(memcmp(tally, (const uint8_t[]){0, 0, 0, 0, 0, 0, 0, 6}, 8) == 0);
+    EXPECT_EQ(searchroom_row(3), 1);
+    EXPECT_EQ(searchroom_row(9), 2);
+    EXPECT_EQ(searchroom_bit(listed, 1), 0);
+    EXPECT_EQ(searchroom_bit(listed, 2), 1);
+}
+
+static void parish_in_reverse(void)
+{
+    uint64_t word = run((Lengths){backward, 3, 1, 3, 8, 0});
+    EXPECT_EQ(searchroom_found(word), 2);
+    EXPECT_EQ(searchroom_look_count(word), 7);
+    EXPECT_EQ(listed[0], 5);
+}
+
+static void longer_tables_keep_their_further_bytes(void)
+{
+    uint64_t word = run((Lengths){forward, 3, 40, 90, 8, 0x5A});
+    EXPECT_EQ(searchroom_found(word), 2);
+    EXPECT_EQ(listed[0], 5);
+    EXPECT(memcmp(looks, (const uint8_t[]){7, 1, 6}, 3) == 0);
+    for (size_t i = 1; i < 40; i++)
+        EXPECT_EQ(listed[i], 0x5A);
+    for (size_t i = 3; i < 90; i++)
+        EXPECT_EQ(looks[i], 0x5A);
+    EXPECT(memcmp(tally, (const uint8_t[]){0x5A, 0x5A, 0x5A, 0x5A, 0x5A, 0x5A, 0x5A, 0x60}, 8) == 0);
+}
+
+static void refusals_alter_nothing(void)
+{
+    expect_refused((Lengths){forward, 2, 1, 3, 8, 9}, SEARCHROOM_BAD_ORDER);
+    expect_refused((Lengths){repeated, 3, 1, 3, 8, 9}, SEARCHROOM_BAD_ORDER);
+    expect_refused((Lengths){forward, 3, 0, 3, 8, 9}, SEARCHROOM_SHORT_TABLE);
+    expect_refused((Lengths){forward, 3, 1, 2, 8, 9}, SEARCHROOM_SHORT_TABLE);
+    expect_refused((Lengths){forward, 3, 1, 3, 7, 9}, SEARCHROOM_BAD_TALLY);
+    expect_refused((Lengths){forward, 3, 1, 3, 9, 9}, SEARCHROOM_BAD_TALLY);
+    expect_refused((Lengths){forward, 3, 1, 3, 8, 0xFF}, SEARCHROOM_BAD_TALLY);
+    expect_refused((Lengths){repeated, 3, 0, 0, 0, 9}, SEARCHROOM_BAD_ORDER);
+    expect_refused((Lengths){forward, 3, 0, 0, 0, 9}, SEARCHROOM_SHORT_TABLE);
+    question_len--;
+    expect_refused((Lengths){repeated, 3, 0, 0, 0, 9}, SEARCHROOM_QUESTION_FIELD);
+    question_len++;
+}
+
+void run_cases(void)
+{
+    catalogue = read_file("examples/parish/catalogue.bin", &catalogue_len);
+    question = read_file("examples/parish/question.bin", &question_len);
+    CASE(parish_in_order);
+    CASE(parish_in_reverse);
+    CASE(longer_tables_keep_their_further_bytes);
+    CASE(refusals_alter_nothing);
+    free(catalogue);
+    free(question);
+}
