@@ -2,3 +2,4 @@ pub mod Decimal
 pub mod DecimalLaws
 pub mod Register
 pub mod RegisterLaws
+pub mod Parish
