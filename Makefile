@@ -1,14 +1,26 @@
 # The commands of README.md.
 archive := target/staticlib/libsearchroom.a
+sources := crates.txt $(shell find crates -name '*.rt' -o -name '*.antt')
 
-# the example parish through the C example
-parish: $(archive)
-	@$(MAKE) -s -C examples/c parish
+# consult on the example parish: proves and builds it first
+parish: target/bin/consult
+	@cd examples/parish && ../../target/bin/consult
 
-$(archive): crates.txt $(shell find crates -name '*.rt' -o -name '*.antt')
+target/bin/consult: $(sources)
+	rt check consult
+
+# the archive that C and Rust link
+library: $(archive)
+
+$(archive): $(sources)
 	rt staticlib searchroom
 
+# the whole test run
 test:
 	.ci/run
 
-.PHONY: parish test
+# header, archive and pkg-config file under PREFIX
+install: $(archive)
+	$(MAKE) -C include install
+
+.PHONY: parish library test install
