@@ -26,7 +26,7 @@ use Rattle.strategy.specs.Bools.{leb-le}
 use Rattle.strategy.specs.Tree.{Tree, Forest, size, Numbered}
 use Rattle.query.specs.declared.member.MemberField.{MemberField}
 use Rattle.query.specs.declared.member.MemberField.the-variants as field
-use Rattle.query.specs.Format.{depthLimit, bytesAfterQuery}
+use Rattle.query.specs.Format.{bytesAfterQuery}
 use Rattle.query.specs.Query.{Query}
 use Rattle.query.specs.Sound.{IsRefusal, SoundField}
 use Rattle.query.specs.Decode.{memberField, Read, stopped, read, asGroup, fieldThen, putBefore, memberThen, unlessEnd, member, members, wholeQuery, decodeTagged, decodeQuery}
@@ -36,7 +36,9 @@ use Rattle.searchroom.specs.declared.word.Answer.{Answer}
 use Rattle.searchroom.specs.declared.word.Answer.the-variants.{Refused, Accepted}
 use Rattle.searchroom.specs.Word.{packed, numberOf, firstOf as firstResult, secondOf, thirdOf, FitsWord}
 use Rattle.searchroom.specs.Input.{Input, decodeInput}
-use Rattle.searchroom.specs.Demands.{Gives, Reads, FormBroken, Nests, NestAll}
+use Rattle.query.specs.Depth.{depth}
+use Rattle.query.proofs.Accepted.{query-well-formed}
+use Rattle.searchroom.specs.Demands.{Gives, Reads, FormBroken}
 
 -- EVERY CATALOGUE: refused by 1 to 6, or within its limits
 
@@ -164,61 +166,12 @@ mutual
       (member-refusing k tags q at end depth earlier (omega arith)) (member-sound k tags q at end depth earlier)
       (λ ps next x y. members-refusing k tags q next end depth (earlier ++ ps) (omega arith)))
 
--- and its groups nest at most 8 deep, of which `depth` stand outside of what is read
-abbrev NestedTree : (depth : ℕ) → Read (Tree ℕ) → Type 0
-NestedTree depth (stopped e) = Unit {0}
-NestedTree depth (read t ps next) = Nests (depthLimit - depth) t
-
-abbrev NestedForest : (depth : ℕ) → Read (Forest ℕ) → Type 0
-NestedForest depth (stopped e) = Unit {0}
-NestedForest depth (read f ps next) = NestAll (depthLimit - depth) f
-
-group-nests : (depth tag : ℕ) → depth < depthLimit → (o : Read (Forest ℕ)) → NestedForest (depth + 1) o → NestedTree depth (asGroup tag o)
-group-nests depth tag l (stopped e) s = tt
-group-nests depth tag l (read f ps next) s =
-    let less : depthLimit - (depth + 1) ≡ depthLimit - depth - 1 = omega arith in
-    (omega arith, rw less at s)
-
-before-nests : (depth : ℕ) (t : Tree ℕ) (ps : List Predicate) → Nests (depthLimit - depth) t → (o : Read (Forest ℕ)) → NestedForest depth o
-    → NestedForest depth (putBefore t ps o)
-before-nests depth t ps n (stopped e) s = tt
-before-nests depth t ps n (read f rest next) s = (n, s)
-
-module _ (tags q : List ℕ) (at end depth : ℕ) where
-  field-nests : (number : ℕ) (h : MemberField) (go : ℕ → ℕ → Read (Forest ℕ)) → SoundField tags q at end depth number h
-      → ((start stop : ℕ) → NestedForest (depth + 1) (go start stop)) → NestedTree depth (fieldThen q number h go)
-  field-nests number (field.Refused e) go s g = tt
-  field-nests number (field.Leaf start stop) go s g = tt
-  field-nests number (field.Group tag start stop) go s g = group-nests depth tag (s .3) (go start stop) (g start stop)
-
-  then-nests : (b : Bool) (o : Read (Tree ℕ)) (rest : List Predicate → ℕ → Read (Forest ℕ)) → NestedTree depth o
-      → ((ps : List Predicate) (next : ℕ) → NestedForest depth (rest ps next)) → NestedForest depth (unlessEnd b at (memberThen o rest))
-  then-nests true o rest s r = tt
-  then-nests false (stopped e) rest s r = tt
-  then-nests false (read t ps next) rest s r = before-nests depth t ps s (rest ps next) (r ps next)
-
-mutual
-  unfolding member
-
-  member-nests : (k : ℕ) (tags q : List ℕ) (at end depth : ℕ) (earlier : List Predicate) → NestedTree depth (member k tags q at end depth earlier)
-  member-nests zero tags q at end depth earlier = tt
-  member-nests (suc k) tags q at end depth earlier =
-      field-nests tags q at end depth (length earlier) (memberField tags q depth earlier (headerAt q at end)) (λ s e. members k tags q s e (depth + 1) earlier)
-      (field-sound tags q at end depth earlier) (λ s e. members-nest k tags q s e (depth + 1) earlier)
-
-  members-nest : (k : ℕ) (tags q : List ℕ) (at end depth : ℕ) (earlier : List Predicate) → NestedForest depth (members k tags q at end depth earlier)
-  members-nest zero tags q at end depth earlier = tt
-  members-nest (suc k) tags q at end depth earlier =
-      then-nests tags q at end depth (eqb at end) (member k tags q at end depth earlier) (λ ps next. members k tags q next end depth (earlier ++ ps))
-      (member-nests k tags q at end depth earlier) (λ ps next. members-nest k tags q next end depth (earlier ++ ps))
-
--- what an accepted query is: 1 to 64 predicates at as many leaves, numbered from 0, its groups within their depth
+-- what an accepted query is: 1 to 64 predicates at as many leaves, numbered from 0
 pub record Sound (Q : Query) : Type 0 where
   pub some : 1 ≤ length (Q .predicates)
   pub few : length (Q .predicates) ≤ 64
   pub leaves : size (Q .tree) ≡ length (Q .predicates)
   pub numbered : Numbered (Q .tree) 0
-  pub nested : Nests 8 (Q .tree)
 
 abbrev QuerySound : Decoded Query → Type 0
 QuerySound (refused e) = IsRefusal e
@@ -228,18 +181,18 @@ pub query-sound : (C : Catalogue) (q : List ℕ) → QuerySound (decodeQuery C q
 unfolding decodeQuery decodeTagged
 query-sound C q =
     go (member (2 * length q + 1) (tagsOf C) q 0 (length q) 0 []) (member-refusing (2 * length q + 1) (tagsOf C) q 0 (length q) 0 [] (omega arith))
-    (member-sound (2 * length q + 1) (tagsOf C) q 0 (length q) 0 []) (member-nests (2 * length q + 1) (tagsOf C) q 0 (length q) 0 [])
+    (member-sound (2 * length q + 1) (tagsOf C) q 0 (length q) 0 [])
   where
     end : (x : Bool) (t : Tree ℕ) (ps : List Predicate) → Sound (record { tree = t; predicates = ps })
         → QuerySound (either x (accepted (record { tree = t; predicates = ps })) (refused bytesAfterQuery))
     end true t ps s = s
     end false t ps s = omega arith
 
-    go : (o : Read (Tree ℕ)) → Refusing o → SoundTree (tagsOf C) q 0 (length q) 0 o → NestedTree 0 o → QuerySound (wholeQuery q o)
-    go (stopped e) r s n = r
-    go (read t ps next) r s n =
+    go : (o : Read (Tree ℕ)) → Refusing o → SoundTree (tagsOf C) q 0 (length q) 0 o → QuerySound (wholeQuery q o)
+    go (stopped e) r s = r
+    go (read t ps next) r s =
         let few = s .few (omega arith) in
-        end (eqb next (length q)) t ps (record { some = s .some; few = omega arith; leaves = s .counted; numbered = s .numbered; nested = n })
+        end (eqb next (length q)) t ps (record { some = s .some; few = omega arith; leaves = s .counted; numbered = s .numbered })
 
 -- BOTH TOGETHER
 
@@ -274,6 +227,10 @@ module _ (b q : List ℕ) where
 
   pub reads-sound : (i : Input) → Reads b q i → Sound (i .query)
   reads-sound i r = rw (r .1) at (query-sound (i .catalogue) q)
+
+  -- and its groups nest at most 8 deep
+  pub reads-shallow : (i : Input) → Reads b q i → depth (i .query .tree) ≤ 8
+  reads-shallow i r = query-well-formed (i .catalogue) q (i .query) (r .1) .shallow
 
 -- THE WORD TAKEN APART
 

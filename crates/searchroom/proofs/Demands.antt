@@ -33,7 +33,7 @@ use Rattle.searchroom.specs.Input.{Input}
 use Rattle.searchroom.specs.Answers.{outcomeNumber}
 use Rattle.searchroom.specs.Run.{rowCount, predicateCount, selection, probes, foundCount, lookCount}
 use Rattle.searchroom.specs.Demands.{after, Reads, RunningOrder, rowBytes, Kept, FirstBroken, pattern, treeValue, listedRow, looksRow, Demand1Number, Demand1Refused, Demand1Accepted, Demand1Limits, Demand1Catalogue, Demand1Question, Demand1Outcome, Demand2Tree, Demand2Listed, Demand2Looks, Demand2Further, Demand2Counts, Demand2Tally, Demand3, Demand3Ours, Demand3Run}
-use Rattle.searchroom.proofs.DemandLaws.{catalogue-limited, query-sound, reads-input, broken-input, broken-range, reads-limited, reads-sound, unpacked}
+use Rattle.searchroom.proofs.DemandLaws.{catalogue-limited, query-sound, reads-input, broken-input, broken-range, reads-limited, reads-sound, reads-shallow, unpacked}
 use Rattle.searchroom.proofs.DemandTables.{sum-le, row-of, row-count, front-old, order-plain, held, traced-due, probed-due, found-count, look-count, look-count-le, look-count-rows, selection-length, listed-row, probes-length, looks-row}
 use Rattle.searchroom.proofs.DemandRuns.{Cases, kept-run, broken-run, broken-number, run-cases, broken-gives, kept-gives}
 
@@ -98,7 +98,7 @@ pub demand-1-limits : Demand1Limits
 demand-1-limits = (
   λ b e h. rw h at (catalogue-limited b),
   λ C q e h. rw h at (query-sound C q),
-  λ b q i r. let C = reads-limited b q i r in let Q = reads-sound b q i r in (C .0, C .1, C .2, Q .some, Q .few, Q .nested),
+  λ b q i r. let C = reads-limited b q i r in let Q = reads-sound b q i r in (C .0, C .1, C .2, Q .some, Q .few, reads-shallow b q i r),
 )
 
 -- DEMAND 2

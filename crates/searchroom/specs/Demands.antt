@@ -13,6 +13,7 @@ use Rattle.fields.specs.Numbers.{numberAt, bytesOf}
 use Rattle.catalogue.specs.Catalogue.{Catalogue}
 use Rattle.catalogue.specs.Decode.{decodeCatalogue}
 use Rattle.predicate.specs.Meaning.{outcome}
+use Rattle.query.specs.Depth.{depth}
 use Rattle.query.specs.Decode.{decodeQuery}
 use Rattle.strategy.specs.Tree.{Tree, leaf, group, Forest, none, more, all, any, eval}
 use Rattle.strategy.specs.Assignment.{Assignment, Among}
@@ -64,16 +65,6 @@ Reads b q i = (decodeCatalogue b ≡ accepted (i .catalogue)) × (decodeQuery (i
 -- or this is the first that they break: "Checking a question first gives 1 to 6 for the catalogue, then walks the question."
 abbrev pub FormBroken : (catalogue question : List ℕ) → ℕ → Type 0
 FormBroken b q e = (decodeCatalogue b ≡ refused e) ⊎ ((C : Catalogue) × (decodeCatalogue b ≡ accepted C) × (decodeQuery C q ≡ refused e))
-
--- "Groups may nest 8 deep, the outermost being 1": the groups of a tree nest at most so deep
-abbrev mutual
-  pub Nests : (deep : ℕ) → Tree ℕ → Type 0
-  Nests deep (leaf c) = Unit {0}
-  Nests deep (group k f) = (1 ≤ deep) × NestAll (deep - 1) f
-
-  pub NestAll : (deep : ℕ) → Forest ℕ → Type 0
-  NestAll deep none = Unit {0}
-  NestAll deep (more t f) = Nests deep t × NestAll deep f
 
 -- "A running order is n bytes holding each condition number once."
 abbrev pub RunningOrder : Input → (order : List ℕ) → Type 0
@@ -179,7 +170,7 @@ Demand1Limits =
     × ((C : Catalogue) (q : List ℕ) (e : ℕ) → decodeQuery C q ≡ refused e → (7 ≤ e) × (e ≤ 14))
     × ((b q : List ℕ) (i : Input) → Reads b q i
     → (rowCount i ≤ 2048) × (1 ≤ length (i .catalogue .columns)) × (length (i .catalogue .columns) ≤ 16)
-    × (1 ≤ predicateCount i) × (predicateCount i ≤ 64) × Nests 8 (i .query .tree))
+    × (1 ≤ predicateCount i) × (predicateCount i ≤ 64) × (depth (i .query .tree) ≤ 8))
 
 -- DEMAND 2
 
