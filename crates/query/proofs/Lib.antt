@@ -10,3 +10,4 @@ pub mod Induction
 pub mod EncodeLaws
 pub mod Distinct
 pub mod Accepted
+pub mod Tabulated

@@ -1,4 +1,4 @@
--- The table of predicates: a record put, the predicates listed, and the predicate of a payload.
+-- The spans of predicates: a span put, the predicates listed, and the predicate of a payload.
 use Prim.Native.Nat.{ℕ, zero, suc, _+_, _-_, _*_, _≤_, _<_}
 use native.Mathlib.Numerals.{add-one}
 use native.Mathlib.Omega.{arith}
@@ -10,107 +10,72 @@ use lib.Seq.{getD-set-same, getD-set-other, getD-take, getD-drop, getD-at, drop-
 use Rattle.strategy.specs.Bools.{same?}
 use Rattle.predicate.specs.Meaning.{Predicate}
 use Rattle.predicate.specs.Payload.{payloadHead, predicateOf}
-use Rattle.query.specs.declared.table.PredicateRecord.{PredicateRecord}
 use Rattle.query.specs.Format.{predicateLimit}
 use Rattle.query.specs.Decode.{payloadAt}
-use Rattle.query.specs.Table.{recordWidth, tableSize, recordAt, recordOf, predicateIn, listed, Placed, Put}
+use Rattle.query.specs.Spans.{spanWidth, spansSize, startAt, endAt, Placed, PutSpan}
+use Rattle.query.specs.Table.{recordAt, recordOf, predicateIn, listed}
 
--- the four stores of a record
+-- the two stores of a span
 
-module _ (T : List ℕ) (c : ℕ) (r : PredicateRecord) (sized : length T ≡ tableSize) (inside : c < predicateLimit) where
-  first : List ℕ
-  first = set T (recordWidth * c) (r .column)
-
-  second : List ℕ
-  second = set first (recordWidth * c + 1) (r .kind)
-
-  third : List ℕ
-  third = set second (recordWidth * c + 2) (r .place)
+module _ (S : List ℕ) (c start end : ℕ) (sized : length S ≡ spansSize) (inside : c < predicateLimit) where
+  abbrev first : List ℕ
+  first = set S (spanWidth * c) start
 
   abbrev stored : List ℕ
-  stored =
-      set (set (set (set T (recordWidth * c) (r .column)) (recordWidth * c + 1) (r .kind)) (recordWidth * c + 2) (r .place)) (recordWidth * c + 3) (r .size)
+  stored = set first (spanWidth * c + 1) end
 
-  stored-off : (j : ℕ) → (j ≡ recordWidth * c → ⊥) → (j ≡ recordWidth * c + 1 → ⊥) → (j ≡ recordWidth * c + 2 → ⊥) → (j ≡ recordWidth * c + 3 → ⊥)
-      → getD stored j 0 ≡ getD T j 0
-  unfolding first second third
-  stored-off j a b d e =
-      getD-set-other third (recordWidth * c + 3) j (r .size) 0 e ∙ getD-set-other second (recordWidth * c + 2) j (r .place) 0 d
-      ∙ getD-set-other first (recordWidth * c + 1) j (r .kind) 0 b ∙ getD-set-other T (recordWidth * c) j (r .column) 0 a
+  stored-off : (j : ℕ) → (j ≡ spanWidth * c → ⊥) → (j ≡ spanWidth * c + 1 → ⊥) → getD stored j 0 ≡ getD S j 0
+  stored-off j a b = getD-set-other first (spanWidth * c + 1) j end 0 b ∙ getD-set-other S (spanWidth * c) j start 0 a
 
-  stored-column : getD stored (recordWidth * c) 0 ≡ r .column
-  unfolding first second third
-  stored-column =
-      getD-set-other third (recordWidth * c + 3) (recordWidth * c) (r .size) 0 (λ e. omega arith) ∙ getD-set-other second (recordWidth * c + 2) (recordWidth * c) (r .place) 0 (λ e. omega arith)
-      ∙ getD-set-other first (recordWidth * c + 1) (recordWidth * c) (r .kind) 0 (λ e. omega arith) ∙ getD-set-same T (recordWidth * c) (r .column) 0 (omega arith)
-
-  stored-kind : getD stored (recordWidth * c + 1) 0 ≡ r .kind
-  unfolding first second third
-  stored-kind =
-      getD-set-other third (recordWidth * c + 3) (recordWidth * c + 1) (r .size) 0 (λ e. omega arith) ∙ getD-set-other second (recordWidth * c + 2) (recordWidth * c + 1) (r .place) 0 (λ e. omega arith)
-      ∙ getD-set-same first (recordWidth * c + 1) (r .kind) 0 (rw length-set (omega arith))
-
-  stored-place : getD stored (recordWidth * c + 2) 0 ≡ r .place
-  unfolding first second third
-  stored-place =
-      getD-set-other third (recordWidth * c + 3) (recordWidth * c + 2) (r .size) 0 (λ e. omega arith)
-      ∙ getD-set-same second (recordWidth * c + 2) (r .place) 0 (simp length-set (omega arith))
-
-  stored-size : getD stored (recordWidth * c + 3) 0 ≡ r .size
-  unfolding first second third
-  stored-size = getD-set-same third (recordWidth * c + 3) (r .size) 0 (simp length-set (omega arith))
-
-  pub put-stored : Put c r T stored
-  unfolding recordAt
+  pub put-stored : PutSpan c start end S stored
   put-stored = record {
-    here = rw (stored-column, stored-kind, stored-place, stored-size);
-    elsewhere = λ d n. rw (
-      stored-off (recordWidth * d) (λ e. n (omega arith)) (λ e. n (omega arith)) (λ e. n (omega arith)) (λ e. n (omega arith)),
-      stored-off (recordWidth * d + 1) (λ e. n (omega arith)) (λ e. n (omega arith)) (λ e. n (omega arith)) (λ e. n (omega arith)),
-      stored-off (recordWidth * d + 2) (λ e. n (omega arith)) (λ e. n (omega arith)) (λ e. n (omega arith)) (λ e. n (omega arith)),
-      stored-off (recordWidth * d + 3) (λ e. n (omega arith)) (λ e. n (omega arith)) (λ e. n (omega arith)) (λ e. n (omega arith)),
+    start-here = getD-set-other first (spanWidth * c + 1) (spanWidth * c) end 0 (λ e. omega arith) ∙ getD-set-same S (spanWidth * c) start 0 (omega arith);
+    end-here = getD-set-same first (spanWidth * c + 1) end 0 (rw length-set (omega arith));
+    elsewhere = λ d n. (
+      stored-off (spanWidth * d) (λ e. n (omega arith)) (λ e. n (omega arith)),
+      stored-off (spanWidth * d + 1) (λ e. n (omega arith)) (λ e. n (omega arith)),
     );
   }
 
 -- the predicates listed
 
-pub listed-length : (q T : List ℕ) (n : ℕ) → length (listed q T n) ≡ n
+pub listed-length : (q S : List ℕ) (n : ℕ) → length (listed q S n) ≡ n
 unfolding listed
-listed-length q T zero = refl
-listed-length q T (suc n) = rw length-append (omega (arith, listed-length q T n))
+listed-length q S zero = refl
+listed-length q S (suc n) = rw length-append (omega (arith, listed-length q S n))
 
-pub listed-at : (q T : List ℕ) (n c : ℕ) (other : Predicate) → c < n → getD (listed q T n) c other ≡ predicateIn q (recordAt T c)
+pub listed-at : (q S : List ℕ) (n c : ℕ) (other : Predicate) → c < n → getD (listed q S n) c other ≡ predicateIn q (recordAt q S c)
 unfolding listed
-listed-at q T zero c other l = absurd (omega arith)
-listed-at q T (suc n) c other l =
-    let size : length (listed q T n) ≡ n = listed-length q T n in
-    let go : (c ≡ n) ⊎ (c ≡ n → ⊥) → getD (listed q T n ++ (predicateIn q (recordAt T n) ∷ [])) c other ≡ predicateIn q (recordAt T c)
+listed-at q S zero c other l = absurd (omega arith)
+listed-at q S (suc n) c other l =
+    let size : length (listed q S n) ≡ n = listed-length q S n in
+    let go : (c ≡ n) ⊎ (c ≡ n → ⊥) → getD (listed q S n ++ (predicateIn q (recordAt q S n) ∷ [])) c other ≡ predicateIn q (recordAt q S c)
     = elim [
-      | inl e ↦ rw e (getD-at (listed q T n) (predicateIn q (recordAt T n)) [] other n size)
-      | inr e ↦ List·getD-append (listed q T n) (predicateIn q (recordAt T n) ∷ []) other c (omega arith) ∙ listed-at q T n c other (omega arith)
+      | inl e ↦ rw e (getD-at (listed q S n) (predicateIn q (recordAt q S n)) [] other n size)
+      | inr e ↦ List·getD-append (listed q S n) (predicateIn q (recordAt q S n) ∷ []) other c (omega arith) ∙ listed-at q S n c other (omega arith)
     ] in
     go (same? c n)
 
-listed-same : (q T T′ : List ℕ) (n : ℕ) → ((c : ℕ) → c < n → recordAt T′ c ≡ recordAt T c) → listed q T′ n ≡ listed q T n
+listed-same : (q S S′ : List ℕ) (n : ℕ) → ((c : ℕ) → c < n → (startAt S′ c ≡ startAt S c) × (endAt S′ c ≡ endAt S c)) → listed q S′ n ≡ listed q S n
 unfolding listed
-listed-same q T T′ zero h = refl
-listed-same q T T′ (suc n) h = rw (h n (omega arith), listed-same q T T′ n (λ c l. h c (omega arith)))
+listed-same q S S′ zero h = refl
+listed-same q S S′ (suc n) h = rw (h n (omega arith) .0, h n (omega arith) .1, listed-same q S S′ n (λ c l. h c (omega arith)))
 
-module _ (q T T′ : List ℕ) (n : ℕ) (r : PredicateRecord) (p : Put n r T T′) where
-  pub listed-put : listed q T′ (n + 1) ≡ listed q T n ++ (predicateIn q r ∷ [])
+module _ (q S S′ : List ℕ) (n start end : ℕ) (p : PutSpan n start end S S′) where
+  pub listed-put : listed q S′ (n + 1) ≡ listed q S n ++ (predicateIn q (recordOf q start end) ∷ [])
   unfolding listed
-  listed-put = rw (add-one n, p .here, listed-same q T T′ n (λ c l. p .elsewhere c (λ e. omega arith)))
+  listed-put = rw (add-one n, p .start-here, p .end-here, listed-same q S S′ n (λ c l. p .elsewhere c (λ e. omega arith)))
 
-  pub placed-put : Placed q T n → r .place + r .size ≤ length q → Placed q T′ (n + 1)
-  placed-put h l c k = go (same? c n)
+  pub placed-put : ((c : ℕ) → c < n → Placed q S c) → start + payloadHead ≤ end → end ≤ length q → (c : ℕ) → c < n + 1 → Placed q S′ c
+  placed-put h a b c k = go (same? c n)
     where
-      go : (c ≡ n) ⊎ (c ≡ n → ⊥) → recordAt T′ c .place + recordAt T′ c .size ≤ length q
-      go (inl e) = rw (e, p .here) l
-      go (inr e) = rw (p .elsewhere c e) (h c (omega arith))
+      go : (c ≡ n) ⊎ (c ≡ n → ⊥) → Placed q S′ c
+      go (inl e) = rw (e, p .start-here, p .end-here) (a, b)
+      go (inr e) = rw (p .elsewhere c e .0, p .elsewhere c e .1) (h c (omega arith))
 
 -- the predicate of a payload stands in the query as its record says
 
-payload-byte : (q : List ℕ) (start end i : ℕ) → i < end - start → getD (payloadAt q start end) i 0 ≡ getD q (start + i) 0
+pub payload-byte : (q : List ℕ) (start end i : ℕ) → i < end - start → getD (payloadAt q start end) i 0 ≡ getD q (start + i) 0
 unfolding payloadAt
 payload-byte q start end i l = getD-take (end - start) (drop start q) i 0 l ∙ getD-drop start q i 0
 

@@ -1,4 +1,4 @@
--- The check for an earlier payload: byte by byte, and record by record.
+-- The check for an earlier payload: byte by byte, and span by span.
 use Prim.Native.Nat.{ℕ, zero, suc, _+_, _-_, _≤_, _<_}
 use native.Mathlib.Numerals.{add-one}
 use native.Mathlib.Omega.{arith}
@@ -12,9 +12,11 @@ use lib.Dec.{eqb}
 use borrow.Author.Tests.{eq-eqb, ne-eqb}
 use Rattle.strategy.specs.Bools.{same?, or-left, or-right}
 use Rattle.predicate.specs.Meaning.{Predicate, same}
-use Rattle.query.specs.declared.table.PredicateRecord.{PredicateRecord}
-use Rattle.query.specs.Decode.{payloadOf, isRepeated}
+use Rattle.predicate.specs.Payload.{payloadHead}
+use Rattle.query.specs.Decode.{payloadAt, payloadOf, isRepeated}
+use Rattle.query.specs.Spans.{startAt, endAt, Placed}
 use Rattle.query.specs.Table.{recordAt, predicateIn, listed}
+use Rattle.query.proofs.Records.{payload-byte, payload-length, record-shows}
 
 -- bytes of two lengths are not the same
 pub same-sizes : (a b : List ℕ) → (length a ≡ length b → ⊥) → same a b ≡ false
@@ -43,28 +45,30 @@ module _ (a b : List ℕ) (i : ℕ) (so-far : same a b ≡ same (drop i a) (drop
 pub payload-parts : (payload : List ℕ) → 2 ≤ length payload → payload ≡ getD payload 0 0 ∷ getD payload 1 0 ∷ drop 2 payload
 payload-parts payload two = drop-cons payload 0 0 (omega arith) ∙ ap (λ l. getD payload 0 0 ∷ l) (drop-cons payload 1 0 (omega arith))
 
--- a payload against a record: column, kind, operand
-module _ (payload q : List ℕ) (p : PredicateRecord) (two : 2 ≤ length payload) where
-  payload-same : same payload (payloadOf (predicateIn q p))
-      ≡ (eqb (getD payload 0 0) (p .column) && (eqb (getD payload 1 0) (p .kind) && same (drop 2 payload) (take (p .size) (drop (p .place) q))))
+-- a payload against the bytes from `start` up to `end`
+module _ (payload q : List ℕ) (start end : ℕ) (some : 2 ≤ length payload) (two : start + payloadHead ≤ end) (inside : end ≤ length q) where
+  first-byte : getD (payloadAt q start end) 0 0 ≡ getD q start 0
+  first-byte = let z : start + 0 ≡ start = omega arith in rw z at (payload-byte q start end 0 (omega arith))
+
+  pub other-column : (getD payload 0 0 ≡ getD q start 0 → ⊥) → false ≡ same payload (payloadAt q start end)
   unfolding same
-  payload-same = ap (λ l. same l (payloadOf (predicateIn q p))) (payload-parts payload two)
+  other-column n =
+      let l : 0 < length (payloadAt q start end) = omega (arith, payload-length q start end (omega arith) inside) in
+      rw (drop-cons payload 0 0 (omega arith), drop-cons (payloadAt q start end) 0 0 l, first-byte, ne-eqb _ _ n)
 
-  module _ (x : ℕ) (x-is : x ≡ getD payload 0 0) where
-    pub other-column : (x ≡ p .column → ⊥) → false ≡ same payload (payloadOf (predicateIn q p))
-    other-column n = rw (payload-same, ← x-is, ne-eqb _ _ n)
+  pub same-part : (r : Bool) → r ≡ same payload (take (end - start) (drop start q)) → r ≡ same payload (payloadAt q start end)
+  unfolding payloadAt
+  same-part r e = e
 
-    module _ (column : x ≡ p .column) (y : ℕ) (y-is : y ≡ getD payload 1 0) where
-      pub other-kind : (y ≡ p .kind → ⊥) → false ≡ same payload (payloadOf (predicateIn q p))
-      other-kind n = rw (payload-same, ← x-is, eq-eqb _ _ column, ← y-is, ne-eqb _ _ n)
+-- a span's payload is that of its predicate
+module _ (q S : List ℕ) (c : ℕ) (placed : Placed q S c) where
+  shown : payloadOf (predicateIn q (recordAt q S c)) ≡ payloadAt q (startAt S c) (endAt S c)
+  shown =
+      ap payloadOf (record-shows q (startAt S c) (endAt S c) (placed .0))
+      ∙ sym (payload-parts (payloadAt q (startAt S c) (endAt S c)) (omega (arith, payload-length q (startAt S c) (endAt S c) (omega arith) (placed .1))))
 
-      -- both operands are handed on as parts
-      pub same-operand : y ≡ p .kind → (r : Bool) → r ≡ same (take (length payload - 2) (drop 2 payload)) (take (p .place + p .size - p .place) (drop (p .place) q))
-          → r ≡ same payload (payloadOf (predicateIn q p))
-      same-operand kind r r-is =
-          let whole : take (length payload - 2) (drop 2 payload) ≡ drop 2 payload = take-all (length payload - 2) (drop 2 payload) (rw length-drop (omega arith)) in
-          let z : p .place + p .size - p .place ≡ p .size = omega arith in
-          rw (payload-same, ← x-is, eq-eqb _ _ column, ← y-is, eq-eqb _ _ kind) (rw (whole, z) at r-is)
+  pub same-shown : (payload : List ℕ) (r : Bool) → r ≡ same payload (payloadAt q (startAt S c) (endAt S c)) → r ≡ same payload (payloadOf (predicateIn q (recordAt q S c)))
+  same-shown payload r e = e ∙ ap (same payload) (sym shown)
 
 -- one predicate more to compare with
 repeated-last : (payload : List ℕ) (ps : List Predicate) (p : Predicate) → isRepeated payload (ps ++ (p ∷ [])) ≡ (isRepeated payload ps || same payload (payloadOf p))
@@ -73,31 +77,31 @@ repeated-last payload [] p = or-false (same payload (payloadOf p))
 repeated-last payload (o ∷ ps) p =
     ap (_||_ (same payload (payloadOf o))) (repeated-last payload ps p) ∙ sym (or-assoc (same payload (payloadOf o)) (isRepeated payload ps) (same payload (payloadOf p)))
 
--- the payload is that of none of the records from `c` up to `n`
-abbrev pub Unlike : (payload q table : List ℕ) → (c n : ℕ) → Type 0
-Unlike payload q T c n = (d : ℕ) → c ≤ d → d < n → same payload (payloadOf (predicateIn q (recordAt T d))) ≡ false
+-- the payload is that of none of the predicates from `c` up to `n`
+abbrev pub Unlike : (payload q spans : List ℕ) → (c n : ℕ) → Type 0
+Unlike payload q S c n = (d : ℕ) → c ≤ d → d < n → same payload (payloadOf (predicateIn q (recordAt q S d))) ≡ false
 
-pub repeated-none : (payload q T : List ℕ) (n : ℕ) → Unlike payload q T 0 n → isRepeated payload (listed q T n) ≡ false
+pub repeated-none : (payload q S : List ℕ) (n : ℕ) → Unlike payload q S 0 n → isRepeated payload (listed q S n) ≡ false
 unfolding isRepeated listed
-repeated-none payload q T zero h = refl
-repeated-none payload q T (suc n) h =
-    repeated-last payload (listed q T n) (predicateIn q (recordAt T n))
-    ∙ rw (repeated-none payload q T n (λ d i j. h d i (omega arith)), h n (omega arith) (omega arith))
+repeated-none payload q S zero h = refl
+repeated-none payload q S (suc n) h =
+    repeated-last payload (listed q S n) (predicateIn q (recordAt q S n))
+    ∙ rw (repeated-none payload q S n (λ d i j. h d i (omega arith)), h n (omega arith) (omega arith))
 
-module _ (payload q T : List ℕ) (r : Bool) (c : ℕ) (r-is : r ≡ same payload (payloadOf (predicateIn q (recordAt T c)))) where
-  pub repeated-at : (n : ℕ) → c < n → r ≡ true → true ≡ isRepeated payload (listed q T n)
+module _ (payload q S : List ℕ) (r : Bool) (c : ℕ) (r-is : r ≡ same payload (payloadOf (predicateIn q (recordAt q S c)))) where
+  pub repeated-at : (n : ℕ) → c < n → r ≡ true → true ≡ isRepeated payload (listed q S n)
   unfolding listed
   repeated-at zero l e = absurd (omega arith)
-  repeated-at (suc n) l e = sym (repeated-last payload (listed q T n) (predicateIn q (recordAt T n)) ∙ go (λ k. repeated-at n k e) (same? c n))
+  repeated-at (suc n) l e = sym (repeated-last payload (listed q S n) (predicateIn q (recordAt q S n)) ∙ go (λ k. repeated-at n k e) (same? c n))
     where
-      go : (c < n → true ≡ isRepeated payload (listed q T n)) → (c ≡ n) ⊎ (c ≡ n → ⊥)
-          → (isRepeated payload (listed q T n) || same payload (payloadOf (predicateIn q (recordAt T n)))) ≡ true
-      go h (inl z) = or-right (isRepeated payload (listed q T n)) (rw (← z) (sym r-is ∙ e))
-      go h (inr z) = or-left (same payload (payloadOf (predicateIn q (recordAt T n)))) (sym (h (omega arith)))
+      go : (c < n → true ≡ isRepeated payload (listed q S n)) → (c ≡ n) ⊎ (c ≡ n → ⊥)
+          → (isRepeated payload (listed q S n) || same payload (payloadOf (predicateIn q (recordAt q S n)))) ≡ true
+      go h (inl z) = or-right (isRepeated payload (listed q S n)) (rw (← z) (sym r-is ∙ e))
+      go h (inr z) = or-left (same payload (payloadOf (predicateIn q (recordAt q S n)))) (sym (h (omega arith)))
 
-  pub unlike-more : (n left next : ℕ) → left ≤ c + 1 → c ≤ next → Unlike payload q T left n → r ≡ false → Unlike payload q T next n
+  pub unlike-more : (n left next : ℕ) → left ≤ c + 1 → c ≤ next → Unlike payload q S left n → r ≡ false → Unlike payload q S next n
   unlike-more n left next a b h e d i j = go (same? d c)
     where
-      go : (d ≡ c) ⊎ (d ≡ c → ⊥) → same payload (payloadOf (predicateIn q (recordAt T d))) ≡ false
+      go : (d ≡ c) ⊎ (d ≡ c → ⊥) → same payload (payloadOf (predicateIn q (recordAt q S d))) ≡ false
       go (inl z) = rw z (sym r-is ∙ e)
       go (inr z) = h d (omega arith) j

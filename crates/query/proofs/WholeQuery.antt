@@ -48,19 +48,19 @@ each-last P [] p h = (tt, h .0)
 each-last P (o ∷ ps) p h = let r = each-last P ps p (h .1) in ((h .0, r .0), r .1)
 
 -- what holds of each predicate listed holds at each number
-each-listed : (P : Predicate → Type 0) (q T : List ℕ) (n : ℕ) → Each P (listed q T n) → (c : ℕ) → c < n → P (predicateIn q (recordAt T c))
+each-listed : (P : Predicate → Type 0) (q S : List ℕ) (n : ℕ) → Each P (listed q S n) → (c : ℕ) → c < n → P (predicateIn q (recordAt q S c))
 unfolding listed
-each-listed P q T zero h c l = absurd (omega arith)
-each-listed P q T (suc n) h c l =
-    let s = each-last P (listed q T n) (predicateIn q (recordAt T n)) h in
-    let go : (c ≡ n) ⊎ (c ≡ n → ⊥) → P (predicateIn q (recordAt T c))
-    = elim [ inl e ↦ rw e (s .1) | inr e ↦ each-listed P q T n (s .0) c (omega arith) ] in
+each-listed P q S zero h c l = absurd (omega arith)
+each-listed P q S (suc n) h c l =
+    let s = each-last P (listed q S n) (predicateIn q (recordAt q S n)) h in
+    let go : (c ≡ n) ⊎ (c ≡ n → ⊥) → P (predicateIn q (recordAt q S c))
+    = elim [ inl e ↦ rw e (s .1) | inr e ↦ each-listed P q S n (s .0) c (omega arith) ] in
     go (same? c n)
 
-recorded : (tags q T : List ℕ) (c : ℕ) → recordAt T c .place + recordAt T c .size ≤ length q → Fits tags q (predicateIn q (recordAt T c)) → Recorded tags q T c
-recorded tags q T c l f =
-    let v = valid-payload tags (payloadOf (predicateIn q (recordAt T c))) (f .valid) in
-    record { placed = l; valid = f .valid; column = v .column-in; kind = kind-small _ _ (v .kind-fits) }
+recorded : (tags q S : List ℕ) (c : ℕ) → Fits tags q (predicateIn q (recordAt q S c)) → Recorded tags q S c
+recorded tags q S c f =
+    let v = valid-payload tags (payloadOf (predicateIn q (recordAt q S c))) (f .valid) in
+    record { valid = f .valid; column = v .column-in; kind = kind-small _ _ (v .kind-fits) }
 
 module _ (tags q : List ℕ) (T T1 : Tables) where
   told : (r : _) → MemberRead tags q 0 (length q) 0 0 r T T1 → Told q enclosing 0 (member (2 * length q + 1) tags q 0 (length q) 0 []) r T T1
@@ -94,7 +94,7 @@ module _ (tags q : List ℕ) (T T1 : Tables) where
       go (read t ps next) d k =
           let z : next ≡ p = cc in
           let y : m ≡ length ps = (let w : m ≡ 0 + length ps = cc in omega arith) in
-          let l : listed q (T1 .records) (length ps) ≡ ps = (let w : 0 + length ps ≡ length ps = omega arith in rw w at (d .1)) in
+          let l : listed q (T1 .spans) (length ps) ≡ ps = (let w : 0 + length ps ≡ length ps = omega arith in rw w at (d .1)) in
           let few = k .few (omega arith) in
           rw (z, eq-eqb _ _ e) (
             ap Accepted y,
@@ -105,15 +105,16 @@ module _ (tags q : List ℕ) (T T1 : Tables) where
               leaves = k .counted;
               numbered = k .numbered;
               full = k .full;
+              spanned = record { sized = s .spans; few = omega arith; placed = λ c i. h .within .4 c (omega arith) };
               shown = l;
-              each = λ c i. recorded tags q (T1 .records) c (h .within .4 c (omega arith)) (each-listed (Fits tags q) q (T1 .records) (length ps) (rw l (k .each)) c i);
+              each = λ c i. recorded tags q (T1 .spans) c (each-listed (Fits tags q) q (T1 .spans) (length ps) (rw l (k .each)) c i);
               ladders = λ c i. d .2 .new c (omega arith, omega arith);
               low = λ c i. h .within .5 c (omega arith);
               sized = s;
             },
           )
 
--- predicate c of the query is the one that record c shows
+-- predicate c of the query is the one that its record shows
 pub tabled-predicate : (tags q : List ℕ) (Q : Query) (n : ℕ) (T : Tables) → Tabled tags q Q n T → (c : ℕ) (other : Predicate) → c < n
-    → getD (Q .predicates) c other ≡ predicateIn q (recordAt (T .records) c)
-tabled-predicate tags q Q n T t c other l = rw (← (t .shown)) (listed-at q (T .records) n c other l)
+    → getD (Q .predicates) c other ≡ predicateIn q (recordAt q (T .spans) c)
+tabled-predicate tags q Q n T t c other l = rw (← (t .shown)) (listed-at q (T .spans) n c other l)

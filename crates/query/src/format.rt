@@ -1,14 +1,5 @@
 // The numbers of the query's format; the contracts tie them to those of specs/Format.antt.
 
-// Document 01's condition.
-pub struct Predicate;
-
-impl Predicate {
-    pub const TAG: u8 = 80;
-
-    pub const LIMIT: usize = 64;
-}
-
 pub struct Group;
 
 impl Group {

@@ -1,9 +1,17 @@
 // The groups around each predicate: a ladder of at most eight rungs, the innermost group first.
 use crate::format::Group;
+use crate::table::Predicate;
 ghost use mathlib.Core.Path.{_≡_};
 ghost use Prim.Native.Nat.{_≤_};
 ghost use Rattle.query.specs.Format.{predicateLimit};
 ghost use Rattle.query.specs.Ladder.{LaddersSized, Low, Under, ClosedTo};
+
+pub struct Ladder;
+
+impl Ladder {
+    // The rungs of all ladders.
+    pub const TABLE: usize = Group::DEPTH_LIMIT * Predicate::LIMIT;
+}
 
 fn narrow(x: usize) -> u8
     requires { ⌜ x ≤ predicateLimit ⌝ }

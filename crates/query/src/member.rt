@@ -1,14 +1,15 @@
 // One field of a query.
 use crate::format::Group;
-use crate::format::Predicate;
 use crate::format::Refusal;
+use crate::table::Predicate;
 use fields::header::Header;
 ghost use mathlib.Core.Path.{_≡_};
 ghost use Prim.Native.Nat.{_≤_};
 ghost use lib.ListN.{length};
 ghost use Rattle.fields.specs.Header.{headerAt};
 ghost use Rattle.query.specs.Decode.{groupField, predicateField, memberField};
-ghost use Rattle.query.specs.Table.{listed, Listed};
+ghost use Rattle.query.specs.Spans.{Spanned};
+ghost use Rattle.query.specs.Table.{listed};
 ghost use Rattle.query.specs.Sound.{SoundField};
 
 // What stands where a member is expected, every check of it done but those of its own members; the payload is the
@@ -31,17 +32,17 @@ fn group_field(depth: usize, tag: u8, start: usize, end: usize) -> MemberField
     MemberField::Group { tag, start, end }
 }
 
-// The predicates before it are the first n of the table.
+// The predicates before it are the first n of the spans.
 fn predicate_field(
     tags: &[u8],
     q: &[u8],
     start: usize,
     end: usize,
     n: usize,
-    table: &[usize],
+    spans: &[usize],
 ) -> MemberField
-    requires { ⌜ (start ≤ end) × (end ≤ length (now q)) × Listed (now q) (now table) n ⌝ }
-    ensures { λ r. ⌜ r ≡ predicateField (now (tags .entry)) (now (q .entry)) (listed (now (q .entry)) (now (table .entry)) n) start end ⌝ }
+    requires { ⌜ (start ≤ end) × (end ≤ length (now q)) × Spanned (now q) (now spans) n ⌝ }
+    ensures { λ r. ⌜ r ≡ predicateField (now (tags .entry)) (now (q .entry)) (listed (now (q .entry)) (now (spans .entry)) n) start end ⌝ }
 {
     if Predicate::LIMIT <= n {
         return MemberField::Refused(Refusal::TOO_MANY_PREDICATES);
@@ -49,7 +50,7 @@ fn predicate_field(
     if !predicate::payload::payload_is_valid(tags, &q[start..end]) {
         return MemberField::Refused(Refusal::INVALID_PAYLOAD);
     }
-    if crate::repeated::is_repeated(&q[start..end], q, table, n) {
+    if crate::repeated::is_repeated(&q[start..end], q, spans, n) {
         return MemberField::Refused(Refusal::REPEATED_PAYLOAD);
     }
     MemberField::Leaf { start, end }
@@ -63,10 +64,10 @@ pub fn read_field(
     end: usize,
     depth: usize,
     n: usize,
-    table: &[usize],
+    spans: &[usize],
 ) -> MemberField
-    requires { ⌜ (at ≤ end) × (end ≤ length (now q)) × Listed (now q) (now table) n ⌝ }
-    ensures { λ r. ⌜ (r ≡ memberField (now (tags .entry)) (now (q .entry)) depth (listed (now (q .entry)) (now (table .entry)) n) (headerAt (now (q .entry)) at end)) × SoundField (now (tags .entry)) (now (q .entry)) at end depth n r ⌝ }
+    requires { ⌜ (at ≤ end) × (end ≤ length (now q)) × Spanned (now q) (now spans) n ⌝ }
+    ensures { λ r. ⌜ (r ≡ memberField (now (tags .entry)) (now (q .entry)) depth (listed (now (q .entry)) (now (spans .entry)) n) (headerAt (now (q .entry)) at end)) × SoundField (now (tags .entry)) (now (q .entry)) at end depth n r ⌝ }
 {
     match fields::header::read_header(q, at, end) {
         Header::Cut => MemberField::Refused(Refusal::MEMBER_CUT),
@@ -76,7 +77,7 @@ pub fn read_field(
             end: stop,
         } => {
             if tag == Predicate::TAG {
-                return predicate_field(tags, q, start, stop, n, table);
+                return predicate_field(tags, q, start, stop, n, spans);
             }
             if tag == Group::CONJUNCTION_TAG {
                 return group_field(depth, tag, start, stop);

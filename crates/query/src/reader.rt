@@ -17,19 +17,18 @@ pub fn read_member(
     end: usize,
     depth: usize,
     n: usize,
-    table: &mut [usize],
+    spans: &mut [usize],
     masks: &mut [u64],
     sorts: &mut [u8],
     heights: &mut [usize],
 ) -> Progress
-    requires { ⌜ Room at end depth n (now q) (tables (now table) (now masks) (now sorts) (now heights)) ⌝ }
-    ensures { λ r. ⌜ MemberRead (now (tags .entry)) (now (q .entry)) at end depth n r (tables (now (table .entry)) (now (masks .entry)) (now (sorts .entry)) (now (heights .entry))) (tables (now (table .exit)) (now (masks .exit)) (now (sorts .exit)) (now (heights .exit))) ⌝ }
+    requires { ⌜ Room at end depth n (now q) (tables (now spans) (now masks) (now sorts) (now heights)) ⌝ }
+    ensures { λ r. ⌜ MemberRead (now (tags .entry)) (now (q .entry)) at end depth n r (tables (now (spans .entry)) (now (masks .entry)) (now (sorts .entry)) (now (heights .entry))) (tables (now (spans .exit)) (now (masks .exit)) (now (sorts .exit)) (now (heights .exit))) ⌝ }
 {
-    match crate::member::read_field(tags, q, at, end, depth, n, table) {
+    match crate::member::read_field(tags, q, at, end, depth, n, spans) {
         MemberField::Refused(e) => Progress::Refused(e),
         MemberField::Leaf { start, end: stop } => {
-            let r = crate::table::record_of(q, start, stop);
-            crate::table::put_record(table, n, r);
+            crate::spans::put_span(spans, n, start, stop);
             heights[n] = 0;
             Progress::Next { at: stop, n: n + 1 }
         }
@@ -45,7 +44,7 @@ pub fn read_member(
                 stop,
                 depth + 1,
                 n,
-                table,
+                spans,
                 masks,
                 sorts,
                 heights,
@@ -68,18 +67,18 @@ fn read_group(
     end: usize,
     depth: usize,
     n: usize,
-    table: &mut [usize],
+    spans: &mut [usize],
     masks: &mut [u64],
     sorts: &mut [u8],
     heights: &mut [usize],
 ) -> Progress
-    requires { ⌜ Room at end depth n (now q) (tables (now table) (now masks) (now sorts) (now heights)) ⌝ }
-    ensures { λ r. ⌜ MembersRead (now (tags .entry)) (now (q .entry)) at end depth n r (tables (now (table .entry)) (now (masks .entry)) (now (sorts .entry)) (now (heights .entry))) (tables (now (table .exit)) (now (masks .exit)) (now (sorts .exit)) (now (heights .exit))) ⌝ }
+    requires { ⌜ Room at end depth n (now q) (tables (now spans) (now masks) (now sorts) (now heights)) ⌝ }
+    ensures { λ r. ⌜ MembersRead (now (tags .entry)) (now (q .entry)) at end depth n r (tables (now (spans .entry)) (now (masks .entry)) (now (sorts .entry)) (now (heights .entry))) (tables (now (spans .exit)) (now (masks .exit)) (now (sorts .exit)) (now (heights .exit))) ⌝ }
 {
     let mut p = at;
     let mut m = n;
     while p < end {
-        match read_member(tags, q, p, end, depth, m, table, masks, sorts, heights) {
+        match read_member(tags, q, p, end, depth, m, spans, masks, sorts, heights) {
             Progress::Refused(e) => {
                 return Progress::Refused(e);
             }

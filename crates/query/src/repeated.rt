@@ -1,13 +1,13 @@
 // Whether a payload is that of an earlier predicate.
-use crate::table::PredicateRecord;
-use predicate::payload::Payload;
+use crate::spans::Span;
 ghost use mathlib.Core.Path.{_≡_};
 ghost use Prim.Native.Nat.{_+_, _≤_};
 ghost use lib.ListN.{length};
 ghost use Rattle.predicate.specs.Meaning.{same};
 ghost use Rattle.predicate.specs.Payload.{payloadHead};
-ghost use Rattle.query.specs.Decode.{payloadOf, isRepeated};
-ghost use Rattle.query.specs.Table.{predicateIn, listed, Listed};
+ghost use Rattle.query.specs.Decode.{payloadAt, isRepeated};
+ghost use Rattle.query.specs.Spans.{Spanned};
+ghost use Rattle.query.specs.Table.{listed};
 
 fn same_bytes(a: &[u8], b: &[u8]) -> bool
     ensures { λ r. ⌜ r ≡ same (now (a .entry)) (now (b .entry)) ⌝ }
@@ -25,29 +25,29 @@ fn same_bytes(a: &[u8], b: &[u8]) -> bool
     true
 }
 
-fn is_payload_of(payload: &[u8], q: &[u8], p: PredicateRecord) -> bool
-    requires { ⌜ (payloadHead ≤ length (now payload)) × (p .place + p .size ≤ length (now q)) ⌝ }
-    ensures { λ r. ⌜ r ≡ same (now (payload .entry)) (payloadOf (predicateIn (now (q .entry)) p)) ⌝ }
+// Whether the payload is the bytes from start up to end.
+fn is_payload_at(payload: &[u8], q: &[u8], start: usize, end: usize) -> bool
+    requires { ⌜ (payloadHead ≤ length (now payload)) × (start + payloadHead ≤ end) × (end ≤ length (now q)) ⌝ }
+    ensures { λ r. ⌜ r ≡ same (now (payload .entry)) (payloadAt (now (q .entry)) start end) ⌝ }
 {
-    if fields::number::widen(payload[0]) != p.column {
+    // Most predicates differ in their columns.
+    if payload[0] != q[start] {
         return false;
     }
-    if fields::number::widen(payload[1]) != p.kind {
-        return false;
-    }
-    let from = p.place;
-    let to = from + p.size;
-    same_bytes(&payload[Payload::HEAD..], &q[from..to])
+    same_bytes(payload, &q[start..end])
 }
 
-// Whether one of the first n predicates of the table has this payload.
-pub fn is_repeated(payload: &[u8], q: &[u8], table: &[usize], n: usize) -> bool
-    requires { ⌜ (payloadHead ≤ length (now payload)) × Listed (now q) (now table) n ⌝ }
-    ensures { λ r. ⌜ r ≡ isRepeated (now (payload .entry)) (listed (now (q .entry)) (now (table .entry)) n) ⌝ }
+// Whether one of the first n predicates has this payload.
+pub fn is_repeated(payload: &[u8], q: &[u8], spans: &[usize], n: usize) -> bool
+    requires { ⌜ (payloadHead ≤ length (now payload)) × Spanned (now q) (now spans) n ⌝ }
+    ensures { λ r. ⌜ r ≡ isRepeated (now (payload .entry)) (listed (now (q .entry)) (now (spans .entry)) n) ⌝ }
 {
     let mut left = n;
     while 0 < left {
-        if is_payload_of(payload, q, crate::table::record_at(table, left - 1)) {
+        let i = Span::WIDTH * (left - 1);
+        let start = spans[i];
+        let end = spans[i + 1];
+        if is_payload_at(payload, q, start, end) {
             return true;
         }
         left -= 1;

@@ -1,59 +1,61 @@
-// The table of predicates: four numbers for each, in the order of the predicates.
+// The table of predicates: a record for each, in the order of the predicates.
+use crate::spans::Span;
 use predicate::payload::Payload;
 ghost use mathlib.Core.Path.{_≡_};
-ghost use Prim.Native.Nat.{_+_, _≤_, _<_};
-ghost use lib.ListN.{length};
+ghost use mathlib.Core.List.{_++_};
+ghost use Prim.Native.Nat.{_+_, _≤_};
+ghost use lib.ListN.{length, drop};
 ghost use Rattle.predicate.specs.Payload.{payloadHead};
-ghost use Rattle.query.specs.Format.{predicateLimit};
-ghost use Rattle.query.specs.Table.{tableSize, recordAt, recordOf, Put};
+ghost use Rattle.query.specs.Spans.{Spanned};
+ghost use Rattle.query.specs.Table.{recordOf, recordAt, HasRecord, recordsOf};
 
-// One predicate: the operand is the size bytes of the query from place on.
-pub struct PredicateRecord {
-    pub column: usize,
-    pub kind: usize,
+// Document 01's condition: the operand is the len bytes of the query from place on.
+pub struct Predicate {
+    pub column: u8,
+    pub kind: u8,
     pub place: usize,
-    pub size: usize,
+    pub len: usize,
 }
 
-impl PredicateRecord {
-    // The numbers of a record in the table.
-    pub const WIDTH: usize = 4;
-}
+impl Predicate {
+    pub const TAG: u8 = 80;
 
-pub fn record_at(table: &[usize], c: usize) -> PredicateRecord
-    requires { ⌜ (c < predicateLimit) × (length (now table) ≡ tableSize) ⌝ }
-    ensures { λ r. ⌜ r ≡ recordAt (now (table .entry)) c ⌝ }
-{
-    let i = PredicateRecord::WIDTH * c;
-    PredicateRecord {
-        column: table[i],
-        kind: table[i + 1],
-        place: table[i + 2],
-        size: table[i + 3],
-    }
-}
-
-pub fn put_record(table: &mut [usize], c: usize, r: PredicateRecord)
-    requires { ⌜ (c < predicateLimit) × (length (now table) ≡ tableSize) ⌝ }
-    ensures { λ _. ⌜ Put c r (now (table .entry)) (now (table .exit)) ⌝ }
-{
-    let i = PredicateRecord::WIDTH * c;
-    table[i] = r.column;
-    table[i + 1] = r.kind;
-    table[i + 2] = r.place;
-    table[i + 3] = r.size;
+    pub const LIMIT: usize = 64;
 }
 
 // The record of the payload from start up to end.
-pub fn record_of(q: &[u8], start: usize, end: usize) -> PredicateRecord
+fn record_of(q: &[u8], start: usize, end: usize) -> Predicate
     requires { ⌜ (start + payloadHead ≤ end) × (end ≤ length (now q)) ⌝ }
     ensures { λ r. ⌜ r ≡ recordOf (now (q .entry)) start end ⌝ }
 {
     let place = start + Payload::HEAD;
-    PredicateRecord {
-        column: fields::number::widen(q[start]),
-        kind: fields::number::widen(q[start + 1]),
+    Predicate {
+        column: q[start],
+        kind: q[start + 1],
         place,
-        size: end - place,
+        len: end - place,
+    }
+}
+
+// The record of predicate c.
+fn record_at(q: &[u8], spans: &[usize], c: usize) -> Predicate
+    requires { ⌜ HasRecord (now q) (now spans) c ⌝ }
+    ensures { λ r. ⌜ r ≡ recordAt (now (q .entry)) (now (spans .entry)) c ⌝ }
+{
+    let i = Span::WIDTH * c;
+    let start = spans[i];
+    let end = spans[i + 1];
+    record_of(q, start, end)
+}
+
+// Stores the records of the first n predicates; what stands after them stays.
+pub fn tabulate(q: &[u8], spans: &[usize], n: usize, table: &mut [Predicate])
+    requires { ⌜ Spanned (now q) (now spans) n × (n ≤ length (now table)) ⌝ }
+    ensures { λ _. ⌜ now (table .exit) ≡ recordsOf (now (q .entry)) (now (spans .entry)) n ++ drop n (now (table .entry)) ⌝ }
+{
+    let mut c: usize = 0;
+    while c < n {
+        table[c] = record_at(q, spans, c);
+        c += 1;
     }
 }

@@ -1,4 +1,4 @@
-// A whole query read into the engine's tables.
+// A whole query read into the reader's tables.
 use crate::format::Refusal;
 use crate::reader::Progress;
 ghost use Rattle.query.specs.Decode.{decodeTagged};
@@ -10,19 +10,19 @@ pub enum Reading {
     Accepted { n: usize },
 }
 
-// Checks a query against a catalogue whose columns have these tags, and tables its n predicates.
+// Checks a query against a catalogue whose columns have these tags, and tells where its n predicates lie.
 pub fn read_query(
     tags: &[u8],
     q: &[u8],
-    table: &mut [usize],
+    spans: &mut [usize],
     masks: &mut [u64],
     sorts: &mut [u8],
     heights: &mut [usize],
 ) -> Reading
-    requires { ⌜ TablesSized (tables (now table) (now masks) (now sorts) (now heights)) ⌝ }
-    ensures { λ r. ⌜ Handed (now (tags .entry)) (now (q .entry)) (decodeTagged (now (tags .entry)) (now (q .entry))) r (tables (now (table .exit)) (now (masks .exit)) (now (sorts .exit)) (now (heights .exit))) ⌝ }
+    requires { ⌜ TablesSized (tables (now spans) (now masks) (now sorts) (now heights)) ⌝ }
+    ensures { λ r. ⌜ Handed (now (tags .entry)) (now (q .entry)) (decodeTagged (now (tags .entry)) (now (q .entry))) r (tables (now (spans .exit)) (now (masks .exit)) (now (sorts .exit)) (now (heights .exit))) ⌝ }
 {
-    match crate::reader::read_member(tags, q, 0, q.len(), 0, 0, table, masks, sorts, heights) {
+    match crate::reader::read_member(tags, q, 0, q.len(), 0, 0, spans, masks, sorts, heights) {
         Progress::Refused(e) => Reading::Refused(e),
         Progress::Next { at, n } => {
             if at != q.len() {

@@ -4,3 +4,6 @@ pub mod Plans
 pub mod RowLoop
 pub mod RowsLoop
 pub mod Prepared
+pub mod Again
+pub mod RecordArray
+pub mod Recorded

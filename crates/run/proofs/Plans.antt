@@ -3,10 +3,12 @@ use Prim.Native.Nat.{ℕ, _+_, _-_, _*_, _≤_, _<_}
 use native.Mathlib.Omega.{arith}
 use mathlib.Core.Path.{_≡_, ap, ap₂, _∙_}
 use mathlib.Core.Bool.{Bool}
+use mathlib.Core.WellFounded.{WellFounded, InvImage·wf}
 use mathlib.Core.Logic.{_⊎_, inl, inr}
 use mathlib.Core.List.{List, []}
 use lib.ListN.{length, getD, set, take, drop, length-set}
 use lib.Seq.{getD-set-same, getD-set-other}
+use lib.WfN.{Nat·lt-wfRel}
 use Rattle.catalogue.specs.Catalogue.{numbers}
 use Rattle.catalogue.specs.Layout.{HasRow}
 use Rattle.predicate.specs.declared.answer.Answer.{Answer}
@@ -14,10 +16,9 @@ use Rattle.predicate.specs.Kinds.{plainKind}
 use Rattle.predicate.specs.Meaning.{truth, outcomeOf}
 use Rattle.predicate.specs.Outcome.{HasRange, OutcomeIs}
 use Rattle.strategy.specs.Bools.{same?}
-use Rattle.query.specs.declared.table.PredicateRecord.{PredicateRecord}
+use Rattle.query.specs.declared.table.Predicate.{Predicate}
 use Rattle.query.specs.Format.{predicateLimit}
-use Rattle.query.specs.Table.{recordAt}
-use Rattle.run.specs.Plan.{Access, accessWidth, planSize, accessAt, accessOf, HasColumn, HaveColumns, PutAccess, Planned}
+use Rattle.run.specs.Plan.{Access, accessWidth, planSize, accessAt, accessOf, PutAccess, Planned}
 use Rattle.run.specs.Ready.{HasOutcome, AnswerIs, TruthIs}
 
 -- the five stores of an access
@@ -105,27 +106,52 @@ module _ (P : List ℕ) (c a b k p s : ℕ) (sized : length P ≡ planSize) (ins
           go (inl z) = inl (omega (arith, n))
           go (inr z) = inr (omega (arith, z))
 
-pub planned-none : (tags starts table P : List ℕ) → Planned tags starts table P 0
-planned-none tags starts table P c l = absurd (omega arith)
+pub planned-none : (tags starts : List ℕ) (R : ℕ → Predicate) (P : List ℕ) → Planned tags starts R P 0
+planned-none tags starts R P c l = absurd (omega arith)
 
-pub planned-more : (tags starts table P P′ : List ℕ) (n : ℕ) → PutAccess n (accessOf tags starts (recordAt table n)) P P′
-    → Planned tags starts table P n → Planned tags starts table P′ (n + 1)
-planned-more tags starts table P P′ n p h c l = go (same? c n)
+pub planned-more : (tags starts : List ℕ) (R : ℕ → Predicate) (P P′ : List ℕ) (n : ℕ) → PutAccess n (accessOf tags starts (R n)) P P′
+    → Planned tags starts R P n → Planned tags starts R P′ (n + 1)
+planned-more tags starts R P P′ n p h c l = go (same? c n)
   where
-    go : (c ≡ n) ⊎ (c ≡ n → ⊥) → accessAt P′ c ≡ accessOf tags starts (recordAt table c)
+    go : (c ≡ n) ⊎ (c ≡ n → ⊥) → accessAt P′ c ≡ accessOf tags starts (R c)
     go (inl e) = rw (e, p .here)
     go (inr e) = p .elsewhere c e ∙ h c (omega (arith, e))
 
-pub planned-all : (tags starts table P : List ℕ) (c n : ℕ) → c ≡ n → Planned tags starts table P c → Planned tags starts table P n
-planned-all tags starts table P c n e h = rw (← e) h
+-- how far the loop over the predicates is: the list has the accesses of the first `count` of n
+pub record Stage (tags starts : List ℕ) (R : ℕ → Predicate) (n : ℕ) : Type 0 where
+  pub count : ℕ
+  pub list : List ℕ
+  pub few : count ≤ n
+  pub sized : length list ≡ planSize
+  pub planned : Planned tags starts R list count
 
-pub has-column : (tags starts table : List ℕ) (c n : ℕ) (r : PredicateRecord) → c < n → r ≡ recordAt table c → HaveColumns tags starts table n
-    → HasColumn tags starts r
-has-column tags starts table c n r l e h = rw e (h c l)
+module _ {tags starts : List ℕ} {R : ℕ → Predicate} {n : ℕ} where
+  abbrev pub begun : (P : List ℕ) → length P ≡ planSize → Stage tags starts R n
+  begun P sized = record { count = 0; list = P; few = omega arith; sized = sized; planned = planned-none tags starts R P }
 
-pub put-record : (tags starts table P P′ : List ℕ) (c : ℕ) (r : PredicateRecord) → r ≡ recordAt table c
-    → PutAccess c (accessOf tags starts r) P P′ → PutAccess c (accessOf tags starts (recordAt table c)) P P′
-put-record tags starts table P P′ c r e p = rw e at p
+  -- one more access is put
+  abbrev pub put-on : (s : Stage tags starts R n) → s .count < n → (P : List ℕ) → length P ≡ length (s .list)
+      → PutAccess (s .count) (accessOf tags starts (R (s .count))) (s .list) P → Stage tags starts R n
+  put-on s l P e p = record {
+    count = s .count + 1;
+    list = P;
+    few = omega arith;
+    sized = e ∙ s .sized;
+    planned = planned-more tags starts R (s .list) P (s .count) p (s .planned);
+  }
+
+  pub planned-end : (s : Stage tags starts R n) → n ≤ s .count → Planned tags starts R (s .list) n
+  planned-end s l c h = s .planned c (omega arith)
+
+  -- the order of the stages: fewer predicates are left
+  abbrev pub Nearer : Stage tags starts R n → Stage tags starts R n → Type 0
+  Nearer s t = n - s .count < n - t .count
+
+  pub nearer-wf : WellFounded Nearer
+  nearer-wf = InvImage·wf (λ (s : Stage tags starts R n). n - s .count) (Nat·lt-wfRel .wf)
+
+pub nearer : (c n : ℕ) → c < n → n - (c + 1) < n - c
+nearer c n l = omega arith
 
 -- the outcome by the plan: what the code hands to `outcome_at` is what the access shows
 module _ (b q P : List ℕ) (c row : ℕ) where

@@ -3,9 +3,8 @@ use Prim.Native.Nat.{ℕ, _+_, _*_, _<_}
 use mathlib.Core.Path.{_≡_}
 use mathlib.Core.List.{List}
 use lib.ListN.{length, getD}
-use Rattle.query.specs.declared.table.PredicateRecord.{PredicateRecord}
+use Rattle.query.specs.declared.table.Predicate.{Predicate}
 use Rattle.query.specs.Format.{predicateLimit}
-use Rattle.query.specs.Table.{recordAt}
 
 -- where a predicate's outcome comes from: the column's tag and start in the catalogue, the operand's place and size in the query
 pub record Access : Type 0 where
@@ -32,21 +31,21 @@ accessAt P c = record {
 }
 
 -- the access of a predicate's record, by the tags and starts of the columns
-abbrev pub accessOf : (tags starts : List ℕ) → PredicateRecord → Access
-accessOf tags starts r = record { tag = getD tags (r .column) 0; start = getD starts (r .column) 0; kind = r .kind; place = r .place; size = r .size }
+abbrev pub accessOf : (tags starts : List ℕ) → Predicate → Access
+accessOf tags starts r = record { tag = getD tags (r .column) 0; start = getD starts (r .column) 0; kind = r .kind; place = r .place; size = r .len }
 
 -- the column of a record is one of the tables'
-abbrev pub HasColumn : (tags starts : List ℕ) → PredicateRecord → Type 0
+abbrev pub HasColumn : (tags starts : List ℕ) → Predicate → Type 0
 HasColumn tags starts r = (r .column < length tags) × (r .column < length starts)
 
-abbrev pub HaveColumns : (tags starts table : List ℕ) → (n : ℕ) → Type 0
-HaveColumns tags starts table n = (c : ℕ) → c < n → HasColumn tags starts (recordAt table c)
+abbrev pub HaveColumns : (tags starts : List ℕ) → (records : ℕ → Predicate) → (n : ℕ) → Type 0
+HaveColumns tags starts R n = (c : ℕ) → c < n → HasColumn tags starts (R c)
 
 -- `after` is `before` with the access of c replaced
 pub record PutAccess (c : ℕ) (x : Access) (before after : List ℕ) : Type 0 where
   pub here : accessAt after c ≡ x
   pub elsewhere : (d : ℕ) → (d ≡ c → ⊥) → accessAt after d ≡ accessAt before d
 
--- the plan of the first n predicates of the table
-abbrev pub Planned : (tags starts table plan : List ℕ) → (n : ℕ) → Type 0
-Planned tags starts table plan n = (c : ℕ) → c < n → accessAt plan c ≡ accessOf tags starts (recordAt table c)
+-- the plan of the first n predicates, of which these are the records
+abbrev pub Planned : (tags starts : List ℕ) → (records : ℕ → Predicate) → (plan : List ℕ) → (n : ℕ) → Type 0
+Planned tags starts R plan n = (c : ℕ) → c < n → accessAt plan c ≡ accessOf tags starts (R c)

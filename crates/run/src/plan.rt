@@ -1,12 +1,13 @@
 // The plan of a run: five numbers for each predicate, filled once, so that no row looks up a column.
 use predicate::answer::Answer;
-use query::table::PredicateRecord;
+use query::table::Predicate;
 ghost use mathlib.Core.Path.{_≡_};
 ghost use Prim.Native.Nat.{_≤_, _<_};
 ghost use lib.ListN.{length};
 ghost use Rattle.predicate.specs.Outcome.{Folds};
 ghost use Rattle.query.specs.Format.{predicateLimit};
-ghost use Rattle.query.specs.Table.{tableSize};
+ghost use Rattle.query.specs.Spans.{Spanned};
+ghost use Rattle.query.specs.Table.{recordAt, recordIn};
 ghost use Rattle.run.specs.Plan.{planSize, accessAt, accessOf, HasColumn, HaveColumns, PutAccess, Planned};
 ghost use Rattle.run.specs.Ready.{HasOutcome, AnswerIs, TruthIs};
 
@@ -15,31 +16,56 @@ pub struct Plan;
 impl Plan {
     // The numbers of a predicate: its column's tag and start, its kind, its operand's place and size.
     pub const WIDTH: usize = 5;
+
+    pub const TABLE: usize = Plan::WIDTH * Predicate::LIMIT;
 }
 
-fn put_access(tags: &[u8], starts: &[usize], r: PredicateRecord, c: usize, plan: &mut [usize])
+fn put_access(tags: &[u8], starts: &[usize], r: Predicate, c: usize, plan: &mut [usize])
     requires { ⌜ (c < predicateLimit) × (length (now plan) ≡ planSize) × HasColumn (now tags) (now starts) r ⌝ }
     ensures { λ _. ⌜ PutAccess c (accessOf (now (tags .entry)) (now (starts .entry)) r) (now (plan .entry)) (now (plan .exit)) ⌝ }
 {
     let i = Plan::WIDTH * c;
-    let column = r.column;
+    let column = fields::number::widen(r.column);
     plan[i] = fields::number::widen(tags[column]);
     plan[i + 1] = starts[column];
-    plan[i + 2] = r.kind;
+    plan[i + 2] = fields::number::widen(r.kind);
     plan[i + 3] = r.place;
-    plan[i + 4] = r.size;
+    plan[i + 4] = r.len;
 }
 
 // Plans the first n predicates of the table, over columns with these tags and starts.
-pub fn fill_plan(tags: &[u8], starts: &[usize], table: &[usize], n: usize, plan: &mut [usize])
-    requires { ⌜ (n ≤ predicateLimit) × (length (now plan) ≡ planSize) × (length (now table) ≡ tableSize) × HaveColumns (now tags) (now starts) (now table) n ⌝ }
-    ensures { λ _. ⌜ Planned (now (tags .entry)) (now (starts .entry)) (now (table .entry)) (now (plan .exit)) n ⌝ }
+fn plan_records(tags: &[u8], starts: &[usize], table: &[Predicate], n: usize, plan: &mut [usize])
+    requires { ⌜ (n ≤ predicateLimit) × (n ≤ length (now table)) × (length (now plan) ≡ planSize) × HaveColumns (now tags) (now starts) (recordIn (now table)) n ⌝ }
+    ensures { λ _. ⌜ Planned (now (tags .entry)) (now (starts .entry)) (recordIn (now (table .entry))) (now (plan .exit)) n ⌝ }
 {
     let mut c: usize = 0;
     while c < n {
-        put_access(tags, starts, query::table::record_at(table, c), c, plan);
+        put_access(tags, starts, table[c], c, plan);
         c += 1;
     }
+}
+
+// Plans the n predicates whose payloads lie at these spans of the query: by the table of their records, which is this
+// function's own and lent to those that fill and read it.
+pub fn fill_plan(
+    tags: &[u8],
+    starts: &[usize],
+    q: &[u8],
+    spans: &[usize],
+    n: usize,
+    plan: &mut [usize],
+)
+    requires { ⌜ Spanned (now q) (now spans) n × (length (now plan) ≡ planSize) × HaveColumns (now tags) (now starts) (recordAt (now q) (now spans)) n ⌝ }
+    ensures { λ _. ⌜ Planned (now (tags .entry)) (now (starts .entry)) (recordAt (now (q .entry)) (now (spans .entry))) (now (plan .exit)) n ⌝ }
+{
+    let mut table = [Predicate {
+        column: 0,
+        kind: 0,
+        place: 0,
+        len: 0,
+    }; Predicate::LIMIT];
+    query::table::tabulate(q, spans, n, &mut table);
+    plan_records(tags, starts, &table, n, plan);
 }
 
 fn narrow(x: usize) -> u8

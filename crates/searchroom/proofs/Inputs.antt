@@ -64,8 +64,8 @@ module _ (b q : List ℕ) (l : Layout) (tags : List ℕ) (same : tags ≡ take (
     unfolding decodeInput decodeQuery
     whole = rw (e, same, laid-tags b l C h)
 
-    stopped : (d : Decoded Query) (k : ℕ) → decodeTagged tags q ≡ d → Handed tags q d r T → r ≡ reading.Refused k → (decodeInput b q ≡ refused k) × (k < 256)
-    stopped (refused x) k z w i = let y : x ≡ k = cc in (whole ∙ rw (z, y), omega (arith, w .1))
+    stopped : (d : Decoded Query) (k : ℕ) → decodeTagged tags q ≡ d → Handed tags q d r T → r ≡ reading.Refused k → (decodeInput b q ≡ refused k) × (k < 256) × (0 < k)
+    stopped (refused x) k z w i = let y : x ≡ k = cc in (whole ∙ rw (z, y), omega (arith, w .1), omega (arith, w .1))
     stopped (accepted Q) k z w i = let y : _≡_ {A = ℕ} 0 1 = cc in absurd (omega arith)
 
     begun : (d : Decoded Query) (n : ℕ) → decodeTagged tags q ≡ d → Handed tags q d r T → r ≡ reading.Accepted n → Begun b q l n T
@@ -84,7 +84,7 @@ module _ (b q : List ℕ) (l : Layout) (tags : List ℕ) (same : tags ≡ take (
         go (refused x) e v = absurd (omega (arith, v, z))
         go (accepted C) e v = f C e v
 
-    pub question-refuses : (k : ℕ) → r ≡ reading.Refused k → (decodeInput b q ≡ refused k) × (k < 256)
+    pub question-refuses : (k : ℕ) → r ≡ reading.Refused k → (decodeInput b q ≡ refused k) × (k < 256) × (0 < k)
     question-refuses k i = by-catalogue (λ C e v. stopped C e v (decodeTagged tags q) k refl w i)
 
     pub input-begun : (n : ℕ) → r ≡ reading.Accepted n → Begun b q l n T

@@ -1,13 +1,14 @@
 -- What a call has in hand once the catalogue and the question are accepted.
-use Prim.Native.Nat.{ℕ}
+use Prim.Native.Nat.{ℕ, _<_}
 use mathlib.Core.Path.{_≡_}
 use mathlib.Core.List.{List}
-use Rattle.fields.specs.Decoded.{accepted}
+use Rattle.fields.specs.Decoded.{refused, accepted}
 use Rattle.catalogue.specs.declared.layout.Layout.{Layout}
 use Rattle.catalogue.specs.Layout.{LaidOut}
 use Rattle.predicate.specs.Payload.{tagsOf}
 use Rattle.query.specs.Ladder.{Tables, tables}
 use Rattle.query.specs.Handed.{Tabled}
+use Rattle.searchroom.specs.declared.begin.Beginning.{Beginning}
 use Rattle.searchroom.specs.Input.{Input, decodeInput}
 
 -- the decoded input, and all that the layout and the reader's tables show of it
@@ -22,5 +23,10 @@ abbrev pub BegunWith : (b q tags starts : List ℕ) → (n rows : ℕ) → Table
 BegunWith b q tags starts n rows T = (l : Layout) × Begun b q l n T × (tags ≡ l .tags) × (starts ≡ l .starts) × (rows ≡ l .rows)
 
 -- the same where the groups around the predicates don't matter
-abbrev pub BegunTable : (b q tags starts : List ℕ) → (n rows : ℕ) → (table : List ℕ) → Type 0
-BegunTable b q tags starts n rows table = (masks sorts heights : List ℕ) × BegunWith b q tags starts n rows (tables table masks sorts heights)
+abbrev pub BegunSpans : (b q tags starts : List ℕ) → (n rows : ℕ) → (spans : List ℕ) → Type 0
+BegunSpans b q tags starts n rows spans = (masks sorts heights : List ℕ) × BegunWith b q tags starts n rows (tables spans masks sorts heights)
+
+-- the beginning of a call: a refusal of the input, or all in hand
+pub record Begins (b q : List ℕ) (r : Beginning) (T : Tables) : Type 0 where
+  pub refuses : (r .refusal ≡ 0 → ⊥) → (decodeInput b q ≡ refused (r .refusal)) × (r .refusal < 256)
+  pub accepts : r .refusal ≡ 0 → BegunWith b q (r .tags) (r .starts) (r .n) (r .rows) T

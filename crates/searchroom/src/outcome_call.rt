@@ -1,11 +1,14 @@
 // Working out one condition at one entry.
 use crate::refusal::Refusal;
 use crate::word::Answer;
-use query::whole::Reading;
+use query::ladder::Ladder;
+use query::spans::Span;
+use query::table::Predicate;
+use run::plan::Plan;
 ghost use mathlib.Core.Path.{_≡_};
 ghost use Rattle.searchroom.specs.Word.{packed};
 ghost use Rattle.searchroom.specs.Input.{decodeInput};
-ghost use Rattle.searchroom.specs.Begun.{BegunTable};
+ghost use Rattle.searchroom.specs.Begun.{BegunSpans};
 ghost use Rattle.searchroom.specs.Answers.{outcomeNumber, outcomeAnswer, Answered};
 
 fn number_of(answer: predicate::answer::Answer) -> u64
@@ -22,13 +25,13 @@ fn outcome_accepted(
     question: &[u8],
     tags: &[u8],
     starts: &[usize],
-    table: &[usize],
+    spans: &[usize],
     n: usize,
     rows: usize,
     entry: u64,
     condition: u64,
 ) -> Answer
-    requires { ⌜ BegunTable (now catalogue) (now question) (now tags) (now starts) n rows (now table) ⌝ }
+    requires { ⌜ BegunSpans (now catalogue) (now question) (now tags) (now starts) n rows (now spans) ⌝ }
     ensures { λ r. ⌜ Answered (outcomeAnswer (decodeInput (now (catalogue .entry)) (now (question .entry))) entry condition) r ⌝ }
 {
     if rows as u64 <= entry {
@@ -37,8 +40,8 @@ fn outcome_accepted(
     if n as u64 <= condition {
         return Answer::Refused(Refusal::NO_SUCH_PLACE);
     }
-    let mut plan = [0usize; 320];
-    run::plan::fill_plan(tags, starts, table, n, &mut plan);
+    let mut plan = [0usize; Plan::TABLE];
+    run::plan::fill_plan(tags, starts, question, spans, n, &mut plan);
     let fold = predicate::fold::fold_table();
     let answer = run::plan::answer_of(
         &fold,
@@ -58,40 +61,37 @@ fn outcome_accepted(
 fn outcome_at(catalogue: &[u8], question: &[u8], entry: u64, condition: u64) -> Answer
     ensures { λ r. ⌜ Answered (outcomeAnswer (decodeInput (now (catalogue .entry)) (now (question .entry))) entry condition) r ⌝ }
 {
-    let layout = catalogue::layout::lay_out(catalogue);
-    let refusal = layout.refusal;
-    if refusal != 0 {
-        return Answer::Refused(refusal);
-    }
-    let rows = layout.rows;
-    let columns = layout.columns;
-    let tags = layout.tags;
-    let starts = layout.starts;
-    let mut table = [0usize; 256];
-    let mut masks = [0u64; 512];
-    let mut sorts = [0u8; 512];
-    let mut heights = [0usize; 64];
-    match query::whole::read_query(
-        &tags[..columns],
+    let mut spans = [0usize; Span::TABLE];
+    let mut masks = [0u64; Ladder::TABLE];
+    let mut sorts = [0u8; Ladder::TABLE];
+    let mut heights = [0usize; Predicate::LIMIT];
+    let begun = crate::begin::begin(
+        catalogue,
         question,
-        &mut table,
+        &mut spans,
         &mut masks,
         &mut sorts,
         &mut heights,
-    ) {
-        Reading::Refused(e) => Answer::Refused(e),
-        Reading::Accepted { n } => outcome_accepted(
-            catalogue,
-            question,
-            &tags,
-            &starts,
-            &table,
-            n,
-            rows,
-            entry,
-            condition,
-        ),
+    );
+    let refusal = begun.refusal;
+    if refusal != 0 {
+        return Answer::Refused(refusal);
     }
+    let rows = begun.rows;
+    let n = begun.n;
+    let tags = begun.tags;
+    let starts = begun.starts;
+    outcome_accepted(
+        catalogue,
+        question,
+        &tags,
+        &starts,
+        &spans,
+        n,
+        rows,
+        entry,
+        condition,
+    )
 }
 
 #[no_mangle]

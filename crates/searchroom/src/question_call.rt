@@ -1,6 +1,8 @@
 // Checking a question against a catalogue.
 use crate::word::Answer;
-use query::whole::Reading;
+use query::ladder::Ladder;
+use query::spans::Span;
+use query::table::Predicate;
 ghost use mathlib.Core.Path.{_≡_};
 ghost use Rattle.searchroom.specs.Word.{packed};
 ghost use Rattle.searchroom.specs.Input.{decodeInput};
@@ -9,31 +11,27 @@ ghost use Rattle.searchroom.specs.Answers.{questionAnswer, Answered};
 fn check_question(catalogue: &[u8], question: &[u8]) -> Answer
     ensures { λ r. ⌜ Answered (questionAnswer (decodeInput (now (catalogue .entry)) (now (question .entry)))) r ⌝ }
 {
-    let layout = catalogue::layout::lay_out(catalogue);
-    let refusal = layout.refusal;
-    if refusal != 0 {
-        return Answer::Refused(refusal);
-    }
-    let columns = layout.columns;
-    let tags = layout.tags;
-    let mut table = [0usize; 256];
-    let mut masks = [0u64; 512];
-    let mut sorts = [0u8; 512];
-    let mut heights = [0usize; 64];
-    match query::whole::read_query(
-        &tags[..columns],
+    let mut spans = [0usize; Span::TABLE];
+    let mut masks = [0u64; Ladder::TABLE];
+    let mut sorts = [0u8; Ladder::TABLE];
+    let mut heights = [0usize; Predicate::LIMIT];
+    let begun = crate::begin::begin(
+        catalogue,
         question,
-        &mut table,
+        &mut spans,
         &mut masks,
         &mut sorts,
         &mut heights,
-    ) {
-        Reading::Refused(e) => Answer::Refused(e),
-        Reading::Accepted { n } => Answer::Accepted {
-            first: n as u64,
-            second: 0,
-            third: 0,
-        },
+    );
+    let refusal = begun.refusal;
+    if refusal != 0 {
+        return Answer::Refused(refusal);
+    }
+    let n = begun.n;
+    Answer::Accepted {
+        first: n as u64,
+        second: 0,
+        third: 0,
     }
 }
 

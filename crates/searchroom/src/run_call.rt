@@ -1,7 +1,11 @@
 // Running a question in a given order.
 use crate::refusal::Refusal;
 use crate::word::Answer;
-use query::whole::Reading;
+use bitmaps::copy::Line;
+use query::ladder::Ladder;
+use query::spans::Span;
+use query::table::Predicate;
+use run::plan::Plan;
 ghost use mathlib.Core.Path.{_≡_};
 ghost use Prim.Native.Nat.{_≤_};
 ghost use Rattle.query.specs.Format.{predicateLimit};
@@ -24,7 +28,7 @@ fn run_accepted(
     order: &[u8],
     tags: &[u8],
     starts: &[usize],
-    table: &[usize],
+    spans: &[usize],
     masks: &[u64],
     sorts: &[u8],
     heights: &[usize],
@@ -34,7 +38,7 @@ fn run_accepted(
     looks: &mut [u8],
     tally: &mut [u8],
 ) -> Answer
-    requires { ⌜ BegunWith (now catalogue) (now question) (now tags) (now starts) n rows (tables (now table) (now masks) (now sorts) (now heights)) ⌝ }
+    requires { ⌜ BegunWith (now catalogue) (now question) (now tags) (now starts) n rows (tables (now spans) (now masks) (now sorts) (now heights)) ⌝ }
     ensures { λ r. ⌜ (ran (packed r) (now (listed .exit)) (now (looks .exit)) (now (tally .exit)) ≡ runOf (now (catalogue .entry)) (now (question .entry)) (now (order .entry)) (now (listed .entry)) (now (looks .entry)) (now (tally .entry))) × FitsWord r ⌝ }
 {
     let count = narrow(n);
@@ -48,11 +52,11 @@ fn run_accepted(
     if looks.len() < n * size {
         return Answer::Refused(Refusal::TABLE_TOO_SHORT);
     }
-    let mut plan = [0usize; 320];
-    run::plan::fill_plan(tags, starts, table, n, &mut plan);
+    let mut plan = [0usize; Plan::TABLE];
+    run::plan::fill_plan(tags, starts, question, spans, n, &mut plan);
     let fold = predicate::fold::fold_table();
-    let mut selected = [0u8; 256];
-    let mut probes = [0u8; 16384];
+    let mut selected = [0u8; Line::SIZE];
+    let mut probes = [0u8; Predicate::LIMIT * Line::SIZE];
     run::rows::work_rows(
         &fold,
         catalogue,
@@ -80,45 +84,42 @@ fn run_question(
 ) -> Answer
     ensures { λ r. ⌜ (ran (packed r) (now (listed .exit)) (now (looks .exit)) (now (tally .exit)) ≡ runOf (now (catalogue .entry)) (now (question .entry)) (now (order .entry)) (now (listed .entry)) (now (looks .entry)) (now (tally .entry))) × FitsWord r ⌝ }
 {
-    let layout = catalogue::layout::lay_out(catalogue);
-    let refusal = layout.refusal;
-    if refusal != 0 {
-        return Answer::Refused(refusal);
-    }
-    let rows = layout.rows;
-    let columns = layout.columns;
-    let tags = layout.tags;
-    let starts = layout.starts;
-    let mut table = [0usize; 256];
-    let mut masks = [0u64; 512];
-    let mut sorts = [0u8; 512];
-    let mut heights = [0usize; 64];
-    match query::whole::read_query(
-        &tags[..columns],
+    let mut spans = [0usize; Span::TABLE];
+    let mut masks = [0u64; Ladder::TABLE];
+    let mut sorts = [0u8; Ladder::TABLE];
+    let mut heights = [0usize; Predicate::LIMIT];
+    let begun = crate::begin::begin(
+        catalogue,
         question,
-        &mut table,
+        &mut spans,
         &mut masks,
         &mut sorts,
         &mut heights,
-    ) {
-        Reading::Refused(e) => Answer::Refused(e),
-        Reading::Accepted { n } => run_accepted(
-            catalogue,
-            question,
-            order,
-            &tags,
-            &starts,
-            &table,
-            &masks,
-            &sorts,
-            &heights,
-            n,
-            rows,
-            listed,
-            looks,
-            tally,
-        ),
+    );
+    let refusal = begun.refusal;
+    if refusal != 0 {
+        return Answer::Refused(refusal);
     }
+    let rows = begun.rows;
+    let n = begun.n;
+    let tags = begun.tags;
+    let starts = begun.starts;
+    run_accepted(
+        catalogue,
+        question,
+        order,
+        &tags,
+        &starts,
+        &spans,
+        &masks,
+        &sorts,
+        &heights,
+        n,
+        rows,
+        listed,
+        looks,
+        tally,
+    )
 }
 
 #[no_mangle]

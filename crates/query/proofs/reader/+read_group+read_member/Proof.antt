@@ -16,8 +16,7 @@ use Rattle.query.proofs.reader.read_member.Kinds as read-member-kinds
 use Rattle.query.proofs.reader.+read_group+read_member.Lts-read_member as read-member-lts
 use Rattle.query.proofs.ladder.close_group.Reads as close-group-reads
 use Rattle.query.proofs.member.read_field.Reads as read-field-reads
-use Rattle.query.proofs.table.put_record.Reads as put-record-reads
-use Rattle.query.proofs.table.record_of.Reads as record-of-reads
+use Rattle.query.proofs.spans.put_span.Reads as put-span-reads
 use Rattle.query.proofs.reader.+read_group+read_member.{statement}
 use Rattle.query.proofs.reader.+read_group+read_member.Tie.{close}
 
@@ -44,10 +43,10 @@ read-member-below t =
     and 6 read-member-kinds.ps (falls 6 read-member-kinds.ps _<_ μ-read-member t) read-member.Pre
 
 abbrev read-group-Inv-loop : read-group-lts.InvT-loop
-read-group-Inv-loop tags q at end depth n table₀ masks₀ sorts₀ heights₀ p₀ m₀ table masks sorts heights p m = InGroup tags q at end depth n p m (tables table₀ masks₀ sorts₀ heights₀) (tables table masks sorts heights)
+read-group-Inv-loop tags q at end depth n spans₀ masks₀ sorts₀ heights₀ p₀ m₀ spans masks sorts heights p m = InGroup tags q at end depth n p m (tables spans₀ masks₀ sorts₀ heights₀) (tables spans masks sorts heights)
 
 abbrev read-group-μ-loop : read-group-lts.MeasureT-loop
-read-group-μ-loop tags q at end depth n table₀ masks₀ sorts₀ heights₀ p₀ m₀ table masks sorts heights p m = end - p
+read-group-μ-loop tags q at end depth n spans₀ masks₀ sorts₀ heights₀ p₀ m₀ spans masks sorts heights p m = end - p
 
 read-group-loop-holds : (t : ℕ) → read-group-lts.Need-loop-holds (
   read-member-below t,
@@ -103,7 +102,7 @@ read-group-returns t c =
     let a = c .before .before .before .before .before .before .before .before .before .before .before .before .before .before .before .before .before .before .before .before .before .before .before .before .args in
     let l = c .before .before .before .before .before .before .before .before .before .before .before .before .before .before .before .before .before .loop in
     let m = c .before .before .before .before .before .before .before .before .before .before .before .read-member in
-    in-group-refused _ _ _ (a .end) (a .depth) _ (l .p) (l .m) (tables (now (a .table)) (now (a .masks)) (now (a .sorts)) (now (a .heights))) (tables (l .table) (l .masks) (l .sorts) (l .heights)) (l .inv) (tables (m .last .1 .1 .1 .1 .1 .1 .0) (m .last .1 .1 .1 .1 .1 .1 .1 .0) (m .last .1 .1 .1 .1 .1 .1 .1 .1 .0) (m .last .1 .1 .1 .1 .1 .1 .1 .1 .1 .0)) (omega arith) _ (rw (c .before .e .given .1) at (m .ensures))
+    in-group-refused _ _ _ (a .end) (a .depth) _ (l .p) (l .m) (tables (now (a .spans)) (now (a .masks)) (now (a .sorts)) (now (a .heights))) (tables (l .spans) (l .masks) (l .sorts) (l .heights)) (l .inv) (tables (m .last .1 .1 .1 .1 .1 .1 .0) (m .last .1 .1 .1 .1 .1 .1 .1 .0) (m .last .1 .1 .1 .1 .1 .1 .1 .1 .0) (m .last .1 .1 .1 .1 .1 .1 .1 .1 .1 .0)) (omega arith) _ (rw (c .before .e .given .1) at (m .ensures))
 
 read-group-enum-known-next : (t : ℕ) → read-group-lts.Need-enum-known-next (
   read-member-below t,
@@ -129,7 +128,7 @@ read-group-loop-again t c =
     let m = c .before .before .before .before .before .before .before .before .before .before .before .read-member in
     let k = m .kept in
     let r = l .inv .room in
-    in-group-more _ _ _ (a .end) (a .depth) _ (l .p) (l .m) (tables (now (a .table)) (now (a .masks)) (now (a .sorts)) (now (a .heights))) (tables (l .table) (l .masks) (l .sorts) (l .heights)) (l .inv) (tables (m .last .1 .1 .1 .1 .1 .1 .0) (m .last .1 .1 .1 .1 .1 .1 .1 .0) (m .last .1 .1 .1 .1 .1 .1 .1 .1 .0) (m .last .1 .1 .1 .1 .1 .1 .1 .1 .1 .0)) (omega arith) _ _ (rw (c .before .next .given .1) at (m .ensures)) (omega arith)
+    in-group-more _ _ _ (a .end) (a .depth) _ (l .p) (l .m) (tables (now (a .spans)) (now (a .masks)) (now (a .sorts)) (now (a .heights))) (tables (l .spans) (l .masks) (l .sorts) (l .heights)) (l .inv) (tables (m .last .1 .1 .1 .1 .1 .1 .0) (m .last .1 .1 .1 .1 .1 .1 .1 .0) (m .last .1 .1 .1 .1 .1 .1 .1 .1 .0) (m .last .1 .1 .1 .1 .1 .1 .1 .1 .1 .0)) (omega arith) _ _ (rw (c .before .next .given .1) at (m .ensures)) (omega arith)
     (record { masks-size = omega arith; sorts-size = omega arith; heights-size = omega arith })
 
 read-group-same-length-5 : (t : ℕ) → read-group-lts.Need-same-length-5 (
@@ -163,29 +162,25 @@ read-group-returns-2 : (t : ℕ) → read-group-lts.Need-returns-2 (
 read-group-returns-2 t c =
     let a = c .before .before .before .before .before .before .before .before .args in
     let l = c .before .loop in
-    in-group-end _ _ _ (a .end) (a .depth) _ (l .p) (l .m) (tables (now (a .table)) (now (a .masks)) (now (a .sorts)) (now (a .heights))) (tables (l .table) (l .masks) (l .sorts) (l .heights)) (l .inv) (omega arith)
+    in-group-end _ _ _ (a .end) (a .depth) _ (l .p) (l .m) (tables (now (a .spans)) (now (a .masks)) (now (a .sorts)) (now (a .heights))) (tables (l .spans) (l .masks) (l .sorts) (l .heights)) (l .inv) (omega arith)
 
 read-member-read-field-requires : (t : ℕ) → read-member-lts.Need-read-field-requires (
   read-field-reads.Asked,
   read-field-reads.Learnt,
-  record-of-reads.Asked,
-  record-of-reads.Learnt,
-  put-record-reads.Asked,
-  put-record-reads.Learnt,
+  put-span-reads.Asked,
+  put-span-reads.Learnt,
   read-group-below t,
   read-group.Post,
   close-group-reads.Asked,
   close-group-reads.Learnt,
 ) (read-member-at t) read-member.Post
-read-member-read-field-requires t c κs = (c .before .before .before .before .before .before .before .pre .1 .order, c .before .before .before .before .before .before .before .pre .1 .inside, c .before .before .before .before .before .before .before .pre .1 .listed)
+read-member-read-field-requires t c κs = (c .before .before .before .before .before .before .before .pre .1 .order, c .before .before .before .before .before .before .before .pre .1 .inside, c .before .before .before .before .before .before .before .pre .1 .spanned)
 
 read-member-enum-known-e : (t : ℕ) → read-member-lts.Need-enum-known-e (
   read-field-reads.Asked,
   read-field-reads.Learnt,
-  record-of-reads.Asked,
-  record-of-reads.Learnt,
-  put-record-reads.Asked,
-  put-record-reads.Learnt,
+  put-span-reads.Asked,
+  put-span-reads.Learnt,
   read-group-below t,
   read-group.Post,
   close-group-reads.Asked,
@@ -196,10 +191,8 @@ read-member-enum-known-e t c = search needs
 read-member-enum-known-start : (t : ℕ) → read-member-lts.Need-enum-known-start (
   read-field-reads.Asked,
   read-field-reads.Learnt,
-  record-of-reads.Asked,
-  record-of-reads.Learnt,
-  put-record-reads.Asked,
-  put-record-reads.Learnt,
+  put-span-reads.Asked,
+  put-span-reads.Learnt,
   read-group-below t,
   read-group.Post,
   close-group-reads.Asked,
@@ -207,93 +200,67 @@ read-member-enum-known-start : (t : ℕ) → read-member-lts.Need-enum-known-sta
 ) (read-member-at t) read-member.Post
 read-member-enum-known-start t c = search needs
 
-read-member-record-of-requires : (t : ℕ) → read-member-lts.Need-record-of-requires (
+read-member-put-span-requires : (t : ℕ) → read-member-lts.Need-put-span-requires (
   read-field-reads.Asked,
   read-field-reads.Learnt,
-  record-of-reads.Asked,
-  record-of-reads.Learnt,
-  put-record-reads.Asked,
-  put-record-reads.Learnt,
+  put-span-reads.Asked,
+  put-span-reads.Learnt,
   read-group-below t,
   read-group.Post,
   close-group-reads.Asked,
   close-group-reads.Learnt,
 ) (read-member-at t) read-member.Post
-read-member-record-of-requires t c κs =
-    let w = rw (c .before .start .given .1) at (c .before .before .before .read-field .ensures .1) in
-    (w .1, omega (arith, c .before .before .before .before .before .before .before .before .before .before .before .pre .1 .inside))
-
-read-member-put-record-requires : (t : ℕ) → read-member-lts.Need-put-record-requires (
-  read-field-reads.Asked,
-  read-field-reads.Learnt,
-  record-of-reads.Asked,
-  record-of-reads.Learnt,
-  put-record-reads.Asked,
-  put-record-reads.Learnt,
-  read-group-below t,
-  read-group.Post,
-  close-group-reads.Asked,
-  close-group-reads.Learnt,
-) (read-member-at t) read-member.Post
-read-member-put-record-requires t c κs =
-    let w = rw (c .before .before .before .start .given .1) at (c .before .before .before .before .before .read-field .ensures .1) in
-    (w .3, c .before .before .before .before .before .before .before .before .before .before .before .before .before .pre .1 .listed .sized)
+read-member-put-span-requires t c κs =
+    let w = rw (c .before .before .start .given .1) at (c .before .before .before .before .read-field .ensures .1) in
+    (w .3, c .before .before .before .before .before .before .before .before .before .before .before .before .pre .1 .spanned .sized)
 
 read-member-mul-heights : (t : ℕ) → read-member-lts.Need-mul-heights (
   read-field-reads.Asked,
   read-field-reads.Learnt,
-  record-of-reads.Asked,
-  record-of-reads.Learnt,
-  put-record-reads.Asked,
-  put-record-reads.Learnt,
+  put-span-reads.Asked,
+  put-span-reads.Learnt,
   read-group-below t,
   read-group.Post,
   close-group-reads.Asked,
   close-group-reads.Learnt,
 ) (read-member-at t) read-member.Post
 read-member-mul-heights t c =
-    let w = rw (c .before .before .before .before .before .before .start .given .1) at (c .before .before .before .before .before .before .before .before .read-field .ensures .1) in
-    omega (arith, c .before .before .before .before .before .before .before .before .before .before .before .before .before .before .before .before .pre .1 .ladders .heights-size)
+    let w = rw (c .before .before .before .before .before .start .given .1) at (c .before .before .before .before .before .before .before .read-field .ensures .1) in
+    omega (arith, c .before .before .before .before .before .before .before .before .before .before .before .before .before .before .before .pre .1 .ladders .heights-size)
 
 read-member-slice-write-heights : (t : ℕ) → read-member-lts.Need-slice-write-heights (
   read-field-reads.Asked,
   read-field-reads.Learnt,
-  record-of-reads.Asked,
-  record-of-reads.Learnt,
-  put-record-reads.Asked,
-  put-record-reads.Learnt,
+  put-span-reads.Asked,
+  put-span-reads.Learnt,
   read-group-below t,
   read-group.Post,
   close-group-reads.Asked,
   close-group-reads.Learnt,
 ) (read-member-at t) read-member.Post
 read-member-slice-write-heights t c =
-    let w = rw (c .before .before .before .before .before .before .start .given .1) at (c .before .before .before .before .before .before .before .before .read-field .ensures .1) in
-    omega (arith, c .before .before .before .before .before .before .before .before .before .before .before .before .before .before .before .before .pre .1 .ladders .heights-size)
+    let w = rw (c .before .before .before .before .before .start .given .1) at (c .before .before .before .before .before .before .before .read-field .ensures .1) in
+    omega (arith, c .before .before .before .before .before .before .before .before .before .before .before .before .before .before .before .pre .1 .ladders .heights-size)
 
-read-member-add-t28 : (t : ℕ) → read-member-lts.Need-add-t28 (
+read-member-add-t27 : (t : ℕ) → read-member-lts.Need-add-t27 (
   read-field-reads.Asked,
   read-field-reads.Learnt,
-  record-of-reads.Asked,
-  record-of-reads.Learnt,
-  put-record-reads.Asked,
-  put-record-reads.Learnt,
+  put-span-reads.Asked,
+  put-span-reads.Learnt,
   read-group-below t,
   read-group.Post,
   close-group-reads.Asked,
   close-group-reads.Learnt,
 ) (read-member-at t) read-member.Post
-read-member-add-t28 t c =
-    let w = rw (c .before .before .before .before .before .before .start .given .1) at (c .before .before .before .before .before .before .before .before .read-field .ensures .1) in
-    omega (arith, c .before .before .before .before .before .before .before .before .before .before .before .before .before .before .before .before .pre .1 .ladders .heights-size)
+read-member-add-t27 t c =
+    let w = rw (c .before .before .before .before .before .start .given .1) at (c .before .before .before .before .before .before .before .read-field .ensures .1) in
+    omega (arith, c .before .before .before .before .before .before .before .before .before .before .before .before .before .before .before .pre .1 .ladders .heights-size)
 
 read-member-enum-known-tag : (t : ℕ) → read-member-lts.Need-enum-known-tag (
   read-field-reads.Asked,
   read-field-reads.Learnt,
-  record-of-reads.Asked,
-  record-of-reads.Learnt,
-  put-record-reads.Asked,
-  put-record-reads.Learnt,
+  put-span-reads.Asked,
+  put-span-reads.Learnt,
   read-group-below t,
   read-group.Post,
   close-group-reads.Asked,
@@ -304,10 +271,8 @@ read-member-enum-known-tag t c = search needs
 read-member-add-read-group : (t : ℕ) → read-member-lts.Need-add-read-group (
   read-field-reads.Asked,
   read-field-reads.Learnt,
-  record-of-reads.Asked,
-  record-of-reads.Learnt,
-  put-record-reads.Asked,
-  put-record-reads.Learnt,
+  put-span-reads.Asked,
+  put-span-reads.Learnt,
   read-group-below t,
   read-group.Post,
   close-group-reads.Asked,
@@ -320,10 +285,8 @@ read-member-add-read-group t c =
 read-member-read-group-requires : (t : ℕ) → read-member-lts.Need-read-group-requires (
   read-field-reads.Asked,
   read-field-reads.Learnt,
-  record-of-reads.Asked,
-  record-of-reads.Learnt,
-  put-record-reads.Asked,
-  put-record-reads.Learnt,
+  put-span-reads.Asked,
+  put-span-reads.Learnt,
   read-group-below t,
   read-group.Post,
   close-group-reads.Asked,
@@ -332,15 +295,13 @@ read-member-read-group-requires : (t : ℕ) → read-member-lts.Need-read-group-
 read-member-read-group-requires t c κs =
     let w = rw (c .before .before .before .before .before .tag .given .1) at (c .before .before .before .before .before .before .before .read-field .ensures .1) in
     let p = c .before .before .before .before .before .before .before .before .before .before .before .before .before .before .before .pre .1 in
-    (omega arith, record { order = omega arith; inside = omega (arith, p .inside); deep = omega arith; listed = p .listed; ladders = p .ladders; low = p .low })
+    (omega arith, record { order = omega arith; inside = omega (arith, p .inside); deep = omega arith; spanned = p .spanned; ladders = p .ladders; low = p .low })
 
 read-member-enum-known-e-2 : (t : ℕ) → read-member-lts.Need-enum-known-e-2 (
   read-field-reads.Asked,
   read-field-reads.Learnt,
-  record-of-reads.Asked,
-  record-of-reads.Learnt,
-  put-record-reads.Asked,
-  put-record-reads.Learnt,
+  put-span-reads.Asked,
+  put-span-reads.Learnt,
   read-group-below t,
   read-group.Post,
   close-group-reads.Asked,
@@ -351,10 +312,8 @@ read-member-enum-known-e-2 t c = search needs
 read-member-enum-known-next : (t : ℕ) → read-member-lts.Need-enum-known-next (
   read-field-reads.Asked,
   read-field-reads.Learnt,
-  record-of-reads.Asked,
-  record-of-reads.Learnt,
-  put-record-reads.Asked,
-  put-record-reads.Learnt,
+  put-span-reads.Asked,
+  put-span-reads.Learnt,
   read-group-below t,
   read-group.Post,
   close-group-reads.Asked,
@@ -365,10 +324,8 @@ read-member-enum-known-next t c = search needs
 read-member-close-group-requires : (t : ℕ) → read-member-lts.Need-close-group-requires (
   read-field-reads.Asked,
   read-field-reads.Learnt,
-  record-of-reads.Asked,
-  record-of-reads.Learnt,
-  put-record-reads.Asked,
-  put-record-reads.Learnt,
+  put-span-reads.Asked,
+  put-span-reads.Learnt,
   read-group-below t,
   read-group.Post,
   close-group-reads.Asked,
@@ -384,10 +341,8 @@ read-member-close-group-requires t c κs =
 read-member-same-length : (t : ℕ) → read-member-lts.Need-same-length (
   read-field-reads.Asked,
   read-field-reads.Learnt,
-  record-of-reads.Asked,
-  record-of-reads.Learnt,
-  put-record-reads.Asked,
-  put-record-reads.Learnt,
+  put-span-reads.Asked,
+  put-span-reads.Learnt,
   read-group-below t,
   read-group.Post,
   close-group-reads.Asked,
@@ -398,10 +353,8 @@ read-member-same-length t c = search needs
 read-member-returns : (t : ℕ) → read-member-lts.Need-returns (
   read-field-reads.Asked,
   read-field-reads.Learnt,
-  record-of-reads.Asked,
-  record-of-reads.Learnt,
-  put-record-reads.Asked,
-  put-record-reads.Learnt,
+  put-span-reads.Asked,
+  put-span-reads.Learnt,
   read-group-below t,
   read-group.Post,
   close-group-reads.Asked,
@@ -411,16 +364,14 @@ read-member-returns t c =
     let a = c .before .before .before .before .before .before .before .before .before .before .before .args in
     let f = c .before .before .before .read-field in record {
       within = rw (c .before .e .given .1) at (f .ensures .1);
-      exact = member-refused _ _ (a .at) (a .end) (a .depth) (a .n) (tables (now (a .table)) (now (a .masks)) (now (a .sorts)) (now (a .heights))) (tables (now (a .table)) (now (a .masks)) (now (a .sorts)) (now (a .heights))) _ (f .ensures .0) _ (c .before .e .given .1);
+      exact = member-refused _ _ (a .at) (a .end) (a .depth) (a .n) (tables (now (a .spans)) (now (a .masks)) (now (a .sorts)) (now (a .heights))) (tables (now (a .spans)) (now (a .masks)) (now (a .sorts)) (now (a .heights))) _ (f .ensures .0) _ (c .before .e .given .1);
     }
 
 read-member-same-length-2 : (t : ℕ) → read-member-lts.Need-same-length-2 (
   read-field-reads.Asked,
   read-field-reads.Learnt,
-  record-of-reads.Asked,
-  record-of-reads.Learnt,
-  put-record-reads.Asked,
-  put-record-reads.Learnt,
+  put-span-reads.Asked,
+  put-span-reads.Learnt,
   read-group-below t,
   read-group.Post,
   close-group-reads.Asked,
@@ -431,10 +382,8 @@ read-member-same-length-2 t c = search needs
 read-member-same-length-3 : (t : ℕ) → read-member-lts.Need-same-length-3 (
   read-field-reads.Asked,
   read-field-reads.Learnt,
-  record-of-reads.Asked,
-  record-of-reads.Learnt,
-  put-record-reads.Asked,
-  put-record-reads.Learnt,
+  put-span-reads.Asked,
+  put-span-reads.Learnt,
   read-group-below t,
   read-group.Post,
   close-group-reads.Asked,
@@ -445,32 +394,28 @@ read-member-same-length-3 t c = search needs
 read-member-returns-2 : (t : ℕ) → read-member-lts.Need-returns-2 (
   read-field-reads.Asked,
   read-field-reads.Learnt,
-  record-of-reads.Asked,
-  record-of-reads.Learnt,
-  put-record-reads.Asked,
-  put-record-reads.Learnt,
+  put-span-reads.Asked,
+  put-span-reads.Learnt,
   read-group-below t,
   read-group.Post,
   close-group-reads.Asked,
   close-group-reads.Learnt,
 ) (read-member-at t) read-member.Post
 read-member-returns-2 t c =
-    let a = c .before .before .before .before .before .before .before .before .before .before .before .before .before .before .before .before .args in
-    let f = c .before .before .before .before .before .before .before .before .read-field in
-    let p = c .before .before .before .before .before .before .before .before .before .before .before .before .before .before .before .before .pre .1 in
-    let w = rw (c .before .before .before .before .before .before .start .given .1) at (f .ensures .1) in
-    let put = rw (c .before .before .before .before .record-of .ensures) at (c .before .before .put-record .ensures) in record {
-      within = leaf-within (now (a .tags)) (now (a .q)) (a .at) (a .end) (a .depth) (a .n) (now (a .table)) (c .before .before .put-record .last .0) (now (a .masks)) (now (a .sorts)) (now (a .heights)) _ _ (w .1) (omega (arith, p .ladders .heights-size)) put (w .0) (w .2) (p .inside) (w .3) (p .deep) (p .listed .placed) (p .low);
-      exact = member-leaf (now (a .tags)) (now (a .q)) (a .at) (a .end) (a .depth) (a .n) (now (a .table)) (c .before .before .put-record .last .0) (now (a .masks)) (now (a .sorts)) (now (a .heights)) _ _ (w .1) (omega (arith, p .ladders .heights-size)) put _ (f .ensures .0) (c .before .before .before .before .before .before .start .given .1);
+    let a = c .before .before .before .before .before .before .before .before .before .before .before .before .before .before .before .args in
+    let f = c .before .before .before .before .before .before .before .read-field in
+    let p = c .before .before .before .before .before .before .before .before .before .before .before .before .before .before .before .pre .1 in
+    let w = rw (c .before .before .before .before .before .start .given .1) at (f .ensures .1) in
+    let put = c .before .before .put-span in record {
+      within = leaf-within (now (a .tags)) (now (a .q)) (a .at) (a .end) (a .depth) (a .n) (now (a .spans)) (put .last .0) (now (a .masks)) (now (a .sorts)) (now (a .heights)) _ _ (w .1) (omega (arith, p .ladders .heights-size)) (put .ensures) (w .0) (w .2) (p .inside) (w .3) (p .deep) (p .spanned .placed) (p .low);
+      exact = member-leaf (now (a .tags)) (now (a .q)) (a .at) (a .end) (a .depth) (a .n) (now (a .spans)) (put .last .0) (now (a .masks)) (now (a .sorts)) (now (a .heights)) _ _ (w .1) (omega (arith, p .ladders .heights-size)) (put .ensures) _ (f .ensures .0) (c .before .before .before .before .before .start .given .1);
     }
 
 read-member-same-length-4 : (t : ℕ) → read-member-lts.Need-same-length-4 (
   read-field-reads.Asked,
   read-field-reads.Learnt,
-  record-of-reads.Asked,
-  record-of-reads.Learnt,
-  put-record-reads.Asked,
-  put-record-reads.Learnt,
+  put-span-reads.Asked,
+  put-span-reads.Learnt,
   read-group-below t,
   read-group.Post,
   close-group-reads.Asked,
@@ -481,10 +426,8 @@ read-member-same-length-4 t c = search needs
 read-member-same-length-5 : (t : ℕ) → read-member-lts.Need-same-length-5 (
   read-field-reads.Asked,
   read-field-reads.Learnt,
-  record-of-reads.Asked,
-  record-of-reads.Learnt,
-  put-record-reads.Asked,
-  put-record-reads.Learnt,
+  put-span-reads.Asked,
+  put-span-reads.Learnt,
   read-group-below t,
   read-group.Post,
   close-group-reads.Asked,
@@ -495,10 +438,8 @@ read-member-same-length-5 t c = search needs
 read-member-same-length-6 : (t : ℕ) → read-member-lts.Need-same-length-6 (
   read-field-reads.Asked,
   read-field-reads.Learnt,
-  record-of-reads.Asked,
-  record-of-reads.Learnt,
-  put-record-reads.Asked,
-  put-record-reads.Learnt,
+  put-span-reads.Asked,
+  put-span-reads.Learnt,
   read-group-below t,
   read-group.Post,
   close-group-reads.Asked,
@@ -509,10 +450,8 @@ read-member-same-length-6 t c = search needs
 read-member-same-length-7 : (t : ℕ) → read-member-lts.Need-same-length-7 (
   read-field-reads.Asked,
   read-field-reads.Learnt,
-  record-of-reads.Asked,
-  record-of-reads.Learnt,
-  put-record-reads.Asked,
-  put-record-reads.Learnt,
+  put-span-reads.Asked,
+  put-span-reads.Learnt,
   read-group-below t,
   read-group.Post,
   close-group-reads.Asked,
@@ -523,10 +462,8 @@ read-member-same-length-7 t c = search needs
 read-member-returns-3 : (t : ℕ) → read-member-lts.Need-returns-3 (
   read-field-reads.Asked,
   read-field-reads.Learnt,
-  record-of-reads.Asked,
-  record-of-reads.Learnt,
-  put-record-reads.Asked,
-  put-record-reads.Learnt,
+  put-span-reads.Asked,
+  put-span-reads.Learnt,
   read-group-below t,
   read-group.Post,
   close-group-reads.Asked,
@@ -538,16 +475,14 @@ read-member-returns-3 t c =
     let g = c .before .before .before .before .before .before .before .before .before .before .before .read-group in
     let w = rw (c .before .before .before .before .before .before .before .before .before .before .before .before .before .before .before .before .before .tag .given .1) at (f .ensures .1) in record {
       within = rw (c .before .e2 .given .1) at (g .ensures .within);
-      exact = member-group-refused _ _ (a .at) (a .end) (a .depth) (a .n) (tables (now (a .table)) (now (a .masks)) (now (a .sorts)) (now (a .heights))) (tables (g .last .1 .1 .1 .1 .1 .1 .0) (g .last .1 .1 .1 .1 .1 .1 .1 .0) (g .last .1 .1 .1 .1 .1 .1 .1 .1 .0) (g .last .1 .1 .1 .1 .1 .1 .1 .1 .1 .0)) _ (f .ensures .0) _ _ _ (c .before .before .before .before .before .before .before .before .before .before .before .before .before .before .before .before .before .tag .given .1) (w .0) (w .1) (w .2) _ (rw (c .before .e2 .given .1) at (g .ensures .exact));
+      exact = member-group-refused _ _ (a .at) (a .end) (a .depth) (a .n) (tables (now (a .spans)) (now (a .masks)) (now (a .sorts)) (now (a .heights))) (tables (g .last .1 .1 .1 .1 .1 .1 .0) (g .last .1 .1 .1 .1 .1 .1 .1 .0) (g .last .1 .1 .1 .1 .1 .1 .1 .1 .0) (g .last .1 .1 .1 .1 .1 .1 .1 .1 .1 .0)) _ (f .ensures .0) _ _ _ (c .before .before .before .before .before .before .before .before .before .before .before .before .before .before .before .before .before .tag .given .1) (w .0) (w .1) (w .2) _ (rw (c .before .e2 .given .1) at (g .ensures .exact));
     }
 
 read-member-same-length-8 : (t : ℕ) → read-member-lts.Need-same-length-8 (
   read-field-reads.Asked,
   read-field-reads.Learnt,
-  record-of-reads.Asked,
-  record-of-reads.Learnt,
-  put-record-reads.Asked,
-  put-record-reads.Learnt,
+  put-span-reads.Asked,
+  put-span-reads.Learnt,
   read-group-below t,
   read-group.Post,
   close-group-reads.Asked,
@@ -558,10 +493,8 @@ read-member-same-length-8 t c = search needs
 read-member-same-length-9 : (t : ℕ) → read-member-lts.Need-same-length-9 (
   read-field-reads.Asked,
   read-field-reads.Learnt,
-  record-of-reads.Asked,
-  record-of-reads.Learnt,
-  put-record-reads.Asked,
-  put-record-reads.Learnt,
+  put-span-reads.Asked,
+  put-span-reads.Learnt,
   read-group-below t,
   read-group.Post,
   close-group-reads.Asked,
@@ -572,10 +505,8 @@ read-member-same-length-9 t c = search needs
 read-member-same-length-10 : (t : ℕ) → read-member-lts.Need-same-length-10 (
   read-field-reads.Asked,
   read-field-reads.Learnt,
-  record-of-reads.Asked,
-  record-of-reads.Learnt,
-  put-record-reads.Asked,
-  put-record-reads.Learnt,
+  put-span-reads.Asked,
+  put-span-reads.Learnt,
   read-group-below t,
   read-group.Post,
   close-group-reads.Asked,
@@ -586,10 +517,8 @@ read-member-same-length-10 t c = search needs
 read-member-same-length-11 : (t : ℕ) → read-member-lts.Need-same-length-11 (
   read-field-reads.Asked,
   read-field-reads.Learnt,
-  record-of-reads.Asked,
-  record-of-reads.Learnt,
-  put-record-reads.Asked,
-  put-record-reads.Learnt,
+  put-span-reads.Asked,
+  put-span-reads.Learnt,
   read-group-below t,
   read-group.Post,
   close-group-reads.Asked,
@@ -600,10 +529,8 @@ read-member-same-length-11 t c = search needs
 read-member-returns-4 : (t : ℕ) → read-member-lts.Need-returns-4 (
   read-field-reads.Asked,
   read-field-reads.Learnt,
-  record-of-reads.Asked,
-  record-of-reads.Learnt,
-  put-record-reads.Asked,
-  put-record-reads.Learnt,
+  put-span-reads.Asked,
+  put-span-reads.Learnt,
   read-group-below t,
   read-group.Post,
   close-group-reads.Asked,
@@ -616,8 +543,8 @@ read-member-returns-4 t c =
     let g = c .before .before .before .before .before .before .before .before .before .before .before .before .before .before .before .before .before .before .before .before .before .read-group in
     let k = c .before .before .before .before .before .before .close-group in
     let w = rw (v .1) at (f .ensures .1) in record {
-      within = group-within (now (a .q)) (a .at) (a .end) (a .depth) (a .n) _ _ _ _ (v .0 .0) (tables (now (a .table)) (now (a .masks)) (now (a .sorts)) (now (a .heights))) (g .last .1 .1 .1 .1 .1 .1 .0) (g .last .1 .1 .1 .1 .1 .1 .1 .0) (g .last .1 .1 .1 .1 .1 .1 .1 .1 .0) (g .last .1 .1 .1 .1 .1 .1 .1 .1 .1 .0) (k .last .0) (k .last .1 .0) (k .last .1 .1 .0) (w .0) (w .2) (rw (c .before .before .before .before .before .before .before .before .before .before .before .next .given .1) at (g .ensures .within)) (k .ensures);
-      exact = member-group _ _ (a .at) (a .end) (a .depth) (a .n) (tables (now (a .table)) (now (a .masks)) (now (a .sorts)) (now (a .heights))) (tables (g .last .1 .1 .1 .1 .1 .1 .0) (g .last .1 .1 .1 .1 .1 .1 .1 .0) (g .last .1 .1 .1 .1 .1 .1 .1 .1 .0) (g .last .1 .1 .1 .1 .1 .1 .1 .1 .1 .0)) _ (f .ensures .0) _ _ _ (v .1) (w .0) (w .1) (w .2) _ _ (tables (g .last .1 .1 .1 .1 .1 .1 .0) (k .last .0) (k .last .1 .0) (k .last .1 .1 .0)) (rw (c .before .before .before .before .before .before .before .before .before .before .before .next .given .1) at (g .ensures .exact)) refl (k .ensures (g .last .1 .1 .1 .1 .1 .1 .0));
+      within = group-within (now (a .q)) (a .at) (a .end) (a .depth) (a .n) _ _ _ _ (v .0 .0) (tables (now (a .spans)) (now (a .masks)) (now (a .sorts)) (now (a .heights))) (g .last .1 .1 .1 .1 .1 .1 .0) (g .last .1 .1 .1 .1 .1 .1 .1 .0) (g .last .1 .1 .1 .1 .1 .1 .1 .1 .0) (g .last .1 .1 .1 .1 .1 .1 .1 .1 .1 .0) (k .last .0) (k .last .1 .0) (k .last .1 .1 .0) (w .0) (w .2) (rw (c .before .before .before .before .before .before .before .before .before .before .before .next .given .1) at (g .ensures .within)) (k .ensures);
+      exact = member-group _ _ (a .at) (a .end) (a .depth) (a .n) (tables (now (a .spans)) (now (a .masks)) (now (a .sorts)) (now (a .heights))) (tables (g .last .1 .1 .1 .1 .1 .1 .0) (g .last .1 .1 .1 .1 .1 .1 .1 .0) (g .last .1 .1 .1 .1 .1 .1 .1 .1 .0) (g .last .1 .1 .1 .1 .1 .1 .1 .1 .1 .0)) _ (f .ensures .0) _ _ _ (v .1) (w .0) (w .1) (w .2) _ _ (tables (g .last .1 .1 .1 .1 .1 .1 .0) (k .last .0) (k .last .1 .0) (k .last .1 .1 .0)) (rw (c .before .before .before .before .before .before .before .before .before .before .before .next .given .1) at (g .ensures .exact)) refl (k .ensures (g .last .1 .1 .1 .1 .1 .1 .0));
     }
 
 pub +read-group+read-member-spec : {M : Type 1} → statement M
@@ -648,10 +575,8 @@ pub +read-group+read-member-spec : {M : Type 1} → statement M
     λ t. read-member-lts.spec (
       read-field-reads.Asked,
       read-field-reads.Learnt,
-      record-of-reads.Asked,
-      record-of-reads.Learnt,
-      put-record-reads.Asked,
-      put-record-reads.Learnt,
+      put-span-reads.Asked,
+      put-span-reads.Learnt,
       read-group-below t,
       read-group.Post,
       close-group-reads.Asked,
@@ -662,11 +587,10 @@ pub +read-group+read-member-spec : {M : Type 1} → statement M
     (read-member-read-field-requires t)
     (read-member-enum-known-e t)
     (read-member-enum-known-start t)
-    (read-member-record-of-requires t)
-    (read-member-put-record-requires t)
+    (read-member-put-span-requires t)
     (read-member-mul-heights t)
     (read-member-slice-write-heights t)
-    (read-member-add-t28 t)
+    (read-member-add-t27 t)
     (read-member-enum-known-tag t)
     (read-member-add-read-group t)
     (read-member-read-group-requires t)

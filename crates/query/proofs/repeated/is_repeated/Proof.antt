@@ -1,32 +1,47 @@
--- `is_repeated` meets its contract: none of the records from the number left on has the payload, and the others decide.
+-- `is_repeated` meets its contract: none of the predicates from the number left on has the payload, and the others decide.
 use native.Mathlib.Omega.{arith}
-use borrow.Author.Needs.{needs}
 use Prim.Native.Nat.{_-_, _≤_}
 use mathlib.Core.Path.{_≡_, sym}
-use Rattle.query.proofs.Repeats.{Unlike, repeated-none, repeated-at, unlike-more}
+use Rattle.query.proofs.Repeats.{same-shown, Unlike, repeated-none, repeated-at, unlike-more}
+use borrow.Author.Needs.{needs}
 use Rattle.query.proofs.repeated.is_repeated.Statement.{statement}
 use Rattle.query.proofs.repeated.is_repeated.Tie as tie
 
 abbrev Inv-loop : tie.InvT-loop
-Inv-loop payload q table n left₀ left = (left ≤ n) × Unlike payload q table left n
+Inv-loop payload q spans n left₀ left = (left ≤ n) × Unlike payload q spans left n
 
 abbrev μ-loop : tie.MeasureT-loop
-μ-loop payload q table n left₀ left = left
+μ-loop payload q spans n left₀ left = left
 
 loop-holds : tie.Need-loop-holds Inv-loop μ-loop
 loop-holds c = (omega arith, λ d i j. absurd (omega arith))
 
-sub-record-at : tie.Need-sub-record-at Inv-loop μ-loop
-sub-record-at c = search needs
+sub-i : tie.Need-sub-i Inv-loop μ-loop
+sub-i c = search needs
 
-record-at-requires : tie.Need-record-at-requires Inv-loop μ-loop
-record-at-requires c κs = (omega (arith, c .before .before .before .before .before .pre .1 .few), c .before .before .before .before .before .pre .1 .sized)
+mul-i : tie.Need-mul-i Inv-loop μ-loop
+mul-i c = search needs
 
-is-payload-of-requires : tie.Need-is-payload-of-requires Inv-loop μ-loop
-is-payload-of-requires c κs = (c .before .before .before .before .before .before .pre .0, rw (c .record-at .ensures) (c .before .before .before .before .before .before .pre .1 .placed (c .before .before .loop .left - 1) (omega arith)))
+mul-start : tie.Need-mul-start Inv-loop μ-loop
+mul-start c = search needs
+
+shared-slice-read-start : tie.Need-shared-slice-read-start Inv-loop μ-loop
+shared-slice-read-start c = omega (arith, c .before .before .before .before .before .before .pre .1 .sized, c .before .before .before .before .before .before .pre .1 .few)
+
+add-end : tie.Need-add-end Inv-loop μ-loop
+add-end c = search needs
+
+mul-end : tie.Need-mul-end Inv-loop μ-loop
+mul-end c = search needs
+
+shared-slice-read-end : tie.Need-shared-slice-read-end Inv-loop μ-loop
+shared-slice-read-end c = omega (arith, c .before .before .before .before .before .before .before .pre .1 .sized, c .before .before .before .before .before .before .before .pre .1 .few)
+
+is-payload-at-requires : tie.Need-is-payload-at-requires Inv-loop μ-loop
+is-payload-at-requires c κs = (c .before .before .before .before .before .before .before .pre .0, c .before .before .before .before .before .before .before .pre .1 .placed (c .before .before .before .loop .left - 1) (omega arith) .0, c .before .before .before .before .before .before .before .pre .1 .placed (c .before .before .before .loop .left - 1) (omega arith) .1)
 
 returns : tie.Need-returns Inv-loop μ-loop
-returns c = repeated-at _ _ _ _ (c .before .before .before .before .loop .left - 1) (rw (c .before .before .record-at .ensures) at (c .before .is-payload-of .ensures)) _ (omega arith) (c .if1 .taken)
+returns c = repeated-at (c .before .before .before .before .before .before .before .before .before .args .payload .now) (c .before .before .before .before .before .before .before .before .before .args .q .now) (c .before .before .before .before .before .before .before .before .before .args .spans .now) _ (c .before .before .before .before .before .loop .left - 1) (same-shown (c .before .before .before .before .before .before .before .before .before .args .q .now) (c .before .before .before .before .before .before .before .before .before .args .spans .now) (c .before .before .before .before .before .loop .left - 1) (c .before .before .before .before .before .before .before .before .before .pre .1 .placed (c .before .before .before .before .before .loop .left - 1) (omega arith)) (c .before .before .before .before .before .before .before .before .before .args .payload .now) _ (c .before .is-payload-at .ensures)) _ (omega arith) (c .if1 .taken)
 
 sub-left : tie.Need-sub-left Inv-loop μ-loop
 sub-left c = search needs
@@ -35,7 +50,7 @@ loop-less : tie.Need-loop-less Inv-loop μ-loop
 loop-less c = search needs
 
 loop-again : tie.Need-loop-again Inv-loop μ-loop
-loop-again c = (omega arith, unlike-more _ _ _ _ (c .before .before .before .before .loop .left - 1) (rw (c .before .before .record-at .ensures) at (c .before .is-payload-of .ensures)) _ _ _ (omega arith) (omega arith) (c .before .before .before .before .loop .inv .1) (c .if1 .left))
+loop-again c = (omega arith, unlike-more (c .before .before .before .before .before .before .before .before .before .args .payload .now) (c .before .before .before .before .before .before .before .before .before .args .q .now) (c .before .before .before .before .before .before .before .before .before .args .spans .now) _ (c .before .before .before .before .before .loop .left - 1) (same-shown (c .before .before .before .before .before .before .before .before .before .args .q .now) (c .before .before .before .before .before .before .before .before .before .args .spans .now) (c .before .before .before .before .before .loop .left - 1) (c .before .before .before .before .before .before .before .before .before .pre .1 .placed (c .before .before .before .before .before .loop .left - 1) (omega arith)) (c .before .before .before .before .before .before .before .before .before .args .payload .now) _ (c .before .is-payload-at .ensures)) _ _ _ (omega arith) (omega arith) (c .before .before .before .before .before .loop .inv .1) (c .if1 .left))
 
 returns-2 : tie.Need-returns-2 Inv-loop μ-loop
 returns-2 c = let e : c .before .loop .left ≡ 0 = omega arith in sym (repeated-none _ _ _ _ (rw e at (c .before .loop .inv .1)))
@@ -47,9 +62,14 @@ is-repeated-spec =
     Inv-loop
     μ-loop
     loop-holds
-    sub-record-at
-    record-at-requires
-    is-payload-of-requires
+    sub-i
+    mul-i
+    mul-start
+    shared-slice-read-start
+    add-end
+    mul-end
+    shared-slice-read-end
+    is-payload-at-requires
     returns
     sub-left
     loop-less

@@ -9,11 +9,14 @@ use Rattle.run.proofs.plan.put_access.Tie as tie
 mul-i : tie.Need-mul-i
 mul-i c = search needs
 
+widen-requires : tie.Need-widen-requires
+widen-requires c κs = search needs
+
 shared-slice-read-widen : tie.Need-shared-slice-read-widen
 shared-slice-read-widen c = search needs
 
-widen-requires : tie.Need-widen-requires
-widen-requires c κs = search needs
+widen-requires-2 : tie.Need-widen-requires-2
+widen-requires-2 c κs = search needs
 
 mul-plan : tie.Need-mul-plan
 mul-plan c = search needs
@@ -35,6 +38,9 @@ mul-plan-3 c = search needs
 
 slice-write-plan-2 : tie.Need-slice-write-plan-2
 slice-write-plan-2 c = simp length-set (omega arith)
+
+widen-requires-3 : tie.Need-widen-requires-3
+widen-requires-3 c κs = search needs
 
 add-plan-2 : tie.Need-add-plan-2
 add-plan-2 c = search needs
@@ -67,15 +73,16 @@ same-length : tie.Need-same-length
 same-length c = search needs
 
 returns : tie.Need-returns
-returns c = put-stored (c .before .before .before .before .before .before .args .plan .now) (c .before .before .before .before .before .before .args .c) _ _ _ _ _ (c .before .before .before .before .before .before .pre .1) (c .before .before .before .before .before .before .pre .0) _ (rw (c .before .widen .ensures .0))
+returns c = put-stored (c .before .before .before .before .before .before .before .before .args .plan .now) (c .before .before .before .before .before .before .before .before .args .c) _ _ _ _ _ (c .before .before .before .before .before .before .before .before .pre .1) (c .before .before .before .before .before .before .before .before .pre .0) _ (rw (c .before .before .widen2 .ensures .0, c .widen3 .ensures .0, c .before .before .before .before .widen .ensures .0))
 
 pub put-access-spec : {M : Type 1} → statement M
 put-access-spec =
     tie.close
     (tie.spec
     mul-i
-    shared-slice-read-widen
     widen-requires
+    shared-slice-read-widen
+    widen-requires-2
     mul-plan
     slice-write-plan
     mul-plan-2
@@ -83,6 +90,7 @@ put-access-spec =
     add-plan
     mul-plan-3
     slice-write-plan-2
+    widen-requires-3
     add-plan-2
     mul-plan-4
     slice-write-plan-3

@@ -1,44 +1,26 @@
--- `outcome_at` meets its contract: by the layout and the reader, the first check that fails, or the condition worked out.
-use mathlib.Core.Path.{refl}
-use Rattle.catalogue.specs.Decode.{decodeCatalogue}
-use Rattle.searchroom.proofs.Inputs.{laid-columns-few, laid-tags-length, layout-refuses, question-refuses, input-begun}
+-- `outcome_at` meets its contract: the first check that fails, or the condition worked out.
 use Rattle.searchroom.proofs.Answers.{outcome-answer-refused}
 use borrow.Author.Needs.{needs}
 use Rattle.searchroom.proofs.outcome_call.outcome_at.Statement.{statement}
 use Rattle.searchroom.proofs.outcome_call.outcome_at.Tie as tie
 
-lay-out-requires : tie.Need-lay-out-requires
-lay-out-requires c κs = search needs
+slice-aggregate-begin : tie.Need-slice-aggregate-begin
+slice-aggregate-begin c = search needs
+
+slice-aggregate-begin-2 : tie.Need-slice-aggregate-begin-2
+slice-aggregate-begin-2 c = search needs
+
+slice-aggregate-begin-3 : tie.Need-slice-aggregate-begin-3
+slice-aggregate-begin-3 c = search needs
+
+slice-aggregate-begin-4 : tie.Need-slice-aggregate-begin-4
+slice-aggregate-begin-4 c = search needs
+
+begin-requires : tie.Need-begin-requires
+begin-requires c κs = search needs
 
 returns : tie.Need-returns
-returns c = outcome-answer-refused _ _ _ _ (layout-refuses (c .before .before .before .before .args .catalogue .now) (c .before .before .before .before .args .question .now) (c .before .lay-out .result) (c .before .lay-out .ensures) (c .if1 .taken))
-
-array-share-prefix-tags : tie.Need-array-share-prefix-tags
-array-share-prefix-tags c = laid-columns-few (c .before .before .before .before .before .before .args .catalogue .now) (c .before .before .before .lay-out .result) (decodeCatalogue (c .before .before .before .before .before .before .args .catalogue .now)) (c .before .before .before .lay-out .ensures)
-
-slice-aggregate-read-query : tie.Need-slice-aggregate-read-query
-slice-aggregate-read-query c = laid-tags-length (c .before .before .before .before .before .before .before .args .catalogue .now) (c .before .before .before .before .lay-out .result) (decodeCatalogue (c .before .before .before .before .before .before .before .args .catalogue .now)) (c .before .before .before .before .lay-out .ensures)
-
-slice-aggregate-read-query-2 : tie.Need-slice-aggregate-read-query-2
-slice-aggregate-read-query-2 c = search needs
-
-slice-aggregate-read-query-3 : tie.Need-slice-aggregate-read-query-3
-slice-aggregate-read-query-3 c = search needs
-
-slice-aggregate-read-query-4 : tie.Need-slice-aggregate-read-query-4
-slice-aggregate-read-query-4 c = search needs
-
-slice-aggregate-read-query-5 : tie.Need-slice-aggregate-read-query-5
-slice-aggregate-read-query-5 c = search needs
-
-read-query-requires : tie.Need-read-query-requires
-read-query-requires c κs = search needs
-
-enum-known-e : tie.Need-enum-known-e
-enum-known-e c = search needs
-
-enum-known-n : tie.Need-enum-known-n
-enum-known-n c = search needs
+returns c = outcome-answer-refused _ _ _ _ (c .before .before .before .before .before .begin .ensures .refuses (c .if1 .taken))
 
 slice-aggregate-outcome-accepted : tie.Need-slice-aggregate-outcome-accepted
 slice-aggregate-outcome-accepted c = search needs
@@ -50,32 +32,23 @@ slice-aggregate-outcome-accepted-3 : tie.Need-slice-aggregate-outcome-accepted-3
 slice-aggregate-outcome-accepted-3 c = search needs
 
 outcome-accepted-requires : tie.Need-outcome-accepted-requires
-outcome-accepted-requires c κs = (_, _, _, (c .before .before .before .before .before .before .before .before .before .before .before .before .before .before .before .before .before .before .before .lay-out .result, input-begun (c .before .before .before .before .before .before .before .before .before .before .before .before .before .before .before .before .before .before .before .before .before .before .args .catalogue .now) (c .before .before .before .before .before .before .before .before .before .before .before .before .before .before .before .before .before .before .before .before .before .before .args .question .now) (c .before .before .before .before .before .before .before .before .before .before .before .before .before .before .before .before .before .before .before .lay-out .result) _ refl _ _ (c .before .before .before .before .before .before .before .before .before .before .before .before .before .before .before .before .before .before .before .lay-out .ensures) (c .before .before .before .before .before .before .before .before .before .before .before .before .before .before .before .before .before .before .if1 .left) (c .before .before .before .before .before .before .before .before .before .before .read-query .ensures) _ (c .before .before .before .before .n .given .1), refl, refl, refl))
+outcome-accepted-requires c κs = (_, _, _, c .before .before .before .before .before .before .before .before .before .before .begin .ensures .accepts (c .before .before .before .before .before .if1 .left))
 
 returns-2 : tie.Need-returns-2
-returns-2 c = outcome-answer-refused _ _ _ _ (question-refuses (c .before .before .before .before .before .before .before .before .before .before .before .before .before .before .before .before .before .before .before .args .catalogue .now) (c .before .before .before .before .before .before .before .before .before .before .before .before .before .before .before .before .before .before .before .args .question .now) (c .before .before .before .before .before .before .before .before .before .before .before .before .before .before .before .before .lay-out .result) _ refl _ _ (c .before .before .before .before .before .before .before .before .before .before .before .before .before .before .before .before .lay-out .ensures) (c .before .before .before .before .before .before .before .before .before .before .before .before .before .before .before .if1 .left) (c .before .before .before .before .before .before .before .read-query .ensures) _ (c .before .e .given .1))
-
-returns-3 : tie.Need-returns-3
-returns-3 c = search needs
+returns-2 c = search needs
 
 pub outcome-at-spec : {M : Type 1} → statement M
 outcome-at-spec =
     tie.close
     (tie.spec
-    lay-out-requires
+    slice-aggregate-begin
+    slice-aggregate-begin-2
+    slice-aggregate-begin-3
+    slice-aggregate-begin-4
+    begin-requires
     returns
-    array-share-prefix-tags
-    slice-aggregate-read-query
-    slice-aggregate-read-query-2
-    slice-aggregate-read-query-3
-    slice-aggregate-read-query-4
-    slice-aggregate-read-query-5
-    read-query-requires
-    enum-known-e
-    enum-known-n
     slice-aggregate-outcome-accepted
     slice-aggregate-outcome-accepted-2
     slice-aggregate-outcome-accepted-3
     outcome-accepted-requires
-    returns-2
-    returns-3)
+    returns-2)

@@ -1,65 +1,38 @@
--- `check_question` meets its contract: by the layout and the reader, the number of the first check that fails, or how many predicates there are.
-use mathlib.Core.Path.{refl}
-use Rattle.catalogue.specs.Decode.{decodeCatalogue}
-use Rattle.searchroom.proofs.Inputs.{laid-columns-few, laid-tags-length, layout-refuses, question-refuses, input-begun}
+-- `check_question` meets its contract: the number of the first check that fails, or how many predicates there are.
 use Rattle.searchroom.proofs.Answers.{question-answer-refused, question-answer-accepted}
 use borrow.Author.Needs.{needs}
 use Rattle.searchroom.proofs.question_call.check_question.Statement.{statement}
 use Rattle.searchroom.proofs.question_call.check_question.Tie as tie
 
-lay-out-requires : tie.Need-lay-out-requires
-lay-out-requires c κs = search needs
+slice-aggregate-begin : tie.Need-slice-aggregate-begin
+slice-aggregate-begin c = search needs
+
+slice-aggregate-begin-2 : tie.Need-slice-aggregate-begin-2
+slice-aggregate-begin-2 c = search needs
+
+slice-aggregate-begin-3 : tie.Need-slice-aggregate-begin-3
+slice-aggregate-begin-3 c = search needs
+
+slice-aggregate-begin-4 : tie.Need-slice-aggregate-begin-4
+slice-aggregate-begin-4 c = search needs
+
+begin-requires : tie.Need-begin-requires
+begin-requires c κs = search needs
 
 returns : tie.Need-returns
-returns c = question-answer-refused _ _ (layout-refuses (c .before .before .before .before .args .catalogue .now) (c .before .before .before .before .args .question .now) (c .before .lay-out .result) (c .before .lay-out .ensures) (c .if1 .taken))
-
-array-share-prefix-tags : tie.Need-array-share-prefix-tags
-array-share-prefix-tags c = laid-columns-few (c .before .before .before .before .before .args .catalogue .now) (c .before .before .lay-out .result) (decodeCatalogue (c .before .before .before .before .before .args .catalogue .now)) (c .before .before .lay-out .ensures)
-
-slice-aggregate-read-query : tie.Need-slice-aggregate-read-query
-slice-aggregate-read-query c = laid-tags-length (c .before .before .before .before .before .before .args .catalogue .now) (c .before .before .before .lay-out .result) (decodeCatalogue (c .before .before .before .before .before .before .args .catalogue .now)) (c .before .before .before .lay-out .ensures)
-
-slice-aggregate-read-query-2 : tie.Need-slice-aggregate-read-query-2
-slice-aggregate-read-query-2 c = search needs
-
-slice-aggregate-read-query-3 : tie.Need-slice-aggregate-read-query-3
-slice-aggregate-read-query-3 c = search needs
-
-slice-aggregate-read-query-4 : tie.Need-slice-aggregate-read-query-4
-slice-aggregate-read-query-4 c = search needs
-
-slice-aggregate-read-query-5 : tie.Need-slice-aggregate-read-query-5
-slice-aggregate-read-query-5 c = search needs
-
-read-query-requires : tie.Need-read-query-requires
-read-query-requires c κs = search needs
-
-enum-known-e : tie.Need-enum-known-e
-enum-known-e c = search needs
-
-enum-known-n : tie.Need-enum-known-n
-enum-known-n c = search needs
+returns c = question-answer-refused _ _ (c .before .before .before .before .before .begin .ensures .refuses (c .if1 .taken))
 
 returns-2 : tie.Need-returns-2
-returns-2 c = question-answer-refused _ _ (question-refuses (c .before .before .before .before .before .before .before .before .before .before .before .before .before .before .before .before .before .before .args .catalogue .now) (c .before .before .before .before .before .before .before .before .before .before .before .before .before .before .before .before .before .before .args .question .now) (c .before .before .before .before .before .before .before .before .before .before .before .before .before .before .before .lay-out .result) _ refl _ _ (c .before .before .before .before .before .before .before .before .before .before .before .before .before .before .before .lay-out .ensures) (c .before .before .before .before .before .before .before .before .before .before .before .before .before .before .if1 .left) (c .before .before .before .before .before .before .before .read-query .ensures) _ (c .before .e .given .1))
-
-returns-3 : tie.Need-returns-3
-returns-3 c = question-answer-accepted _ _ _ _ _ (input-begun (c .before .before .before .before .before .before .before .before .before .before .before .before .before .before .before .before .before .before .args .catalogue .now) (c .before .before .before .before .before .before .before .before .before .before .before .before .before .before .before .before .before .before .args .question .now) (c .before .before .before .before .before .before .before .before .before .before .before .before .before .before .before .lay-out .result) _ refl _ _ (c .before .before .before .before .before .before .before .before .before .before .before .before .before .before .before .lay-out .ensures) (c .before .before .before .before .before .before .before .before .before .before .before .before .before .before .if1 .left) (c .before .before .before .before .before .before .before .read-query .ensures) _ (c .before .n .given .1))
+returns-2 c = let g = c .before .before .before .before .before .begin .ensures .accepts (c .if1 .left) in question-answer-accepted _ _ (g .0) _ _ (g .1)
 
 pub check-question-spec : {M : Type 1} → statement M
 check-question-spec =
     tie.close
     (tie.spec
-    lay-out-requires
+    slice-aggregate-begin
+    slice-aggregate-begin-2
+    slice-aggregate-begin-3
+    slice-aggregate-begin-4
+    begin-requires
     returns
-    array-share-prefix-tags
-    slice-aggregate-read-query
-    slice-aggregate-read-query-2
-    slice-aggregate-read-query-3
-    slice-aggregate-read-query-4
-    slice-aggregate-read-query-5
-    read-query-requires
-    enum-known-e
-    enum-known-n
-    returns-2
-    returns-3)
+    returns-2)

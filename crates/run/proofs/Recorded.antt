@@ -1,0 +1,20 @@
+-- A table that begins with the records of the first n predicates: what is planned of its records is planned of the predicates'.
+use mathlib.Core.Path.{_≡_, sym, ap, subst, _∙_}
+use Prim.Native.Nat.{ℕ, _<_}
+use mathlib.Core.List.{List, _++_}
+use lib.ListN.{drop}
+use Rattle.query.specs.declared.table.Predicate.{Predicate}
+use Rattle.query.specs.Table.{recordAt, recordIn, recordsOf}
+use Rattle.query.proofs.Tabulated.{record-in}
+use Rattle.run.specs.Plan.{accessOf, HasColumn, HaveColumns, Planned}
+
+module _ (q spans : List ℕ) (T T₀ : List Predicate) (n : ℕ) (filled : T ≡ recordsOf q spans n ++ drop n T₀) where
+  same : (c : ℕ) → c < n → recordIn T c ≡ recordAt q spans c
+  same c l = ap (λ (t : List Predicate). recordIn t c) filled ∙ record-in q spans T₀ n c l
+
+  module _ (tags starts : List ℕ) where
+    pub have-columns : HaveColumns tags starts (recordAt q spans) n → HaveColumns tags starts (recordIn T) n
+    have-columns h c l = subst (HasColumn tags starts) (sym (same c l)) (h c l)
+
+    pub planned : (P : List ℕ) → Planned tags starts (recordIn T) P n → Planned tags starts (recordAt q spans) P n
+    planned P h c l = h c l ∙ ap (accessOf tags starts) (same c l)
