@@ -2,7 +2,7 @@
 use Prim.Native.Nat.{ℕ, zero, suc, _+_, _-_, _≤_, _<_}
 use native.Mathlib.Numerals.{add-one}
 use native.Mathlib.Omega.{arith}
-use mathlib.Core.Path.{_≡_, refl, sym, ap, _∙_}
+use mathlib.Core.Path.{_≡_, refl, sym, ap, ap₂, _∙_}
 use mathlib.Core.Bool.{Bool, true, false, _&&_, _||_, and-false, or-false, or-assoc}
 use mathlib.Core.Logic.{_⊎_, inl, inr}
 use mathlib.Core.List.{List, [], _∷_, _++_}
@@ -10,6 +10,7 @@ use lib.ListN.{length, getD, take, drop, length-drop, drop-of-length-le}
 use lib.Seq.{drop-cons, take-all}
 use lib.Dec.{eqb}
 use borrow.Author.Tests.{eq-eqb, ne-eqb}
+use Rattle.fields.specs.Numbers.{numberAt}
 use Rattle.strategy.specs.Bools.{same?, or-left, or-right}
 use Rattle.predicate.specs.Meaning.{Predicate, same}
 use Rattle.predicate.specs.Payload.{payloadHead}
@@ -47,14 +48,34 @@ payload-parts payload two = drop-cons payload 0 0 (omega arith) ∙ ap (λ l. ge
 
 -- a payload against the bytes from `start` up to `end`
 module _ (payload q : List ℕ) (start end : ℕ) (some : 2 ≤ length payload) (two : start + payloadHead ≤ end) (inside : end ≤ length q) where
-  first-byte : getD (payloadAt q start end) 0 0 ≡ getD q start 0
-  first-byte = let z : start + 0 ≡ start = omega arith in rw z at (payload-byte q start end 0 (omega arith))
+  abbrev here : List ℕ
+  here = payloadAt q start end
 
-  pub other-column : (getD payload 0 0 ≡ getD q start 0 → ⊥) → false ≡ same payload (payloadAt q start end)
-  unfolding same
-  other-column n =
-      let l : 0 < length (payloadAt q start end) = omega (arith, payload-length q start end (omega arith) inside) in
-      rw (drop-cons payload 0 0 (omega arith), drop-cons (payloadAt q start end) 0 0 l, first-byte, ne-eqb _ _ n)
+  byte-is : (i : ℕ) → i < 2 → getD here i 0 ≡ getD q (start + i) 0
+  byte-is i l = payload-byte q start end i (omega arith)
+
+  here-parts : here ≡ getD q (start + 0) 0 ∷ getD q (start + 1) 0 ∷ drop 2 here
+  here-parts =
+      payload-parts here (omega (arith, payload-length q start end (omega arith) inside))
+      ∙ rw (byte-is 0 (omega arith), byte-is 1 (omega arith))
+
+  abbrev column : Bool
+  column = eqb (getD payload 0 0) (getD q (start + 0) 0)
+
+  abbrev after : Bool
+  after = eqb (getD payload 1 0) (getD q (start + 1) 0) && same (drop 2 payload) (drop 2 here)
+
+  -- column and kind as one number of two bytes
+  pub other-head : (x y : ℕ) → x ≡ numberAt payload 0 2 → y ≡ numberAt q start 2 → (x ≡ y → ⊥) → false ≡ same payload here
+  unfolding same numberAt
+  other-head x y x-is y-is n = sym (ap₂ same (payload-parts payload some) here-parts ∙ go (same? (getD payload 0 0) (getD q (start + 0) 0)))
+    where
+      other-kind : getD payload 0 0 ≡ getD q (start + 0) 0 → after ≡ false
+      other-kind e = rw (ne-eqb (getD payload 1 0) (getD q (start + 1) 0) (λ f. n (omega arith)))
+
+      go : (getD payload 0 0 ≡ getD q (start + 0) 0) ⊎ (getD payload 0 0 ≡ getD q (start + 0) 0 → ⊥) → (column && after) ≡ false
+      go (inl e) = rw (other-kind e) (and-false column)
+      go (inr m) = rw (ne-eqb (getD payload 0 0) (getD q (start + 0) 0) m)
 
   pub same-part : (r : Bool) → r ≡ same payload (take (end - start) (drop start q)) → r ≡ same payload (payloadAt q start end)
   unfolding payloadAt

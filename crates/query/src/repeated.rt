@@ -30,8 +30,8 @@ fn is_payload_at(payload: &[u8], q: &[u8], start: usize, end: usize) -> bool
     requires { ⌜ (payloadHead ≤ length (now payload)) × (start + payloadHead ≤ end) × (end ≤ length (now q)) ⌝ }
     ensures { λ r. ⌜ r ≡ same (now (payload .entry)) (payloadAt (now (q .entry)) start end) ⌝ }
 {
-    // Most predicates differ in their columns.
-    if payload[0] != q[start] {
+    // Most predicates differ in column or kind.
+    if fields::number::two_bytes(payload, 0) != fields::number::two_bytes(q, start) {
         return false;
     }
     same_bytes(payload, &q[start..end])

@@ -1,18 +1,17 @@
--- `is_payload_at` meets its contract: by the first byte, or by all.
-use native.Mathlib.Omega.{arith}
-use Rattle.query.proofs.Repeats.{other-column, same-part}
+-- `is_payload_at` meets its contract: by column and kind, or by all bytes.
+use Rattle.query.proofs.Repeats.{other-head, same-part}
 use borrow.Author.Needs.{needs}
 use Rattle.query.proofs.repeated.is_payload_at.Statement.{statement}
 use Rattle.query.proofs.repeated.is_payload_at.Tie as tie
 
-shared-slice-read-if1 : tie.Need-shared-slice-read-if1
-shared-slice-read-if1 c = search needs
+two-bytes-requires : tie.Need-two-bytes-requires
+two-bytes-requires c κs = search needs
 
-shared-slice-read-if1-2 : tie.Need-shared-slice-read-if1-2
-shared-slice-read-if1-2 c = search needs
+two-bytes-requires-2 : tie.Need-two-bytes-requires-2
+two-bytes-requires-2 c κs = search needs
 
 returns : tie.Need-returns
-returns c = other-column (c .before .before .before .before .before .args .payload .now) (c .before .before .before .before .before .args .q .now) (c .before .before .before .before .before .args .start) (c .before .before .before .before .before .args .end) (c .before .before .before .before .before .pre .0) (c .before .before .before .before .before .pre .1) (c .before .before .before .before .before .pre .2) (c .if1 .taken)
+returns c = other-head (c .before .before .before .before .before .args .payload .now) (c .before .before .before .before .before .args .q .now) (c .before .before .before .before .before .args .start) (c .before .before .before .before .before .args .end) (c .before .before .before .before .before .pre .0) (c .before .before .before .before .before .pre .1) (c .before .before .before .before .before .pre .2) _ _ (c .before .before .two-bytes .ensures .0) (c .before .two-bytes2 .ensures .0) (c .if1 .taken)
 
 sub-same-bytes : tie.Need-sub-same-bytes
 sub-same-bytes c = search needs
@@ -33,8 +32,8 @@ pub is-payload-at-spec : {M : Type 1} → statement M
 is-payload-at-spec =
     tie.close
     (tie.spec
-    shared-slice-read-if1
-    shared-slice-read-if1-2
+    two-bytes-requires
+    two-bytes-requires-2
     returns
     sub-same-bytes
     part-same-bytes-start
