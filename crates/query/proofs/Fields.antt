@@ -19,6 +19,7 @@ use Rattle.query.specs.declared.member.MemberField.{MemberField}
 use Rattle.query.specs.declared.member.MemberField.the-variants.{Refused, Leaf, Group}
 use Rattle.query.specs.Format.{conjunctionTag, disjunctionTag, predicateTag, predicateLimit, depthLimit, memberCut, emptyGroup, invalidPayload, repeatedPayload, tooDeep, tooManyPredicates, unknownTag}
 use Rattle.query.specs.Decode.{payloadAt, isRepeated, predicateField, groupField, memberField}
+use Rattle.query.specs.Places.{fieldEnd}
 use Rattle.query.specs.Table.{listed}
 use Rattle.query.specs.Sound.{SoundField}
 use Rattle.query.proofs.Records.{listed-length}
@@ -37,6 +38,23 @@ header-inside b at end = short (ltb (end - at) headerSize) refl
     short true e = tt
     short false e = long (ltb (end - (at + headerSize)) (numberAt b (at + 1) 2)) refl (ltb-false _ _ e)
 
+-- a field ends where its header says
+abbrev Ends : (b : List ℕ) → (at : ℕ) → Header → Type 0
+Ends b at Cut = Unit {0}
+Ends b at (Field tag start stop) = stop ≡ fieldEnd b at
+
+header-ends : (b : List ℕ) (at end : ℕ) → Ends b at (headerAt b at end)
+unfolding headerAt
+header-ends b at end = short (ltb (end - at) headerSize)
+  where
+    long : (x : Bool) → Ends b at (either x Cut (Field (getD b at 0) (at + headerSize) (at + headerSize + numberAt b (at + 1) 2)))
+    long true = tt
+    long false = refl
+
+    short : (x : Bool) → Ends b at (either x Cut (either (ltb (end - (at + headerSize)) (numberAt b (at + 1) 2)) Cut (Field (getD b at 0) (at + headerSize) (at + headerSize + numberAt b (at + 1) 2))))
+    short true = tt
+    short false = long (ltb (end - (at + headerSize)) (numberAt b (at + 1) 2))
+
 payload-room : (q : List ℕ) (start stop : ℕ) → payloadHead ≤ length (payloadAt q start stop) → start + payloadHead ≤ stop
 unfolding payloadAt
 payload-room q start stop h = omega (arith, length-take (stop - start) (drop start q))
@@ -45,14 +63,14 @@ module _ (tags q : List ℕ) (at end depth : ℕ) (earlier : List Predicate) whe
   abbrev Sound : MemberField → Type 0
   Sound f = SoundField tags q at end depth (length earlier) f
 
-  module _ (start stop : ℕ) (after : start ≡ at + headerSize) (order : start ≤ stop) (within : stop ≤ end) where
+  module _ (start stop : ℕ) (after : start ≡ at + headerSize) (order : start ≤ stop) (within : stop ≤ end) (ends : stop ≡ fieldEnd q at) where
     predicate-sound : Sound (predicateField tags q earlier start stop)
     unfolding predicateField
     predicate-sound = many (leb predicateLimit (length earlier)) refl
       where
         repeated : (z : Bool) → length earlier < predicateLimit → validPayload tags (payloadAt q start stop) ≡ true → Sound (either z (Refused repeatedPayload) (Leaf start stop))
         repeated true l v = (omega arith, omega arith)
-        repeated false l v = (after, payload-room q start stop (valid-payload tags (payloadAt q start stop) v .head), within, l, v)
+        repeated false l v = (after, payload-room q start stop (valid-payload tags (payloadAt q start stop) v .head), within, l, v, ends)
 
         invalid : (y : Bool) → length earlier < predicateLimit → validPayload tags (payloadAt q start stop) ≡ y
             → Sound (either y (either (isRepeated (payloadAt q start stop) earlier) (Refused repeatedPayload) (Leaf start stop)) (Refused invalidPayload))
@@ -76,21 +94,21 @@ module _ (tags q : List ℕ) (at end depth : ℕ) (earlier : List Predicate) whe
         deep true e = (omega arith, omega arith)
         deep false e = empty (eqb start stop) (leb-false _ _ e) refl
 
-  sound-at : (h : Header) → Inside at end h → Sound (memberField tags q depth earlier h)
+  sound-at : (h : Header) → Inside at end h → Ends q at h → Sound (memberField tags q depth earlier h)
   unfolding memberField
-  sound-at Cut i = (omega arith, omega arith)
-  sound-at (Field tag start stop) i = leaf (eqb tag predicateTag)
+  sound-at Cut i e = (omega arith, omega arith)
+  sound-at (Field tag start stop) i e = leaf (eqb tag predicateTag)
     where
       grouped : (y : Bool) → Sound (either y (groupField depth tag start stop) (Refused unknownTag))
-      grouped true = group-sound start stop (i .0) (i .1) (i .2) tag
+      grouped true = group-sound start stop (i .0) (i .1) (i .2) e tag
       grouped false = (omega arith, omega arith)
 
       leaf : (x : Bool) → Sound (either x (predicateField tags q earlier start stop) (either (eqb tag conjunctionTag || eqb tag disjunctionTag) (groupField depth tag start stop) (Refused unknownTag)))
-      leaf true = predicate-sound start stop (i .0) (i .1) (i .2)
+      leaf true = predicate-sound start stop (i .0) (i .1) (i .2) e
       leaf false = grouped (eqb tag conjunctionTag || eqb tag disjunctionTag)
 
   pub field-sound : Sound (memberField tags q depth earlier (headerAt q at end))
-  field-sound = sound-at (headerAt q at end) (header-inside q at end)
+  field-sound = sound-at (headerAt q at end) (header-inside q at end) (header-ends q at end)
 
 -- the paths of the code
 

@@ -18,14 +18,14 @@ use Rattle.sets.specs.Set.{runSet}
 use Rattle.sets.specs.Rungs.{rungs}
 use Rattle.sets.specs.RungLaws.{rungs-append}
 use Rattle.predicate.specs.Meaning.{Predicate}
-use Rattle.predicate.specs.Payload.{payloadHead}
+use Rattle.predicate.specs.Payload.{predicateOf, payloadHead}
 use Rattle.query.specs.declared.member.MemberField.{MemberField}
 use Rattle.query.specs.declared.member.MemberField.the-variants as field
 use Rattle.query.specs.declared.reader.Progress.{Progress}
 use Rattle.query.specs.declared.reader.Progress.the-variants.{Refused, Next}
 use Rattle.query.specs.Format.{predicateLimit, depthLimit}
-use Rattle.query.specs.Decode.{memberField, Read, stopped, read, settling, asGroup, putBefore, memberThen, member, members}
-use Rattle.query.specs.Spans.{spansSize, Placed, PutSpan}
+use Rattle.query.specs.Decode.{payloadAt, memberField, Read, stopped, read, settling, asGroup, putBefore, memberThen, member, members}
+use Rattle.query.specs.Places.{fieldEnd, Placed}
 use Rattle.query.specs.Table.{listed}
 use Rattle.query.specs.Ladder.{taggedRung, Tables, tables, LaddersSized, ladder, Low, Under, Kept, Closed, ClosedTo}
 use Rattle.query.specs.Reader.{Risen, Told, MemberTold, MembersTold, MemberRead, MembersRead, Within, Room}
@@ -69,7 +69,7 @@ risen-leaf P P′ M S H n d h = record {
 
 module _ (q : List ℕ) (n : ℕ) (T T1 T2 : Tables) where
   put-told : (o : Read (Forest ℕ)) (t : Tree ℕ) (ps : List Predicate) (r : Progress) → size t ≡ length ps
-      → listed q (T1 .spans) (n + length ps) ≡ listed q (T .spans) n ++ ps → Risen n (length ps) (enclosing t n) T T1
+      → listed q (T1 .places) (n + length ps) ≡ listed q (T .places) n ++ ps → Risen n (length ps) (enclosing t n) T T1
       → Told q enclosingIn (n + length ps) o r T1 T2 → Told q enclosingIn n (putBefore t ps o) r T T2
   put-told (stopped e) t ps r s a A b = b
   put-told (read f rest next) t ps r s a A b = (
@@ -80,12 +80,12 @@ module _ (q : List ℕ) (n : ℕ) (T T1 T2 : Tables) where
 
   then-told : (tags : List ℕ) (at end number : ℕ) (o : Read (Tree ℕ)) (p m : ℕ) (r : Progress) (go : List Predicate → ℕ → Read (Forest ℕ))
       → SoundTree tags q at end number o → Told q enclosing n o (Next p m) T T1
-      → Told q enclosingIn m (go (listed q (T1 .spans) m) p) r T1 T2 → Told q enclosingIn n (memberThen o (λ ps next. go (listed q (T .spans) n ++ ps) next)) r T T2
+      → Told q enclosingIn m (go (listed q (T1 .places) m) p) r T1 T2 → Told q enclosingIn n (memberThen o (λ ps next. go (listed q (T .places) n ++ ps) next)) r T T2
   then-told tags at end number (stopped e) p m r go s h l = let z : _≡_ {A = ℕ} 0 1 = cc in absurd (omega arith)
   then-told tags at end number (read t ps next) p m r go s h l =
       let z : p ≡ next = cc in
       let y : m ≡ n + length ps = cc in
-      put-told (go (listed q (T .spans) n ++ ps) next) t ps r (s .counted) (h .1) (h .2) (rw (z, y, h .1) at l)
+      put-told (go (listed q (T .places) n ++ ps) next) t ps r (s .counted) (h .1) (h .2) (rw (z, y, h .1) at l)
 
   then-refused : (o : Read (Tree ℕ)) (e : ℕ) (go : List Predicate → ℕ → Read (Forest ℕ)) → Told q enclosing n o (Refused e) T T1 → Told q enclosingIn n (memberThen o go) (Refused e) T T1
   then-refused (stopped x) e go h = h
@@ -96,7 +96,7 @@ module _ (q : List ℕ) (n : ℕ) (T T1 T2 : Tables) where
   group-refused (read f ps next) tag e h = let z : _≡_ {A = ℕ} 0 1 = cc in absurd (omega arith)
 
   group-told : (tags : List ℕ) (at end number : ℕ) (o : Read (Forest ℕ)) (tag p m : ℕ) → SoundForest tags q at end number o → Told q enclosingIn n o (Next p m) T T1
-      → T2 .spans ≡ T1 .spans → Closed n m m (taggedRung tag (runSet n (m - n))) T1 T2 → Told q enclosing n (asGroup tag o) (Next p m) T T2
+      → T2 .places ≡ T1 .places → Closed n m m (taggedRung tag (runSet n (m - n))) T1 T2 → Told q enclosing n (asGroup tag o) (Next p m) T T2
   group-told tags at end number (stopped x) tag p m s h a C = let z : _≡_ {A = ℕ} 0 1 = cc in absurd (omega arith)
   group-told tags at end number (read f ps next) tag p m s h a C =
       let y : m ≡ n + length ps = cc in
@@ -115,20 +115,20 @@ module _ (tags q : List ℕ) (at end depth n : ℕ) (T T1 : Tables) where
   unfolding members
   members-refused e ne h zero l = absurd (omega arith)
   members-refused e ne h (suc k) l =
-      simp tests (then-refused q n T T1 T1 (member k tags q at end depth (listed q (T .spans) n)) e
-      (λ ps next. members k tags q next end depth (listed q (T .spans) n ++ ps)) (h k (omega arith)))
+      simp tests (then-refused q n T T1 T1 (member k tags q at end depth (listed q (T .places) n)) e
+      (λ ps next. members k tags q next end depth (listed q (T .places) n ++ ps)) (h k (omega arith)))
 
   pub members-more : (p m : ℕ) (r : Progress) (T2 : Tables) → (at ≡ end → ⊥) → at < p → p ≤ end → MemberTold tags q at end depth n (Next p m) T T1
       → MembersTold tags q p end depth m r T1 T2 → MembersTold tags q at end depth n r T T2
   unfolding members
   members-more p m r T2 ne b e h g zero l = absurd (omega arith)
   members-more p m r T2 ne b e h g (suc k) l =
-      simp tests (then-told q n T T1 T2 tags at end (length (listed q (T .spans) n)) (member k tags q at end depth (listed q (T .spans) n)) p m r
-      (λ earlier next. members k tags q next end depth earlier) (member-sound k tags q at end depth (listed q (T .spans) n)) (h k (omega arith)) (g k (omega arith)))
+      simp tests (then-told q n T T1 T2 tags at end (length (listed q (T .places) n)) (member k tags q at end depth (listed q (T .places) n)) p m r
+      (λ earlier next. members k tags q next end depth earlier) (member-sound k tags q at end depth (listed q (T .places) n)) (h k (omega arith)) (g k (omega arith)))
 
   -- the paths of the member reader
 
-  module _ (f : MemberField) (f-is : f ≡ memberField tags q depth (listed q (T .spans) n) (headerAt q at end)) where
+  module _ (f : MemberField) (f-is : f ≡ memberField tags q depth (listed q (T .places) n) (headerAt q at end)) where
     pub member-refused : (e : ℕ) → f ≡ field.Refused e → MemberTold tags q at end depth n (Refused e) T T1
     unfolding member
     member-refused e j zero l = absurd (omega arith)
@@ -139,37 +139,36 @@ module _ (tags q : List ℕ) (at end depth n : ℕ) (T T1 : Tables) where
       unfolding member
       member-group-refused e g zero l = absurd (omega arith)
       member-group-refused e g (suc k) l =
-          simp (← f-is, is-group) (group-refused q n T T1 T1 (members k tags q start stop (depth + 1) (listed q (T .spans) n)) tag e (g k (omega arith)))
+          simp (← f-is, is-group) (group-refused q n T T1 T1 (members k tags q start stop (depth + 1) (listed q (T .places) n)) tag e (g k (omega arith)))
 
-      pub member-group : (p m : ℕ) (T2 : Tables) → MembersTold tags q start stop (depth + 1) n (Next p m) T T1 → T2 .spans ≡ T1 .spans
+      pub member-group : (p m : ℕ) (T2 : Tables) → MembersTold tags q start stop (depth + 1) n (Next p m) T T1 → T2 .places ≡ T1 .places
           → Closed n m m (taggedRung tag (runSet n (m - n))) T1 T2 → MemberTold tags q at end depth n (Next p m) T T2
       unfolding member
       member-group p m T2 g c C zero l = absurd (omega arith)
       member-group p m T2 g c C (suc k) l =
-          simp (← f-is, is-group) (group-told q n T T1 T2 tags start stop (length (listed q (T .spans) n)) (members k tags q start stop (depth + 1) (listed q (T .spans) n)) tag p m
-          (members-sound k tags q start stop (depth + 1) (listed q (T .spans) n)) (g k (omega arith)) c C)
+          simp (← f-is, is-group) (group-told q n T T1 T2 tags start stop (length (listed q (T .places) n)) (members k tags q start stop (depth + 1) (listed q (T .places) n)) tag p m
+          (members-sound k tags q start stop (depth + 1) (listed q (T .places) n)) (g k (omega arith)) c C)
 
-module _ (tags q : List ℕ) (at end depth n : ℕ) (P P′ M S H : List ℕ) (start stop : ℕ) (two : start + payloadHead ≤ stop) (room : n < length H)
-    (put : PutSpan n start stop P P′) where
+module _ (tags q : List ℕ) (at end depth n : ℕ) (P M S H : List ℕ) (start stop : ℕ) (begins : start ≡ at + headerSize) (ends : stop ≡ fieldEnd q at)
+    (two : start + payloadHead ≤ stop) (place : n < length P) (room : n < length H) where
+  leaf-listed : listed q (set P n at) (n + 1) ≡ listed q P n ++ (predicateOf (start + payloadHead) (payloadAt q start stop) ∷ [])
+  leaf-listed =
+      rw (begins, ends) (listed-put q P n at place ∙ ap (λ p. listed q P n ++ (p ∷ [])) (record-shows q (at + headerSize) (fieldEnd q at) (omega arith)))
+
   pub member-leaf : (f : MemberField) → f ≡ memberField tags q depth (listed q P n) (headerAt q at end) → f ≡ field.Leaf start stop
-      → MemberTold tags q at end depth n (Next stop (n + 1)) (tables P M S H) (tables P′ M S (set H n 0))
+      → MemberTold tags q at end depth n (Next stop (n + 1)) (tables P M S H) (tables (set P n at) M S (set H n 0))
   unfolding member
   member-leaf f i j zero l = absurd (omega arith)
-  member-leaf f i j (suc k) l =
-      simp (← i, j) (
-        refl,
-        listed-put q P P′ n start stop put ∙ ap (λ p. listed q P n ++ (p ∷ [])) (record-shows q start stop two),
-        risen-leaf P P′ M S H n (length (listed q P n)) room,
-      )
+  member-leaf f i j (suc k) l = simp (← i, j) (refl, leaf-listed, risen-leaf P (set P n at) M S H n (length (listed q P n)) room)
 
-  pub leaf-within : start ≡ at + headerSize → stop ≤ end → end ≤ length q → n < predicateLimit → depth ≤ depthLimit → ((c : ℕ) → c < n → Placed q P c) → Low n H
-      → Within (at + headerSize) end depth n q (Next stop (n + 1)) (tables P M S H) (tables P′ M S (set H n 0))
-  leaf-within a b e c d p l = (
+  pub leaf-within : stop ≤ end → end ≤ length q → n < predicateLimit → depth ≤ depthLimit → ((c : ℕ) → c < n → Placed q P c) → Low n H
+      → Within (at + headerSize) end depth n q (Next stop (n + 1)) (tables P M S H) (tables (set P n at) M S (set H n 0))
+  leaf-within b e c d p l = (
     omega arith,
     b,
     omega arith,
     omega arith,
-    placed-put q P P′ n start stop put p two (omega arith),
+    placed-put q P n at place p (omega arith) (omega arith),
     fresh-low H n room l,
     λ k i j. (let z : k ≡ n = omega arith in rw z (rw (getD-set-same H n 0 0 room) (omega arith))),
     λ k i. getD-set-other H n k 0 0 (λ z. omega arith),
@@ -223,7 +222,7 @@ module _ (tags q : List ℕ) (at end depth n p m : ℕ) (T0 T : Tables) (G : InG
   in-group-end l =
       let z : p ≡ end = omega (arith, G .room .order) in
       record {
-        within = (G .past, G .room .order, G .more, G .room .spanned .few, G .room .spanned .placed, G .room .low, G .under, G .kept);
+        within = (G .past, G .room .order, G .more, G .room .located .few, G .room .located .placed, G .room .low, G .under, G .kept);
         exact = G .rest (Next p m) T (members-end tags q p end depth m T T z);
       }
 
@@ -235,13 +234,13 @@ module _ (tags q : List ℕ) (at end depth n p m : ℕ) (T0 T : Tables) (G : InG
     }
 
     pub in-group-more : (next k : ℕ) → MemberRead tags q p end depth m (Next next k) T T1
-        → length (T1 .spans) ≡ spansSize → LaddersSized (T1 .masks) (T1 .sorts) (T1 .heights) → InGroup tags q at end depth n next k T0 T1
+        → length (T1 .places) ≡ predicateLimit → LaddersSized (T1 .masks) (T1 .sorts) (T1 .heights) → InGroup tags q at end depth n next k T0 T1
     in-group-more next k h s l =
         let w = h .within in
         record {
           past = omega (arith, G .past);
           more = omega (arith, G .more);
-          room = record { order = w .1; inside = G .room .inside; deep = G .room .deep; spanned = record { sized = s; few = w .3; placed = w .4 }; ladders = l; low = w .5 };
+          room = record { order = w .1; inside = G .room .inside; deep = G .room .deep; located = record { sized = s; few = w .3; placed = w .4 }; ladders = l; low = w .5 };
           under = under-more n m k depth (T .heights) (T1 .heights) (G .under) (w .6) (w .7);
           kept = λ c i. w .7 c (omega (arith, G .more)) ∙ G .kept c i;
           rest = λ r T′ g. G .rest r T′ (members-more tags q p end depth m T T1 next k r T′ (λ z. omega arith) (omega arith) (w .1) (h .exact) g);

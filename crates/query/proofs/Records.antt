@@ -1,4 +1,4 @@
--- The spans of predicates: a span put, the predicates listed, and the predicate of a payload.
+-- The predicates listed by their places, a place put, and the predicate of a payload.
 use Prim.Native.Nat.{ℕ, zero, suc, _+_, _-_, _*_, _≤_, _<_}
 use native.Mathlib.Numerals.{add-one}
 use native.Mathlib.Omega.{arith}
@@ -7,71 +7,56 @@ use mathlib.Core.Logic.{_⊎_, inl, inr}
 use mathlib.Core.List.{List, [], _∷_, _++_}
 use lib.ListN.{length, getD, set, take, drop, length-set, length-append, length-take, length-drop, List·getD-append}
 use lib.Seq.{getD-set-same, getD-set-other, getD-take, getD-drop, getD-at, drop-drop, take-nil}
+use Rattle.fields.specs.Header.{headerSize}
 use Rattle.strategy.specs.Bools.{same?}
 use Rattle.predicate.specs.Meaning.{Predicate}
 use Rattle.predicate.specs.Payload.{payloadHead, predicateOf}
-use Rattle.query.specs.Format.{predicateLimit}
 use Rattle.query.specs.Decode.{payloadAt}
-use Rattle.query.specs.Spans.{spanWidth, spansSize, startAt, endAt, Placed, PutSpan}
+use Rattle.query.specs.Places.{fieldEnd, Placed}
 use Rattle.query.specs.Table.{recordAt, recordOf, predicateIn, listed}
-
--- the two stores of a span
-
-module _ (S : List ℕ) (c start end : ℕ) (sized : length S ≡ spansSize) (inside : c < predicateLimit) where
-  abbrev first : List ℕ
-  first = set S (spanWidth * c) start
-
-  abbrev stored : List ℕ
-  stored = set first (spanWidth * c + 1) end
-
-  stored-off : (j : ℕ) → (j ≡ spanWidth * c → ⊥) → (j ≡ spanWidth * c + 1 → ⊥) → getD stored j 0 ≡ getD S j 0
-  stored-off j a b = getD-set-other first (spanWidth * c + 1) j end 0 b ∙ getD-set-other S (spanWidth * c) j start 0 a
-
-  pub put-stored : PutSpan c start end S stored
-  put-stored = record {
-    start-here = getD-set-other first (spanWidth * c + 1) (spanWidth * c) end 0 (λ e. omega arith) ∙ getD-set-same S (spanWidth * c) start 0 (omega arith);
-    end-here = getD-set-same first (spanWidth * c + 1) end 0 (rw length-set (omega arith));
-    elsewhere = λ d n. (
-      stored-off (spanWidth * d) (λ e. n (omega arith)) (λ e. n (omega arith)),
-      stored-off (spanWidth * d + 1) (λ e. n (omega arith)) (λ e. n (omega arith)),
-    );
-  }
 
 -- the predicates listed
 
-pub listed-length : (q S : List ℕ) (n : ℕ) → length (listed q S n) ≡ n
+pub listed-length : (q P : List ℕ) (n : ℕ) → length (listed q P n) ≡ n
 unfolding listed
-listed-length q S zero = refl
-listed-length q S (suc n) = rw length-append (omega (arith, listed-length q S n))
+listed-length q P zero = refl
+listed-length q P (suc n) = rw length-append (omega (arith, listed-length q P n))
 
-pub listed-at : (q S : List ℕ) (n c : ℕ) (other : Predicate) → c < n → getD (listed q S n) c other ≡ predicateIn q (recordAt q S c)
+pub listed-at : (q P : List ℕ) (n c : ℕ) (other : Predicate) → c < n → getD (listed q P n) c other ≡ predicateIn q (recordAt q P c)
 unfolding listed
-listed-at q S zero c other l = absurd (omega arith)
-listed-at q S (suc n) c other l =
-    let size : length (listed q S n) ≡ n = listed-length q S n in
-    let go : (c ≡ n) ⊎ (c ≡ n → ⊥) → getD (listed q S n ++ (predicateIn q (recordAt q S n) ∷ [])) c other ≡ predicateIn q (recordAt q S c)
+listed-at q P zero c other l = absurd (omega arith)
+listed-at q P (suc n) c other l =
+    let size : length (listed q P n) ≡ n = listed-length q P n in
+    let go : (c ≡ n) ⊎ (c ≡ n → ⊥) → getD (listed q P n ++ (predicateIn q (recordAt q P n) ∷ [])) c other ≡ predicateIn q (recordAt q P c)
     = elim [
-      | inl e ↦ rw e (getD-at (listed q S n) (predicateIn q (recordAt q S n)) [] other n size)
-      | inr e ↦ List·getD-append (listed q S n) (predicateIn q (recordAt q S n) ∷ []) other c (omega arith) ∙ listed-at q S n c other (omega arith)
+      | inl e ↦ rw e (getD-at (listed q P n) (predicateIn q (recordAt q P n)) [] other n size)
+      | inr e ↦ List·getD-append (listed q P n) (predicateIn q (recordAt q P n) ∷ []) other c (omega arith) ∙ listed-at q P n c other (omega arith)
     ] in
     go (same? c n)
 
-listed-same : (q S S′ : List ℕ) (n : ℕ) → ((c : ℕ) → c < n → (startAt S′ c ≡ startAt S c) × (endAt S′ c ≡ endAt S c)) → listed q S′ n ≡ listed q S n
+listed-same : (q P P′ : List ℕ) (n : ℕ) → ((c : ℕ) → c < n → getD P′ c 0 ≡ getD P c 0) → listed q P′ n ≡ listed q P n
 unfolding listed
-listed-same q S S′ zero h = refl
-listed-same q S S′ (suc n) h = rw (h n (omega arith) .0, h n (omega arith) .1, listed-same q S S′ n (λ c l. h c (omega arith)))
+listed-same q P P′ zero h = refl
+listed-same q P P′ (suc n) h = rw (h n (omega arith), listed-same q P P′ n (λ c l. h c (omega arith)))
 
-module _ (q S S′ : List ℕ) (n start end : ℕ) (p : PutSpan n start end S S′) where
-  pub listed-put : listed q S′ (n + 1) ≡ listed q S n ++ (predicateIn q (recordOf q start end) ∷ [])
+-- the place of one predicate more
+module _ (q P : List ℕ) (n at : ℕ) (room : n < length P) where
+  here : getD (set P n at) n 0 ≡ at
+  here = getD-set-same P n at 0 room
+
+  before : (c : ℕ) → c < n → getD (set P n at) c 0 ≡ getD P c 0
+  before c l = getD-set-other P n c at 0 (λ e. omega arith)
+
+  pub listed-put : listed q (set P n at) (n + 1) ≡ listed q P n ++ (predicateIn q (recordOf q (at + headerSize) (fieldEnd q at)) ∷ [])
   unfolding listed
-  listed-put = rw (add-one n, p .start-here, p .end-here, listed-same q S S′ n (λ c l. p .elsewhere c (λ e. omega arith)))
+  listed-put = rw (add-one n, here, listed-same q P (set P n at) n before)
 
-  pub placed-put : ((c : ℕ) → c < n → Placed q S c) → start + payloadHead ≤ end → end ≤ length q → (c : ℕ) → c < n + 1 → Placed q S′ c
+  pub placed-put : ((c : ℕ) → c < n → Placed q P c) → at + headerSize + payloadHead ≤ fieldEnd q at → fieldEnd q at ≤ length q → (c : ℕ) → c < n + 1 → Placed q (set P n at) c
   placed-put h a b c k = go (same? c n)
     where
-      go : (c ≡ n) ⊎ (c ≡ n → ⊥) → Placed q S′ c
-      go (inl e) = rw (e, p .start-here, p .end-here) (a, b)
-      go (inr e) = rw (p .elsewhere c e .0, p .elsewhere c e .1) (h c (omega arith))
+      go : (c ≡ n) ⊎ (c ≡ n → ⊥) → Placed q (set P n at) c
+      go (inl e) = rw (e, here) (a, b)
+      go (inr e) = rw (before c (omega arith)) (h c (omega arith))
 
 -- the predicate of a payload stands in the query as its record says
 

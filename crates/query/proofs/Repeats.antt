@@ -1,5 +1,5 @@
--- The check for an earlier payload: byte by byte, and span by span.
-use Prim.Native.Nat.{ℕ, zero, suc, _+_, _-_, _≤_, _<_}
+-- The check for an earlier payload: byte by byte, and place by place.
+use Prim.Native.Nat.{ℕ, zero, suc, _+_, _-_, _*_, _≤_, _<_}
 use native.Mathlib.Numerals.{add-one}
 use native.Mathlib.Omega.{arith}
 use mathlib.Core.Path.{_≡_, refl, sym, ap, ap₂, _∙_}
@@ -10,12 +10,11 @@ use lib.ListN.{length, getD, take, drop, length-drop, drop-of-length-le}
 use lib.Seq.{drop-cons, take-all}
 use lib.Dec.{eqb}
 use borrow.Author.Tests.{eq-eqb, ne-eqb}
-use Rattle.fields.specs.Numbers.{numberAt}
 use Rattle.strategy.specs.Bools.{same?, or-left, or-right}
 use Rattle.predicate.specs.Meaning.{Predicate, same}
 use Rattle.predicate.specs.Payload.{payloadHead}
 use Rattle.query.specs.Decode.{payloadAt, payloadOf, isRepeated}
-use Rattle.query.specs.Spans.{startAt, endAt, Placed}
+use Rattle.query.specs.Places.{startAt, endAt, Placed}
 use Rattle.query.specs.Table.{recordAt, predicateIn, listed}
 use Rattle.query.proofs.Records.{payload-byte, payload-length, record-shows}
 
@@ -54,41 +53,41 @@ module _ (payload q : List ℕ) (start end : ℕ) (some : 2 ≤ length payload) 
   byte-is : (i : ℕ) → i < 2 → getD here i 0 ≡ getD q (start + i) 0
   byte-is i l = payload-byte q start end i (omega arith)
 
-  here-parts : here ≡ getD q (start + 0) 0 ∷ getD q (start + 1) 0 ∷ drop 2 here
+  here-parts : here ≡ getD q start 0 ∷ getD q (start + 1) 0 ∷ drop 2 here
   here-parts =
-      payload-parts here (omega (arith, payload-length q start end (omega arith) inside))
-      ∙ rw (byte-is 0 (omega arith), byte-is 1 (omega arith))
+      let z : start + 0 ≡ start = omega arith in
+      payload-parts here (omega (arith, payload-length q start end (omega arith) inside)) ∙ rw (byte-is 0 (omega arith), byte-is 1 (omega arith), z)
 
   abbrev column : Bool
-  column = eqb (getD payload 0 0) (getD q (start + 0) 0)
+  column = eqb (getD payload 0 0) (getD q start 0)
 
   abbrev after : Bool
   after = eqb (getD payload 1 0) (getD q (start + 1) 0) && same (drop 2 payload) (drop 2 here)
 
-  -- column and kind as one number of two bytes
-  pub other-head : (x y : ℕ) → x ≡ numberAt payload 0 2 → y ≡ numberAt q start 2 → (x ≡ y → ⊥) → false ≡ same payload here
-  unfolding same numberAt
-  other-head x y x-is y-is n = sym (ap₂ same (payload-parts payload some) here-parts ∙ go (same? (getD payload 0 0) (getD q (start + 0) 0)))
+  -- column and kind as one number
+  pub other-head : (x y : ℕ) → x ≡ getD payload 0 0 + 256 * getD payload 1 0 → y ≡ getD q start 0 + 256 * getD q (start + 1) 0 → (x ≡ y → ⊥) → false ≡ same payload here
+  unfolding same
+  other-head x y x-is y-is n = sym (ap₂ same (payload-parts payload some) here-parts ∙ go (same? (getD payload 0 0) (getD q start 0)))
     where
-      other-kind : getD payload 0 0 ≡ getD q (start + 0) 0 → after ≡ false
+      other-kind : getD payload 0 0 ≡ getD q start 0 → after ≡ false
       other-kind e = rw (ne-eqb (getD payload 1 0) (getD q (start + 1) 0) (λ f. n (omega arith)))
 
-      go : (getD payload 0 0 ≡ getD q (start + 0) 0) ⊎ (getD payload 0 0 ≡ getD q (start + 0) 0 → ⊥) → (column && after) ≡ false
+      go : (getD payload 0 0 ≡ getD q start 0) ⊎ (getD payload 0 0 ≡ getD q start 0 → ⊥) → (column && after) ≡ false
       go (inl e) = rw (other-kind e) (and-false column)
-      go (inr m) = rw (ne-eqb (getD payload 0 0) (getD q (start + 0) 0) m)
+      go (inr m) = rw (ne-eqb (getD payload 0 0) (getD q start 0) m)
 
   pub same-part : (r : Bool) → r ≡ same payload (take (end - start) (drop start q)) → r ≡ same payload (payloadAt q start end)
   unfolding payloadAt
   same-part r e = e
 
--- a span's payload is that of its predicate
-module _ (q S : List ℕ) (c : ℕ) (placed : Placed q S c) where
-  shown : payloadOf (predicateIn q (recordAt q S c)) ≡ payloadAt q (startAt S c) (endAt S c)
+-- the payload at a predicate's place is its own
+module _ (q P : List ℕ) (c : ℕ) (placed : Placed q P c) where
+  shown : payloadOf (predicateIn q (recordAt q P c)) ≡ payloadAt q (startAt P c) (endAt q P c)
   shown =
-      ap payloadOf (record-shows q (startAt S c) (endAt S c) (placed .0))
-      ∙ sym (payload-parts (payloadAt q (startAt S c) (endAt S c)) (omega (arith, payload-length q (startAt S c) (endAt S c) (omega arith) (placed .1))))
+      ap payloadOf (record-shows q (startAt P c) (endAt q P c) (placed .0))
+      ∙ sym (payload-parts (payloadAt q (startAt P c) (endAt q P c)) (omega (arith, payload-length q (startAt P c) (endAt q P c) (omega arith) (placed .1))))
 
-  pub same-shown : (payload : List ℕ) (r : Bool) → r ≡ same payload (payloadAt q (startAt S c) (endAt S c)) → r ≡ same payload (payloadOf (predicateIn q (recordAt q S c)))
+  pub same-shown : (payload : List ℕ) (r : Bool) → r ≡ same payload (payloadAt q (startAt P c) (endAt q P c)) → r ≡ same payload (payloadOf (predicateIn q (recordAt q P c)))
   same-shown payload r e = e ∙ ap (same payload) (sym shown)
 
 -- one predicate more to compare with
@@ -99,30 +98,30 @@ repeated-last payload (o ∷ ps) p =
     ap (_||_ (same payload (payloadOf o))) (repeated-last payload ps p) ∙ sym (or-assoc (same payload (payloadOf o)) (isRepeated payload ps) (same payload (payloadOf p)))
 
 -- the payload is that of none of the predicates from `c` up to `n`
-abbrev pub Unlike : (payload q spans : List ℕ) → (c n : ℕ) → Type 0
-Unlike payload q S c n = (d : ℕ) → c ≤ d → d < n → same payload (payloadOf (predicateIn q (recordAt q S d))) ≡ false
+abbrev pub Unlike : (payload q places : List ℕ) → (c n : ℕ) → Type 0
+Unlike payload q P c n = (d : ℕ) → c ≤ d → d < n → same payload (payloadOf (predicateIn q (recordAt q P d))) ≡ false
 
-pub repeated-none : (payload q S : List ℕ) (n : ℕ) → Unlike payload q S 0 n → isRepeated payload (listed q S n) ≡ false
+pub repeated-none : (payload q P : List ℕ) (n : ℕ) → Unlike payload q P 0 n → isRepeated payload (listed q P n) ≡ false
 unfolding isRepeated listed
-repeated-none payload q S zero h = refl
-repeated-none payload q S (suc n) h =
-    repeated-last payload (listed q S n) (predicateIn q (recordAt q S n))
-    ∙ rw (repeated-none payload q S n (λ d i j. h d i (omega arith)), h n (omega arith) (omega arith))
+repeated-none payload q P zero h = refl
+repeated-none payload q P (suc n) h =
+    repeated-last payload (listed q P n) (predicateIn q (recordAt q P n))
+    ∙ rw (repeated-none payload q P n (λ d i j. h d i (omega arith)), h n (omega arith) (omega arith))
 
-module _ (payload q S : List ℕ) (r : Bool) (c : ℕ) (r-is : r ≡ same payload (payloadOf (predicateIn q (recordAt q S c)))) where
-  pub repeated-at : (n : ℕ) → c < n → r ≡ true → true ≡ isRepeated payload (listed q S n)
+module _ (payload q P : List ℕ) (r : Bool) (c : ℕ) (r-is : r ≡ same payload (payloadOf (predicateIn q (recordAt q P c)))) where
+  pub repeated-at : (n : ℕ) → c < n → r ≡ true → true ≡ isRepeated payload (listed q P n)
   unfolding listed
   repeated-at zero l e = absurd (omega arith)
-  repeated-at (suc n) l e = sym (repeated-last payload (listed q S n) (predicateIn q (recordAt q S n)) ∙ go (λ k. repeated-at n k e) (same? c n))
+  repeated-at (suc n) l e = sym (repeated-last payload (listed q P n) (predicateIn q (recordAt q P n)) ∙ go (λ k. repeated-at n k e) (same? c n))
     where
-      go : (c < n → true ≡ isRepeated payload (listed q S n)) → (c ≡ n) ⊎ (c ≡ n → ⊥)
-          → (isRepeated payload (listed q S n) || same payload (payloadOf (predicateIn q (recordAt q S n)))) ≡ true
-      go h (inl z) = or-right (isRepeated payload (listed q S n)) (rw (← z) (sym r-is ∙ e))
-      go h (inr z) = or-left (same payload (payloadOf (predicateIn q (recordAt q S n)))) (sym (h (omega arith)))
+      go : (c < n → true ≡ isRepeated payload (listed q P n)) → (c ≡ n) ⊎ (c ≡ n → ⊥)
+          → (isRepeated payload (listed q P n) || same payload (payloadOf (predicateIn q (recordAt q P n)))) ≡ true
+      go h (inl z) = or-right (isRepeated payload (listed q P n)) (rw (← z) (sym r-is ∙ e))
+      go h (inr z) = or-left (same payload (payloadOf (predicateIn q (recordAt q P n)))) (sym (h (omega arith)))
 
-  pub unlike-more : (n left next : ℕ) → left ≤ c + 1 → c ≤ next → Unlike payload q S left n → r ≡ false → Unlike payload q S next n
+  pub unlike-more : (n left next : ℕ) → left ≤ c + 1 → c ≤ next → Unlike payload q P left n → r ≡ false → Unlike payload q P next n
   unlike-more n left next a b h e d i j = go (same? d c)
     where
-      go : (d ≡ c) ⊎ (d ≡ c → ⊥) → same payload (payloadOf (predicateIn q (recordAt q S d))) ≡ false
+      go : (d ≡ c) ⊎ (d ≡ c → ⊥) → same payload (payloadOf (predicateIn q (recordAt q P d))) ≡ false
       go (inl z) = rw z (sym r-is ∙ e)
       go (inr z) = h d (omega arith) j

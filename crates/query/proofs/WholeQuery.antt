@@ -94,7 +94,7 @@ module _ (tags q : List ℕ) (T T1 : Tables) where
       go (read t ps next) d k =
           let z : next ≡ p = cc in
           let y : m ≡ length ps = (let w : m ≡ 0 + length ps = cc in omega arith) in
-          let l : listed q (T1 .spans) (length ps) ≡ ps = (let w : 0 + length ps ≡ length ps = omega arith in rw w at (d .1)) in
+          let l : listed q (T1 .places) (length ps) ≡ ps = (let w : 0 + length ps ≡ length ps = omega arith in rw w at (d .1)) in
           let few = k .few (omega arith) in
           rw (z, eq-eqb _ _ e) (
             ap Accepted y,
@@ -105,9 +105,9 @@ module _ (tags q : List ℕ) (T T1 : Tables) where
               leaves = k .counted;
               numbered = k .numbered;
               full = k .full;
-              spanned = record { sized = s .spans; few = omega arith; placed = λ c i. h .within .4 c (omega arith) };
+              located = record { sized = s .places; few = omega arith; placed = λ c i. h .within .4 c (omega arith) };
               shown = l;
-              each = λ c i. recorded tags q (T1 .spans) c (each-listed (Fits tags q) q (T1 .spans) (length ps) (rw l (k .each)) c i);
+              each = λ c i. recorded tags q (T1 .places) c (each-listed (Fits tags q) q (T1 .places) (length ps) (rw l (k .each)) c i);
               ladders = λ c i. d .2 .new c (omega arith, omega arith);
               low = λ c i. h .within .5 c (omega arith);
               sized = s;
@@ -116,5 +116,5 @@ module _ (tags q : List ℕ) (T T1 : Tables) where
 
 -- predicate c of the query is the one that its record shows
 pub tabled-predicate : (tags q : List ℕ) (Q : Query) (n : ℕ) (T : Tables) → Tabled tags q Q n T → (c : ℕ) (other : Predicate) → c < n
-    → getD (Q .predicates) c other ≡ predicateIn q (recordAt q (T .spans) c)
-tabled-predicate tags q Q n T t c other l = rw (← (t .shown)) (listed-at q (T .spans) n c other l)
+    → getD (Q .predicates) c other ≡ predicateIn q (recordAt q (T .places) c)
+tabled-predicate tags q Q n T t c other l = rw (← (t .shown)) (listed-at q (T .places) n c other l)

@@ -14,20 +14,20 @@ use Rattle.query.specs.declared.whole.Reading.the-variants.{Refused, Acc
 use Rattle.query.specs.Format.{predicateLimit}
 use Rattle.query.specs.Query.{Query}
 use Rattle.query.specs.Decode.{payloadOf}
-use Rattle.query.specs.Spans.{spansSize, Spanned}
+use Rattle.query.specs.Places.{Located}
 use Rattle.query.specs.Table.{recordAt, predicateIn, listed}
 use Rattle.query.specs.Ladder.{Tables, LaddersSized, ladder, Low}
 use Rattle.query.specs.Sound.{IsRefusal}
 
 pub record TablesSized (T : Tables) : Type 0 where
-  pub spans : length (T .spans) ≡ spansSize
+  pub places : length (T .places) ≡ predicateLimit
   pub ladders : LaddersSized (T .masks) (T .sorts) (T .heights)
 
 -- one record: a condition over columns with these tags
-pub record Recorded (tags q spans : List ℕ) (c : ℕ) : Type 0 where
-  pub valid : validPayload tags (payloadOf (predicateIn q (recordAt q spans c))) ≡ true
-  pub column : recordAt q spans c .column < length tags
-  pub kind : recordAt q spans c .kind < 256
+pub record Recorded (tags q places : List ℕ) (c : ℕ) : Type 0 where
+  pub valid : validPayload tags (payloadOf (predicateIn q (recordAt q places c))) ≡ true
+  pub column : recordAt q places c .column < length tags
+  pub kind : recordAt q places c .kind < 256
 
 -- the tables show this query, of n predicates
 pub record Tabled (tags q : List ℕ) (Q : Query) (n : ℕ) (T : Tables) : Type 0 where
@@ -37,9 +37,9 @@ pub record Tabled (tags q : List ℕ) (Q : Query) (n : ℕ) (T : Tables) : Type 
   pub leaves : size (Q .tree) ≡ n
   pub numbered : Numbered (Q .tree) 0
   pub full : NonEmpty (Q .tree)
-  pub spanned : Spanned q (T .spans) n
-  pub shown : listed q (T .spans) n ≡ Q .predicates
-  pub each : (c : ℕ) → c < n → Recorded tags q (T .spans) c
+  pub located : Located q (T .places) n
+  pub shown : listed q (T .places) n ≡ Q .predicates
+  pub each : (c : ℕ) → c < n → Recorded tags q (T .places) c
   pub ladders : (c : ℕ) → c < n → ladder T c ≡ rungs (enclosing (Q .tree) 0 c)
   pub low : Low n (T .heights)
   pub sized : TablesSized T

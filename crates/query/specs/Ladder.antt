@@ -12,15 +12,15 @@ use Rattle.query.specs.Decode.{settling}
 abbrev pub taggedRung : (tag mask : ℕ) → Rung
 taggedRung tag mask = record { absorbing = settling tag; mask = mask }
 
--- the reader's tables: the spans of the predicates; the set and the tag of each rung; how many rungs each predicate has
+-- the reader's tables: the places of the predicates; the set and the tag of each rung; how many rungs each predicate has
 pub record Tables : Type 0 where
-  pub spans : List ℕ
+  pub places : List ℕ
   pub masks : List ℕ
   pub sorts : List ℕ
   pub heights : List ℕ
 
 abbrev pub tables : List ℕ → List ℕ → List ℕ → List ℕ → Tables
-tables P M S H = record { spans = P; masks = M; sorts = S; heights = H }
+tables P M S H = record { places = P; masks = M; sorts = S; heights = H }
 
 abbrev pub ladderSize : ℕ
 ladderSize = depthLimit * predicateLimit
@@ -60,6 +60,6 @@ pub record Closed (a k m : ℕ) (r : Rung) (T T′ : Tables) : Type 0 where
   pub same-after : (c : ℕ) → k ≤ c → getD (T′ .heights) c 0 ≡ getD (T .heights) c 0
   pub low : Low m (T′ .heights)
 
--- the group of the predicates from `a` up to `m` closed, whatever the spans are
+-- the group of the predicates from `a` up to `m` closed, whatever the places are
 abbrev pub ClosedTo : (a m tag : ℕ) → (M S H M′ S′ H′ : List ℕ) → Type 0
 ClosedTo a m tag M S H M′ S′ H′ = (P : List ℕ) → Closed a m m (taggedRung tag (runSet a (m - a))) (tables P M S H) (tables P M′ S′ H′)

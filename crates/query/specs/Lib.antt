@@ -3,7 +3,7 @@ pub mod Query
 pub mod Depth
 pub mod Decode
 pub mod Encode
-pub mod Spans
+pub mod Places
 pub mod Table
 pub mod Ladder
 pub mod Sound

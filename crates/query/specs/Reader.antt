@@ -11,7 +11,7 @@ use Rattle.query.specs.declared.reader.Progress.{Progress}
 use Rattle.query.specs.declared.reader.Progress.the-variants.{Refused, Next}
 use Rattle.query.specs.Format.{predicateLimit, depthLimit}
 use Rattle.query.specs.Decode.{Read, stopped, read, member, members}
-use Rattle.query.specs.Spans.{Placed, Spanned}
+use Rattle.query.specs.Places.{Placed, Located}
 use Rattle.query.specs.Table.{listed}
 use Rattle.query.specs.Ladder.{Tables, LaddersSized, ladder, Low, Under, Kept}
 use Rattle.query.specs.Sound.{IsRefusal}
@@ -25,24 +25,24 @@ pub record Risen (n k : ℕ) (around : ℕ → List Group) (T T′ : Tables) : T
 abbrev pub Told : {A : Type 0} → (q : List ℕ) → (A → ℕ → ℕ → List Group) → (n : ℕ) → Read A → Progress → Tables → Tables → Type 0
 Told q around n (stopped e) r T T′ = r ≡ Refused e
 Told q around n (read t ps next) r T T′ =
-    (r ≡ Next next (n + length ps)) × (listed q (T′ .spans) (n + length ps) ≡ listed q (T .spans) n ++ ps)
+    (r ≡ Next next (n + length ps)) × (listed q (T′ .places) (n + length ps) ≡ listed q (T .places) n ++ ps)
     × Risen n (length ps) (around t n) T T′
 
 -- a reading that is past `at`, still within `end` and within the limits
 abbrev pub Within : (at end depth n : ℕ) → (q : List ℕ) → Progress → Tables → Tables → Type 0
 Within at end depth n q (Refused e) T T′ = IsRefusal e
 Within at end depth n q (Next next m) T T′ =
-    (at ≤ next) × (next ≤ end) × (n ≤ m) × (m ≤ predicateLimit) × ((c : ℕ) → c < m → Placed q (T′ .spans) c)
+    (at ≤ next) × (next ≤ end) × (n ≤ m) × (m ≤ predicateLimit) × ((c : ℕ) → c < m → Placed q (T′ .places) c)
     × Low m (T′ .heights) × Under n m depth (T′ .heights) × Kept n (T .heights) (T′ .heights)
 
 -- the member at a place, and the members from a place on, at every fuel that is enough
 abbrev pub MemberTold : (tags q : List ℕ) → (at end depth n : ℕ) → Progress → Tables → Tables → Type 0
 MemberTold tags q at end depth n r T T′ =
-    (f : ℕ) → 2 * (end - at) < f → Told {A = Tree ℕ} q enclosing n (member f tags q at end depth (listed q (T .spans) n)) r T T′
+    (f : ℕ) → 2 * (end - at) < f → Told {A = Tree ℕ} q enclosing n (member f tags q at end depth (listed q (T .places) n)) r T T′
 
 abbrev pub MembersTold : (tags q : List ℕ) → (at end depth n : ℕ) → Progress → Tables → Tables → Type 0
 MembersTold tags q at end depth n r T T′ =
-    (f : ℕ) → 2 * (end - at) + 1 < f → Told {A = Forest ℕ} q enclosingIn n (members f tags q at end depth (listed q (T .spans) n)) r T T′
+    (f : ℕ) → 2 * (end - at) + 1 < f → Told {A = Forest ℕ} q enclosingIn n (members f tags q at end depth (listed q (T .places) n)) r T T′
 
 -- the contract of the member reader, and of the group reader
 pub record MemberRead (tags q : List ℕ) (at end depth n : ℕ) (r : Progress) (T T′ : Tables) : Type 0 where
@@ -58,6 +58,6 @@ pub record Room (at end depth n : ℕ) (q : List ℕ) (T : Tables) : Type 0 wher
   pub order : at ≤ end
   pub inside : end ≤ length q
   pub deep : depth ≤ depthLimit
-  pub spanned : Spanned q (T .spans) n
+  pub located : Located q (T .places) n
   pub ladders : LaddersSized (T .masks) (T .sorts) (T .heights)
   pub low : Low n (T .heights)

@@ -9,6 +9,7 @@ use Rattle.query.specs.declared.member.MemberField.{MemberField}
 use Rattle.query.specs.declared.member.MemberField.the-variants.{Refused, Leaf, Group}
 use Rattle.query.specs.Format.{predicateLimit, depthLimit, memberCut, bytesAfterQuery}
 use Rattle.query.specs.Decode.{payloadAt}
+use Rattle.query.specs.Places.{fieldEnd}
 
 -- "7 to 14"
 abbrev pub IsRefusal : ℕ → Type 0
@@ -19,5 +20,6 @@ abbrev pub SoundField : (tags q : List ℕ) → (at end depth n : ℕ) → Membe
 SoundField tags q at end depth n (Refused e) = IsRefusal e
 SoundField tags q at end depth n (Leaf start stop) =
     (start ≡ at + headerSize) × (start + payloadHead ≤ stop) × (stop ≤ end) × (n < predicateLimit) × (validPayload tags (payloadAt q start stop) ≡ true)
+    × (stop ≡ fieldEnd q at)
 SoundField tags q at end depth n (Group tag start stop) =
     (start ≡ at + headerSize) × (start < stop) × (stop ≤ end) × (depth < depthLimit)

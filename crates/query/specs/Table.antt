@@ -7,7 +7,7 @@ use Rattle.predicate.specs.Meaning.{Predicate}
 use Rattle.predicate.specs.Payload.{payloadHead}
 use Rattle.query.specs.declared.table.Predicate.{Predicate as PredicateRecord}
 use Rattle.query.specs.Format.{predicateLimit}
-use Rattle.query.specs.Spans.{spansSize, startAt, endAt, Placed}
+use Rattle.query.specs.Places.{startAt, endAt, Placed}
 
 -- the record of the payload from `start` up to `end`
 abbrev pub recordOf : (q : List ℕ) → (start end : ℕ) → PredicateRecord
@@ -15,16 +15,16 @@ recordOf q start end =
     record { column = getD q start 0; kind = getD q (start + 1) 0; place = start + payloadHead; len = end - (start + payloadHead) }
 
 -- the record of predicate c
-abbrev pub recordAt : (q spans : List ℕ) → (c : ℕ) → PredicateRecord
-recordAt q S c = recordOf q (startAt S c) (endAt S c)
+abbrev pub recordAt : (q places : List ℕ) → (c : ℕ) → PredicateRecord
+recordAt q P c = recordOf q (startAt P c) (endAt q P c)
 
-abbrev pub HasRecord : (q spans : List ℕ) → (c : ℕ) → Type 0
-HasRecord q S c = (length S ≡ spansSize) × (c < predicateLimit) × Placed q S c
+abbrev pub HasRecord : (q places : List ℕ) → (c : ℕ) → Type 0
+HasRecord q P c = (length P ≡ predicateLimit) × (c < predicateLimit) × Placed q P c
 
 -- the records of the first n predicates
-unfoldable pub recordsOf : (q spans : List ℕ) → (n : ℕ) → List PredicateRecord
-recordsOf q S zero = []
-recordsOf q S (suc n) = recordsOf q S n ++ (recordAt q S n ∷ [])
+unfoldable pub recordsOf : (q places : List ℕ) → (n : ℕ) → List PredicateRecord
+recordsOf q P zero = []
+recordsOf q P (suc n) = recordsOf q P n ++ (recordAt q P n ∷ [])
 
 -- what stands past a table's end
 abbrev pub noRecord : PredicateRecord
@@ -38,6 +38,6 @@ abbrev pub predicateIn : (q : List ℕ) → PredicateRecord → Predicate
 predicateIn q r = record { column = r .column; kind = r .kind; operand = take (r .len) (drop (r .place) q); place = r .place }
 
 -- the first n predicates
-unfoldable pub listed : (q spans : List ℕ) → (n : ℕ) → List Predicate
-listed q S zero = []
-listed q S (suc n) = listed q S n ++ (predicateIn q (recordAt q S n) ∷ [])
+unfoldable pub listed : (q places : List ℕ) → (n : ℕ) → List Predicate
+listed q P zero = []
+listed q P (suc n) = listed q P n ++ (predicateIn q (recordAt q P n) ∷ [])

@@ -4,6 +4,5 @@ pub mod ladder;
 pub mod member;
 pub mod reader;
 pub mod repeated;
-pub mod spans;
 pub mod table;
 pub mod whole;

@@ -8,7 +8,7 @@ ghost use Prim.Native.Nat.{_≤_};
 ghost use lib.ListN.{length};
 ghost use Rattle.fields.specs.Header.{headerAt};
 ghost use Rattle.query.specs.Decode.{groupField, predicateField, memberField};
-ghost use Rattle.query.specs.Spans.{Spanned};
+ghost use Rattle.query.specs.Places.{Located};
 ghost use Rattle.query.specs.Table.{listed};
 ghost use Rattle.query.specs.Sound.{SoundField};
 
@@ -32,17 +32,17 @@ fn group_field(depth: usize, tag: u8, start: usize, end: usize) -> MemberField
     MemberField::Group { tag, start, end }
 }
 
-// The predicates before it are the first n of the spans.
+// The predicates before it are those at the first n places.
 fn predicate_field(
     tags: &[u8],
     q: &[u8],
     start: usize,
     end: usize,
     n: usize,
-    spans: &[usize],
+    places: &[usize],
 ) -> MemberField
-    requires { ⌜ (start ≤ end) × (end ≤ length (now q)) × Spanned (now q) (now spans) n ⌝ }
-    ensures { λ r. ⌜ r ≡ predicateField (now (tags .entry)) (now (q .entry)) (listed (now (q .entry)) (now (spans .entry)) n) start end ⌝ }
+    requires { ⌜ (start ≤ end) × (end ≤ length (now q)) × Located (now q) (now places) n ⌝ }
+    ensures { λ r. ⌜ r ≡ predicateField (now (tags .entry)) (now (q .entry)) (listed (now (q .entry)) (now (places .entry)) n) start end ⌝ }
 {
     if Predicate::LIMIT <= n {
         return MemberField::Refused(Refusal::TOO_MANY_PREDICATES);
@@ -50,7 +50,7 @@ fn predicate_field(
     if !predicate::payload::payload_is_valid(tags, &q[start..end]) {
         return MemberField::Refused(Refusal::INVALID_PAYLOAD);
     }
-    if crate::repeated::is_repeated(&q[start..end], q, spans, n) {
+    if crate::repeated::is_repeated(&q[start..end], q, places, n) {
         return MemberField::Refused(Refusal::REPEATED_PAYLOAD);
     }
     MemberField::Leaf { start, end }
@@ -64,10 +64,10 @@ pub fn read_field(
     end: usize,
     depth: usize,
     n: usize,
-    spans: &[usize],
+    places: &[usize],
 ) -> MemberField
-    requires { ⌜ (at ≤ end) × (end ≤ length (now q)) × Spanned (now q) (now spans) n ⌝ }
-    ensures { λ r. ⌜ (r ≡ memberField (now (tags .entry)) (now (q .entry)) depth (listed (now (q .entry)) (now (spans .entry)) n) (headerAt (now (q .entry)) at end)) × SoundField (now (tags .entry)) (now (q .entry)) at end depth n r ⌝ }
+    requires { ⌜ (at ≤ end) × (end ≤ length (now q)) × Located (now q) (now places) n ⌝ }
+    ensures { λ r. ⌜ (r ≡ memberField (now (tags .entry)) (now (q .entry)) depth (listed (now (q .entry)) (now (places .entry)) n) (headerAt (now (q .entry)) at end)) × SoundField (now (tags .entry)) (now (q .entry)) at end depth n r ⌝ }
 {
     match fields::header::read_header(q, at, end) {
         Header::Cut => MemberField::Refused(Refusal::MEMBER_CUT),
@@ -77,7 +77,7 @@ pub fn read_field(
             end: stop,
         } => {
             if tag == Predicate::TAG {
-                return predicate_field(tags, q, start, stop, n, spans);
+                return predicate_field(tags, q, start, stop, n, places);
             }
             if tag == Group::CONJUNCTION_TAG {
                 return group_field(depth, tag, start, stop);

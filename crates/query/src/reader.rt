@@ -17,18 +17,21 @@ pub fn read_member(
     end: usize,
     depth: usize,
     n: usize,
-    spans: &mut [usize],
+    places: &mut [usize],
     masks: &mut [u64],
     sorts: &mut [u8],
     heights: &mut [usize],
 ) -> Progress
-    requires { ⌜ Room at end depth n (now q) (tables (now spans) (now masks) (now sorts) (now heights)) ⌝ }
-    ensures { λ r. ⌜ MemberRead (now (tags .entry)) (now (q .entry)) at end depth n r (tables (now (spans .entry)) (now (masks .entry)) (now (sorts .entry)) (now (heights .entry))) (tables (now (spans .exit)) (now (masks .exit)) (now (sorts .exit)) (now (heights .exit))) ⌝ }
+    requires { ⌜ Room at end depth n (now q) (tables (now places) (now masks) (now sorts) (now heights)) ⌝ }
+    ensures { λ r. ⌜ MemberRead (now (tags .entry)) (now (q .entry)) at end depth n r (tables (now (places .entry)) (now (masks .entry)) (now (sorts .entry)) (now (heights .entry))) (tables (now (places .exit)) (now (masks .exit)) (now (sorts .exit)) (now (heights .exit))) ⌝ }
 {
-    match crate::member::read_field(tags, q, at, end, depth, n, spans) {
+    match crate::member::read_field(tags, q, at, end, depth, n, places) {
         MemberField::Refused(e) => Progress::Refused(e),
-        MemberField::Leaf { start, end: stop } => {
-            crate::spans::put_span(spans, n, start, stop);
+        MemberField::Leaf {
+            start: _,
+            end: stop,
+        } => {
+            places[n] = at;
             heights[n] = 0;
             Progress::Next { at: stop, n: n + 1 }
         }
@@ -44,7 +47,7 @@ pub fn read_member(
                 stop,
                 depth + 1,
                 n,
-                spans,
+                places,
                 masks,
                 sorts,
                 heights,
@@ -67,18 +70,18 @@ fn read_group(
     end: usize,
     depth: usize,
     n: usize,
-    spans: &mut [usize],
+    places: &mut [usize],
     masks: &mut [u64],
     sorts: &mut [u8],
     heights: &mut [usize],
 ) -> Progress
-    requires { ⌜ Room at end depth n (now q) (tables (now spans) (now masks) (now sorts) (now heights)) ⌝ }
-    ensures { λ r. ⌜ MembersRead (now (tags .entry)) (now (q .entry)) at end depth n r (tables (now (spans .entry)) (now (masks .entry)) (now (sorts .entry)) (now (heights .entry))) (tables (now (spans .exit)) (now (masks .exit)) (now (sorts .exit)) (now (heights .exit))) ⌝ }
+    requires { ⌜ Room at end depth n (now q) (tables (now places) (now masks) (now sorts) (now heights)) ⌝ }
+    ensures { λ r. ⌜ MembersRead (now (tags .entry)) (now (q .entry)) at end depth n r (tables (now (places .entry)) (now (masks .entry)) (now (sorts .entry)) (now (heights .entry))) (tables (now (places .exit)) (now (masks .exit)) (now (sorts .exit)) (now (heights .exit))) ⌝ }
 {
     let mut p = at;
     let mut m = n;
     while p < end {
-        match read_member(tags, q, p, end, depth, m, spans, masks, sorts, heights) {
+        match read_member(tags, q, p, end, depth, m, places, masks, sorts, heights) {
             Progress::Refused(e) => {
                 return Progress::Refused(e);
             }

@@ -1,12 +1,13 @@
 // Whether a payload is that of an earlier predicate.
-use crate::spans::Span;
+use fields::header::Header;
 ghost use mathlib.Core.Path.{_≡_};
-ghost use Prim.Native.Nat.{_+_, _≤_};
-ghost use lib.ListN.{length};
+ghost use Prim.Native.Nat.{_+_, _*_, _≤_};
+ghost use lib.ListN.{length, getD};
+ghost use Rattle.fields.specs.Header.{headerSize};
 ghost use Rattle.predicate.specs.Meaning.{same};
 ghost use Rattle.predicate.specs.Payload.{payloadHead};
 ghost use Rattle.query.specs.Decode.{payloadAt, isRepeated};
-ghost use Rattle.query.specs.Spans.{Spanned};
+ghost use Rattle.query.specs.Places.{fieldEnd, Located};
 ghost use Rattle.query.specs.Table.{listed};
 
 fn same_bytes(a: &[u8], b: &[u8]) -> bool
@@ -25,29 +26,35 @@ fn same_bytes(a: &[u8], b: &[u8]) -> bool
     true
 }
 
-// Whether the payload is the bytes from start up to end.
-fn is_payload_at(payload: &[u8], q: &[u8], start: usize, end: usize) -> bool
-    requires { ⌜ (payloadHead ≤ length (now payload)) × (start + payloadHead ≤ end) × (end ≤ length (now q)) ⌝ }
-    ensures { λ r. ⌜ r ≡ same (now (payload .entry)) (payloadAt (now (q .entry)) start end) ⌝ }
+// Column and kind as one number: one test tells most predicates apart.
+fn head(b: &[u8], at: usize) -> usize
+    requires { ⌜ at + payloadHead ≤ length (now b) ⌝ }
+    ensures { λ r. ⌜ r ≡ getD (now (b .entry)) at 0 + 256 * getD (now (b .entry)) (at + 1) 0 ⌝ }
 {
-    // Most predicates differ in column or kind.
-    if fields::number::two_bytes(payload, 0) != fields::number::two_bytes(q, start) {
+    fields::number::widen(b[at]) + 256 * fields::number::widen(b[at + 1])
+}
+
+// Whether the payload is that of the predicate whose field begins at a place.
+fn is_payload_at(payload: &[u8], q: &[u8], at: usize) -> bool
+    requires { ⌜ (payloadHead ≤ length (now payload)) × (at + headerSize + payloadHead ≤ fieldEnd (now q) at) × (fieldEnd (now q) at ≤ length (now q)) ⌝ }
+    ensures { λ r. ⌜ r ≡ same (now (payload .entry)) (payloadAt (now (q .entry)) (at + headerSize) (fieldEnd (now (q .entry)) at)) ⌝ }
+{
+    let start = at + Header::SIZE;
+    if head(payload, 0) != head(q, start) {
         return false;
     }
+    let end = start + fields::number::two_bytes(q, at + 1);
     same_bytes(payload, &q[start..end])
 }
 
 // Whether one of the first n predicates has this payload.
-pub fn is_repeated(payload: &[u8], q: &[u8], spans: &[usize], n: usize) -> bool
-    requires { ⌜ (payloadHead ≤ length (now payload)) × Spanned (now q) (now spans) n ⌝ }
-    ensures { λ r. ⌜ r ≡ isRepeated (now (payload .entry)) (listed (now (q .entry)) (now (spans .entry)) n) ⌝ }
+pub fn is_repeated(payload: &[u8], q: &[u8], places: &[usize], n: usize) -> bool
+    requires { ⌜ (payloadHead ≤ length (now payload)) × Located (now q) (now places) n ⌝ }
+    ensures { λ r. ⌜ r ≡ isRepeated (now (payload .entry)) (listed (now (q .entry)) (now (places .entry)) n) ⌝ }
 {
     let mut left = n;
     while 0 < left {
-        let i = Span::WIDTH * (left - 1);
-        let start = spans[i];
-        let end = spans[i + 1];
-        if is_payload_at(payload, q, start, end) {
+        if is_payload_at(payload, q, places[left - 1]) {
             return true;
         }
         left -= 1;

@@ -1,12 +1,12 @@
 // The table of predicates: a record for each, in the order of the predicates.
-use crate::spans::Span;
+use fields::header::Header;
 use predicate::payload::Payload;
 ghost use mathlib.Core.Path.{_≡_};
 ghost use mathlib.Core.List.{_++_};
 ghost use Prim.Native.Nat.{_+_, _≤_};
 ghost use lib.ListN.{length, drop};
 ghost use Rattle.predicate.specs.Payload.{payloadHead};
-ghost use Rattle.query.specs.Spans.{Spanned};
+ghost use Rattle.query.specs.Places.{Located};
 ghost use Rattle.query.specs.Table.{recordOf, recordAt, HasRecord, recordsOf};
 
 // Document 01's condition: the operand is the len bytes of the query from place on.
@@ -38,24 +38,24 @@ fn record_of(q: &[u8], start: usize, end: usize) -> Predicate
 }
 
 // The record of predicate c.
-fn record_at(q: &[u8], spans: &[usize], c: usize) -> Predicate
-    requires { ⌜ HasRecord (now q) (now spans) c ⌝ }
-    ensures { λ r. ⌜ r ≡ recordAt (now (q .entry)) (now (spans .entry)) c ⌝ }
+fn record_at(q: &[u8], places: &[usize], c: usize) -> Predicate
+    requires { ⌜ HasRecord (now q) (now places) c ⌝ }
+    ensures { λ r. ⌜ r ≡ recordAt (now (q .entry)) (now (places .entry)) c ⌝ }
 {
-    let i = Span::WIDTH * c;
-    let start = spans[i];
-    let end = spans[i + 1];
+    let at = places[c];
+    let start = at + Header::SIZE;
+    let end = start + fields::number::two_bytes(q, at + 1);
     record_of(q, start, end)
 }
 
 // Stores the records of the first n predicates; what stands after them stays.
-pub fn tabulate(q: &[u8], spans: &[usize], n: usize, table: &mut [Predicate])
-    requires { ⌜ Spanned (now q) (now spans) n × (n ≤ length (now table)) ⌝ }
-    ensures { λ _. ⌜ now (table .exit) ≡ recordsOf (now (q .entry)) (now (spans .entry)) n ++ drop n (now (table .entry)) ⌝ }
+pub fn tabulate(q: &[u8], places: &[usize], n: usize, table: &mut [Predicate])
+    requires { ⌜ Located (now q) (now places) n × (n ≤ length (now table)) ⌝ }
+    ensures { λ _. ⌜ now (table .exit) ≡ recordsOf (now (q .entry)) (now (places .entry)) n ++ drop n (now (table .entry)) ⌝ }
 {
     let mut c: usize = 0;
     while c < n {
-        table[c] = record_at(q, spans, c);
+        table[c] = record_at(q, places, c);
         c += 1;
     }
 }

@@ -14,15 +14,15 @@ pub enum Reading {
 pub fn read_query(
     tags: &[u8],
     q: &[u8],
-    spans: &mut [usize],
+    places: &mut [usize],
     masks: &mut [u64],
     sorts: &mut [u8],
     heights: &mut [usize],
 ) -> Reading
-    requires { ⌜ TablesSized (tables (now spans) (now masks) (now sorts) (now heights)) ⌝ }
-    ensures { λ r. ⌜ Handed (now (tags .entry)) (now (q .entry)) (decodeTagged (now (tags .entry)) (now (q .entry))) r (tables (now (spans .exit)) (now (masks .exit)) (now (sorts .exit)) (now (heights .exit))) ⌝ }
+    requires { ⌜ TablesSized (tables (now places) (now masks) (now sorts) (now heights)) ⌝ }
+    ensures { λ r. ⌜ Handed (now (tags .entry)) (now (q .entry)) (decodeTagged (now (tags .entry)) (now (q .entry))) r (tables (now (places .exit)) (now (masks .exit)) (now (sorts .exit)) (now (heights .exit))) ⌝ }
 {
-    match crate::reader::read_member(tags, q, 0, q.len(), 0, 0, spans, masks, sorts, heights) {
+    match crate::reader::read_member(tags, q, 0, q.len(), 0, 0, places, masks, sorts, heights) {
         Progress::Refused(e) => Reading::Refused(e),
         Progress::Next { at, n } => {
             if at != q.len() {

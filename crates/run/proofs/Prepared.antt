@@ -32,16 +32,16 @@ shown-tag b rows tag start (texts ts) s = omega (arith, s .0)
 -- the tags are those of the columns that the query was read against
 module _ (b q tags : List ℕ) (l : Layout) (C : Catalogue) (Q : Query) (n : ℕ) (T : Tables)
     (laid : LaidOut b l (accepted C)) (same : length tags ≡ length (C .columns)) (read : Tabled tags q Q n T) where
-  column-inside : (c : ℕ) → c < n → recordAt q (T .spans) c .column < l .columns
+  column-inside : (c : ℕ) → c < n → recordAt q (T .places) c .column < l .columns
   column-inside c k = omega (arith, read .each c k .column, laid .2)
 
   -- what `fill_plan` asks of the tables
-  pub have-columns : length (l .tags) ≡ columnLimit → length (l .starts) ≡ columnLimit → HaveColumns (l .tags) (l .starts) (recordAt q (T .spans)) n
+  pub have-columns : length (l .tags) ≡ columnLimit → length (l .starts) ≡ columnLimit → HaveColumns (l .tags) (l .starts) (recordAt q (T .places)) n
   have-columns t s c k = (omega (arith, column-inside c k, laid .4), omega (arith, column-inside c k, laid .4))
 
   module _ (c : ℕ) (k : c < n) where
     abbrev r : Predicate
-    r = recordAt q (T .spans) c
+    r = recordAt q (T .places) c
 
     shown : Shows b (C .rows) (getD (l .tags) (r .column) 0) (getD (l .starts) (r .column) 0) (getD (C .columns) (r .column) (numbers []))
     shown = rw (laid .1) at (column-shown b l C (r .column) laid (column-inside c k))
@@ -53,21 +53,21 @@ module _ (b q tags : List ℕ) (l : Layout) (C : Catalogue) (Q : Query) (n : ℕ
       kind = refl;
       kind-byte = read .each c k .kind;
       operand = refl;
-      placed = omega (arith, read .spanned .placed c k .0, read .spanned .placed c k .1);
+      placed = omega (arith, read .located .placed c k .0, read .located .placed c k .1);
       range = valid-payload tags (payloadOf (predicateIn q r)) (read .each c k .valid) .range;
     }
 
     predicate-is : predicateAt Q c ≡ predicateIn q r
     predicate-is =
         ap (λ ps. getD ps c (record { column = 0; kind = 0; operand = []; place = 0 })) (sym (read .shown))
-        ∙ listed-at q (T .spans) n c (record { column = 0; kind = 0; operand = []; place = 0 }) k
+        ∙ listed-at q (T .places) n c (record { column = 0; kind = 0; operand = []; place = 0 }) k
 
   -- the plan shows each predicate
-  pub planned-accessed : (P : List ℕ) → Planned (l .tags) (l .starts) (recordAt q (T .spans)) P n → (c : ℕ) → c < n → Accessed b q C (predicateAt Q c) (accessAt P c)
+  pub planned-accessed : (P : List ℕ) → Planned (l .tags) (l .starts) (recordAt q (T .places)) P n → (c : ℕ) → c < n → Accessed b q C (predicateAt Q c) (accessAt P c)
   planned-accessed P p c k = rw (p c k, predicate-is c k) (planned c k)
 
   -- A RUN IS READY
-  pub ready : (F order P : List ℕ) → Folds F → isOrder n order ≡ true → length P ≡ planSize → Planned (l .tags) (l .starts) (recordAt q (T .spans)) P n
+  pub ready : (F order P : List ℕ) → Folds F → isOrder n order ≡ true → length P ≡ planSize → Planned (l .tags) (l .starts) (recordAt q (T .places)) P n
       → Ready F b q order P (T .masks) (T .sorts) (T .heights) n C Q
   unfolding ladder
   ready F order P f o s p = record {

@@ -6,7 +6,7 @@ ghost use Prim.Native.Nat.{_≤_, _<_};
 ghost use lib.ListN.{length};
 ghost use Rattle.predicate.specs.Outcome.{Folds};
 ghost use Rattle.query.specs.Format.{predicateLimit};
-ghost use Rattle.query.specs.Spans.{Spanned};
+ghost use Rattle.query.specs.Places.{Located};
 ghost use Rattle.query.specs.Table.{recordAt, recordIn};
 ghost use Rattle.run.specs.Plan.{planSize, accessAt, accessOf, HasColumn, HaveColumns, PutAccess, Planned};
 ghost use Rattle.run.specs.Ready.{HasOutcome, AnswerIs, TruthIs};
@@ -45,18 +45,18 @@ fn plan_records(tags: &[u8], starts: &[usize], table: &[Predicate], n: usize, pl
     }
 }
 
-// Plans the n predicates whose payloads lie at these spans of the query: by the table of their records, which is this
+// Plans the n predicates whose payloads lie at these places of the query: by the table of their records, which is this
 // function's own and lent to those that fill and read it.
 pub fn fill_plan(
     tags: &[u8],
     starts: &[usize],
     q: &[u8],
-    spans: &[usize],
+    places: &[usize],
     n: usize,
     plan: &mut [usize],
 )
-    requires { ⌜ Spanned (now q) (now spans) n × (length (now plan) ≡ planSize) × HaveColumns (now tags) (now starts) (recordAt (now q) (now spans)) n ⌝ }
-    ensures { λ _. ⌜ Planned (now (tags .entry)) (now (starts .entry)) (recordAt (now (q .entry)) (now (spans .entry))) (now (plan .exit)) n ⌝ }
+    requires { ⌜ Located (now q) (now places) n × (length (now plan) ≡ planSize) × HaveColumns (now tags) (now starts) (recordAt (now q) (now places)) n ⌝ }
+    ensures { λ _. ⌜ Planned (now (tags .entry)) (now (starts .entry)) (recordAt (now (q .entry)) (now (places .entry))) (now (plan .exit)) n ⌝ }
 {
     let mut table = [Predicate {
         column: 0,
@@ -64,7 +64,7 @@ pub fn fill_plan(
         place: 0,
         len: 0,
     }; Predicate::LIMIT];
-    query::table::tabulate(q, spans, n, &mut table);
+    query::table::tabulate(q, places, n, &mut table);
     plan_records(tags, starts, &table, n, plan);
 }
 

@@ -18,7 +18,7 @@ use Rattle.predicate.specs.Meaning.{outcome}
 use Rattle.run.specs.Run.{predicateAt}
 use lib.ListN.{length}
 use borrow.Author.Tests.{le-ltb, lt-ltb}
-use Rattle.searchroom.specs.Begun.{Begun, BegunSpans}
+use Rattle.searchroom.specs.Begun.{Begun, BegunPlaces}
 
 module _ (b : List ℕ) (l : Layout) where
   pub answered-refused : (d : Decoded Catalogue) → LaidOut b l d → (l .refusal ≡ 0 → ⊥) → Answered (catalogueAnswer d) (Refused (l .refusal))
@@ -43,8 +43,8 @@ number-small No = omega arith
 number-small Yes = omega arith
 
 -- the three ends of working out one condition, once the input is accepted
-module _ (b q tags starts : List ℕ) (n rows : ℕ) (spans : List ℕ) (G : BegunSpans b q tags starts n rows spans) (row c : ℕ) where
-  abbrev B : Begun b q (G .3 .0) n (tables spans (G .0) (G .1) (G .2))
+module _ (b q tags starts : List ℕ) (n rows : ℕ) (places : List ℕ) (G : BegunPlaces b q tags starts n rows places) (row c : ℕ) where
+  abbrev B : Begun b q (G .3 .0) n (tables places (G .0) (G .1) (G .2))
   B = G .3 .1
 
   same-rows : B .input .catalogue .rows ≡ rows

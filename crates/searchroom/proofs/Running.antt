@@ -107,15 +107,15 @@ module _ (b q tags starts : List ℕ) (n rows : ℕ) (T : Tables) (G : BegunWith
   pub begun-rows : rows ≤ rowLimit
   begun-rows = omega (arith, G .4, G .1 .laid .3)
 
-  pub begun-columns : HaveColumns tags starts (recordAt q (T .spans)) n
+  pub begun-columns : HaveColumns tags starts (recordAt q (T .places)) n
   begun-columns = rw (G .2, G .3) (have-columns b q (tagsOf C) (G .0) C Q n T (G .1 .laid) (tags-length (C .columns)) (G .1 .tabled) (G .1 .laid .6) (G .1 .laid .7))
 
-  pub begun-accessed : (P : List ℕ) → Planned tags starts (recordAt q (T .spans)) P n → (c : ℕ) → c < n → Accessed b q C (predicateAt Q c) (accessAt P c)
+  pub begun-accessed : (P : List ℕ) → Planned tags starts (recordAt q (T .places)) P n → (c : ℕ) → c < n → Accessed b q C (predicateAt Q c) (accessAt P c)
   begun-accessed P p c k =
       planned-accessed b q (tagsOf C) (G .0) C Q n T (G .1 .laid) (tags-length (C .columns)) (G .1 .tabled) P (rw (G .2, G .3) at p) c k
 
   module _ (F order P : List ℕ) (k : ℕ) (same : k ≡ n) (folds : Folds F) (o : isOrder n order ≡ true) (size : length P ≡ planSize)
-      (planned : Planned tags starts (recordAt q (T .spans)) P n) where
+      (planned : Planned tags starts (recordAt q (T .places)) P n) where
     begun-ready : Ready F b q order P (T .masks) (T .sorts) (T .heights) k C Q
     begun-ready =
         rw same

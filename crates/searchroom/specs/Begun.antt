@@ -23,8 +23,8 @@ abbrev pub BegunWith : (b q tags starts : List ℕ) → (n rows : ℕ) → Table
 BegunWith b q tags starts n rows T = (l : Layout) × Begun b q l n T × (tags ≡ l .tags) × (starts ≡ l .starts) × (rows ≡ l .rows)
 
 -- the same where the groups around the predicates don't matter
-abbrev pub BegunSpans : (b q tags starts : List ℕ) → (n rows : ℕ) → (spans : List ℕ) → Type 0
-BegunSpans b q tags starts n rows spans = (masks sorts heights : List ℕ) × BegunWith b q tags starts n rows (tables spans masks sorts heights)
+abbrev pub BegunPlaces : (b q tags starts : List ℕ) → (n rows : ℕ) → (places : List ℕ) → Type 0
+BegunPlaces b q tags starts n rows places = (masks sorts heights : List ℕ) × BegunWith b q tags starts n rows (tables places masks sorts heights)
 
 -- the beginning of a call: a refusal of the input, or all in hand
 pub record Begins (b q : List ℕ) (r : Beginning) (T : Tables) : Type 0 where

@@ -17,13 +17,13 @@ pub struct Beginning {
 pub fn begin(
     catalogue: &[u8],
     question: &[u8],
-    spans: &mut [usize],
+    places: &mut [usize],
     masks: &mut [u64],
     sorts: &mut [u8],
     heights: &mut [usize],
 ) -> Beginning
-    requires { ⌜ TablesSized (tables (now spans) (now masks) (now sorts) (now heights)) ⌝ }
-    ensures { λ r. ⌜ Begins (now (catalogue .entry)) (now (question .entry)) r (tables (now (spans .exit)) (now (masks .exit)) (now (sorts .exit)) (now (heights .exit))) ⌝ }
+    requires { ⌜ TablesSized (tables (now places) (now masks) (now sorts) (now heights)) ⌝ }
+    ensures { λ r. ⌜ Begins (now (catalogue .entry)) (now (question .entry)) r (tables (now (places .exit)) (now (masks .exit)) (now (sorts .exit)) (now (heights .exit))) ⌝ }
 {
     let layout = catalogue::layout::lay_out(catalogue);
     let refusal = layout.refusal;
@@ -40,7 +40,7 @@ pub fn begin(
             starts,
         };
     }
-    match query::whole::read_query(&tags[..columns], question, spans, masks, sorts, heights) {
+    match query::whole::read_query(&tags[..columns], question, places, masks, sorts, heights) {
         Reading::Refused(e) => Beginning {
             refusal: e,
             rows,

@@ -2,13 +2,12 @@
 use crate::refusal::Refusal;
 use crate::word::Answer;
 use query::ladder::Ladder;
-use query::spans::Span;
 use query::table::Predicate;
 use run::plan::Plan;
 ghost use mathlib.Core.Path.{_≡_};
 ghost use Rattle.searchroom.specs.Word.{packed};
 ghost use Rattle.searchroom.specs.Input.{decodeInput};
-ghost use Rattle.searchroom.specs.Begun.{BegunSpans};
+ghost use Rattle.searchroom.specs.Begun.{BegunPlaces};
 ghost use Rattle.searchroom.specs.Answers.{outcomeNumber, outcomeAnswer, Answered};
 
 fn number_of(answer: predicate::answer::Answer) -> u64
@@ -25,13 +24,13 @@ fn outcome_accepted(
     question: &[u8],
     tags: &[u8],
     starts: &[usize],
-    spans: &[usize],
+    places: &[usize],
     n: usize,
     rows: usize,
     entry: u64,
     condition: u64,
 ) -> Answer
-    requires { ⌜ BegunSpans (now catalogue) (now question) (now tags) (now starts) n rows (now spans) ⌝ }
+    requires { ⌜ BegunPlaces (now catalogue) (now question) (now tags) (now starts) n rows (now places) ⌝ }
     ensures { λ r. ⌜ Answered (outcomeAnswer (decodeInput (now (catalogue .entry)) (now (question .entry))) entry condition) r ⌝ }
 {
     if rows as u64 <= entry {
@@ -41,7 +40,7 @@ fn outcome_accepted(
         return Answer::Refused(Refusal::NO_SUCH_PLACE);
     }
     let mut plan = [0usize; Plan::TABLE];
-    run::plan::fill_plan(tags, starts, question, spans, n, &mut plan);
+    run::plan::fill_plan(tags, starts, question, places, n, &mut plan);
     let fold = predicate::fold::fold_table();
     let answer = run::plan::answer_of(
         &fold,
@@ -61,14 +60,14 @@ fn outcome_accepted(
 fn outcome_at(catalogue: &[u8], question: &[u8], entry: u64, condition: u64) -> Answer
     ensures { λ r. ⌜ Answered (outcomeAnswer (decodeInput (now (catalogue .entry)) (now (question .entry))) entry condition) r ⌝ }
 {
-    let mut spans = [0usize; Span::TABLE];
+    let mut places = [0usize; Predicate::LIMIT];
     let mut masks = [0u64; Ladder::TABLE];
     let mut sorts = [0u8; Ladder::TABLE];
     let mut heights = [0usize; Predicate::LIMIT];
     let begun = crate::begin::begin(
         catalogue,
         question,
-        &mut spans,
+        &mut places,
         &mut masks,
         &mut sorts,
         &mut heights,
@@ -86,7 +85,7 @@ fn outcome_at(catalogue: &[u8], question: &[u8], entry: u64, condition: u64) -> 
         question,
         &tags,
         &starts,
-        &spans,
+        &places,
         n,
         rows,
         entry,

@@ -1,7 +1,6 @@
 // Checking a question against a catalogue.
 use crate::word::Answer;
 use query::ladder::Ladder;
-use query::spans::Span;
 use query::table::Predicate;
 ghost use mathlib.Core.Path.{_≡_};
 ghost use Rattle.searchroom.specs.Word.{packed};
@@ -11,14 +10,14 @@ ghost use Rattle.searchroom.specs.Answers.{questionAnswer, Answered};
 fn check_question(catalogue: &[u8], question: &[u8]) -> Answer
     ensures { λ r. ⌜ Answered (questionAnswer (decodeInput (now (catalogue .entry)) (now (question .entry)))) r ⌝ }
 {
-    let mut spans = [0usize; Span::TABLE];
+    let mut places = [0usize; Predicate::LIMIT];
     let mut masks = [0u64; Ladder::TABLE];
     let mut sorts = [0u8; Ladder::TABLE];
     let mut heights = [0usize; Predicate::LIMIT];
     let begun = crate::begin::begin(
         catalogue,
         question,
-        &mut spans,
+        &mut places,
         &mut masks,
         &mut sorts,
         &mut heights,

@@ -3,7 +3,6 @@ use crate::refusal::Refusal;
 use crate::word::Answer;
 use bitmaps::copy::Line;
 use query::ladder::Ladder;
-use query::spans::Span;
 use query::table::Predicate;
 use run::plan::Plan;
 ghost use mathlib.Core.Path.{_≡_};
@@ -28,7 +27,7 @@ fn run_accepted(
     order: &[u8],
     tags: &[u8],
     starts: &[usize],
-    spans: &[usize],
+    places: &[usize],
     masks: &[u64],
     sorts: &[u8],
     heights: &[usize],
@@ -38,7 +37,7 @@ fn run_accepted(
     looks: &mut [u8],
     tally: &mut [u8],
 ) -> Answer
-    requires { ⌜ BegunWith (now catalogue) (now question) (now tags) (now starts) n rows (tables (now spans) (now masks) (now sorts) (now heights)) ⌝ }
+    requires { ⌜ BegunWith (now catalogue) (now question) (now tags) (now starts) n rows (tables (now places) (now masks) (now sorts) (now heights)) ⌝ }
     ensures { λ r. ⌜ (ran (packed r) (now (listed .exit)) (now (looks .exit)) (now (tally .exit)) ≡ runOf (now (catalogue .entry)) (now (question .entry)) (now (order .entry)) (now (listed .entry)) (now (looks .entry)) (now (tally .entry))) × FitsWord r ⌝ }
 {
     let count = narrow(n);
@@ -53,7 +52,7 @@ fn run_accepted(
         return Answer::Refused(Refusal::TABLE_TOO_SHORT);
     }
     let mut plan = [0usize; Plan::TABLE];
-    run::plan::fill_plan(tags, starts, question, spans, n, &mut plan);
+    run::plan::fill_plan(tags, starts, question, places, n, &mut plan);
     let fold = predicate::fold::fold_table();
     let mut selected = [0u8; Line::SIZE];
     let mut probes = [0u8; Predicate::LIMIT * Line::SIZE];
@@ -84,14 +83,14 @@ fn run_question(
 ) -> Answer
     ensures { λ r. ⌜ (ran (packed r) (now (listed .exit)) (now (looks .exit)) (now (tally .exit)) ≡ runOf (now (catalogue .entry)) (now (question .entry)) (now (order .entry)) (now (listed .entry)) (now (looks .entry)) (now (tally .entry))) × FitsWord r ⌝ }
 {
-    let mut spans = [0usize; Span::TABLE];
+    let mut places = [0usize; Predicate::LIMIT];
     let mut masks = [0u64; Ladder::TABLE];
     let mut sorts = [0u8; Ladder::TABLE];
     let mut heights = [0usize; Predicate::LIMIT];
     let begun = crate::begin::begin(
         catalogue,
         question,
-        &mut spans,
+        &mut places,
         &mut masks,
         &mut sorts,
         &mut heights,
@@ -110,7 +109,7 @@ fn run_question(
         order,
         &tags,
         &starts,
-        &spans,
+        &places,
         &masks,
         &sorts,
         &heights,

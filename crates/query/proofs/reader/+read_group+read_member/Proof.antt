@@ -16,7 +16,6 @@ use Rattle.query.proofs.reader.read_member.Kinds as read-member-kinds
 use Rattle.query.proofs.reader.+read_group+read_member.Lts-read_member as read-member-lts
 use Rattle.query.proofs.ladder.close_group.Reads as close-group-reads
 use Rattle.query.proofs.member.read_field.Reads as read-field-reads
-use Rattle.query.proofs.spans.put_span.Reads as put-span-reads
 use Rattle.query.proofs.reader.+read_group+read_member.{statement}
 use Rattle.query.proofs.reader.+read_group+read_member.Tie.{close}
 
@@ -43,10 +42,10 @@ read-member-below t =
     and 6 read-member-kinds.ps (falls 6 read-member-kinds.ps _<_ μ-read-member t) read-member.Pre
 
 abbrev read-group-Inv-loop : read-group-lts.InvT-loop
-read-group-Inv-loop tags q at end depth n spans₀ masks₀ sorts₀ heights₀ p₀ m₀ spans masks sorts heights p m = InGroup tags q at end depth n p m (tables spans₀ masks₀ sorts₀ heights₀) (tables spans masks sorts heights)
+read-group-Inv-loop tags q at end depth n places₀ masks₀ sorts₀ heights₀ p₀ m₀ places masks sorts heights p m = InGroup tags q at end depth n p m (tables places₀ masks₀ sorts₀ heights₀) (tables places masks sorts heights)
 
 abbrev read-group-μ-loop : read-group-lts.MeasureT-loop
-read-group-μ-loop tags q at end depth n spans₀ masks₀ sorts₀ heights₀ p₀ m₀ spans masks sorts heights p m = end - p
+read-group-μ-loop tags q at end depth n places₀ masks₀ sorts₀ heights₀ p₀ m₀ places masks sorts heights p m = end - p
 
 read-group-loop-holds : (t : ℕ) → read-group-lts.Need-loop-holds (
   read-member-below t,
@@ -102,7 +101,7 @@ read-group-returns t c =
     let a = c .before .before .before .before .before .before .before .before .before .before .before .before .before .before .before .before .before .before .before .before .before .before .before .before .args in
     let l = c .before .before .before .before .before .before .before .before .before .before .before .before .before .before .before .before .before .loop in
     let m = c .before .before .before .before .before .before .before .before .before .before .before .read-member in
-    in-group-refused _ _ _ (a .end) (a .depth) _ (l .p) (l .m) (tables (now (a .spans)) (now (a .masks)) (now (a .sorts)) (now (a .heights))) (tables (l .spans) (l .masks) (l .sorts) (l .heights)) (l .inv) (tables (m .last .1 .1 .1 .1 .1 .1 .0) (m .last .1 .1 .1 .1 .1 .1 .1 .0) (m .last .1 .1 .1 .1 .1 .1 .1 .1 .0) (m .last .1 .1 .1 .1 .1 .1 .1 .1 .1 .0)) (omega arith) _ (rw (c .before .e .given .1) at (m .ensures))
+    in-group-refused _ _ _ (a .end) (a .depth) _ (l .p) (l .m) (tables (now (a .places)) (now (a .masks)) (now (a .sorts)) (now (a .heights))) (tables (l .places) (l .masks) (l .sorts) (l .heights)) (l .inv) (tables (m .last .1 .1 .1 .1 .1 .1 .0) (m .last .1 .1 .1 .1 .1 .1 .1 .0) (m .last .1 .1 .1 .1 .1 .1 .1 .1 .0) (m .last .1 .1 .1 .1 .1 .1 .1 .1 .1 .0)) (omega arith) _ (rw (c .before .e .given .1) at (m .ensures))
 
 read-group-enum-known-next : (t : ℕ) → read-group-lts.Need-enum-known-next (
   read-member-below t,
@@ -128,7 +127,7 @@ read-group-loop-again t c =
     let m = c .before .before .before .before .before .before .before .before .before .before .before .read-member in
     let k = m .kept in
     let r = l .inv .room in
-    in-group-more _ _ _ (a .end) (a .depth) _ (l .p) (l .m) (tables (now (a .spans)) (now (a .masks)) (now (a .sorts)) (now (a .heights))) (tables (l .spans) (l .masks) (l .sorts) (l .heights)) (l .inv) (tables (m .last .1 .1 .1 .1 .1 .1 .0) (m .last .1 .1 .1 .1 .1 .1 .1 .0) (m .last .1 .1 .1 .1 .1 .1 .1 .1 .0) (m .last .1 .1 .1 .1 .1 .1 .1 .1 .1 .0)) (omega arith) _ _ (rw (c .before .next .given .1) at (m .ensures)) (omega arith)
+    in-group-more _ _ _ (a .end) (a .depth) _ (l .p) (l .m) (tables (now (a .places)) (now (a .masks)) (now (a .sorts)) (now (a .heights))) (tables (l .places) (l .masks) (l .sorts) (l .heights)) (l .inv) (tables (m .last .1 .1 .1 .1 .1 .1 .0) (m .last .1 .1 .1 .1 .1 .1 .1 .0) (m .last .1 .1 .1 .1 .1 .1 .1 .1 .0) (m .last .1 .1 .1 .1 .1 .1 .1 .1 .1 .0)) (omega arith) _ _ (rw (c .before .next .given .1) at (m .ensures)) (omega arith)
     (record { masks-size = omega arith; sorts-size = omega arith; heights-size = omega arith })
 
 read-group-same-length-5 : (t : ℕ) → read-group-lts.Need-same-length-5 (
@@ -162,25 +161,21 @@ read-group-returns-2 : (t : ℕ) → read-group-lts.Need-returns-2 (
 read-group-returns-2 t c =
     let a = c .before .before .before .before .before .before .before .before .args in
     let l = c .before .loop in
-    in-group-end _ _ _ (a .end) (a .depth) _ (l .p) (l .m) (tables (now (a .spans)) (now (a .masks)) (now (a .sorts)) (now (a .heights))) (tables (l .spans) (l .masks) (l .sorts) (l .heights)) (l .inv) (omega arith)
+    in-group-end _ _ _ (a .end) (a .depth) _ (l .p) (l .m) (tables (now (a .places)) (now (a .masks)) (now (a .sorts)) (now (a .heights))) (tables (l .places) (l .masks) (l .sorts) (l .heights)) (l .inv) (omega arith)
 
 read-member-read-field-requires : (t : ℕ) → read-member-lts.Need-read-field-requires (
   read-field-reads.Asked,
   read-field-reads.Learnt,
-  put-span-reads.Asked,
-  put-span-reads.Learnt,
   read-group-below t,
   read-group.Post,
   close-group-reads.Asked,
   close-group-reads.Learnt,
 ) (read-member-at t) read-member.Post
-read-member-read-field-requires t c κs = (c .before .before .before .before .before .before .before .pre .1 .order, c .before .before .before .before .before .before .before .pre .1 .inside, c .before .before .before .before .before .before .before .pre .1 .spanned)
+read-member-read-field-requires t c κs = (c .before .before .before .before .before .before .before .pre .1 .order, c .before .before .before .before .before .before .before .pre .1 .inside, c .before .before .before .before .before .before .before .pre .1 .located)
 
 read-member-enum-known-e : (t : ℕ) → read-member-lts.Need-enum-known-e (
   read-field-reads.Asked,
   read-field-reads.Learnt,
-  put-span-reads.Asked,
-  put-span-reads.Learnt,
   read-group-below t,
   read-group.Post,
   close-group-reads.Asked,
@@ -188,79 +183,79 @@ read-member-enum-known-e : (t : ℕ) → read-member-lts.Need-enum-known-e (
 ) (read-member-at t) read-member.Post
 read-member-enum-known-e t c = search needs
 
-read-member-enum-known-start : (t : ℕ) → read-member-lts.Need-enum-known-start (
+read-member-enum-known-stop : (t : ℕ) → read-member-lts.Need-enum-known-stop (
   read-field-reads.Asked,
   read-field-reads.Learnt,
-  put-span-reads.Asked,
-  put-span-reads.Learnt,
   read-group-below t,
   read-group.Post,
   close-group-reads.Asked,
   close-group-reads.Learnt,
 ) (read-member-at t) read-member.Post
-read-member-enum-known-start t c = search needs
+read-member-enum-known-stop t c = search needs
 
-read-member-put-span-requires : (t : ℕ) → read-member-lts.Need-put-span-requires (
+read-member-mul-places : (t : ℕ) → read-member-lts.Need-mul-places (
   read-field-reads.Asked,
   read-field-reads.Learnt,
-  put-span-reads.Asked,
-  put-span-reads.Learnt,
   read-group-below t,
   read-group.Post,
   close-group-reads.Asked,
   close-group-reads.Learnt,
 ) (read-member-at t) read-member.Post
-read-member-put-span-requires t c κs =
-    let w = rw (c .before .before .start .given .1) at (c .before .before .before .before .read-field .ensures .1) in
-    (w .3, c .before .before .before .before .before .before .before .before .before .before .before .before .pre .1 .spanned .sized)
+read-member-mul-places t c =
+    let w = rw (c .before .stop .given .1) at (c .before .before .before .read-field .ensures .1) in
+    omega (arith, c .before .before .before .before .before .before .before .before .before .before .before .pre .1 .located .sized)
+
+read-member-slice-write-places : (t : ℕ) → read-member-lts.Need-slice-write-places (
+  read-field-reads.Asked,
+  read-field-reads.Learnt,
+  read-group-below t,
+  read-group.Post,
+  close-group-reads.Asked,
+  close-group-reads.Learnt,
+) (read-member-at t) read-member.Post
+read-member-slice-write-places t c =
+    let w = rw (c .before .stop .given .1) at (c .before .before .before .read-field .ensures .1) in
+    omega (arith, c .before .before .before .before .before .before .before .before .before .before .before .pre .1 .located .sized)
 
 read-member-mul-heights : (t : ℕ) → read-member-lts.Need-mul-heights (
   read-field-reads.Asked,
   read-field-reads.Learnt,
-  put-span-reads.Asked,
-  put-span-reads.Learnt,
   read-group-below t,
   read-group.Post,
   close-group-reads.Asked,
   close-group-reads.Learnt,
 ) (read-member-at t) read-member.Post
 read-member-mul-heights t c =
-    let w = rw (c .before .before .before .before .before .start .given .1) at (c .before .before .before .before .before .before .before .read-field .ensures .1) in
-    omega (arith, c .before .before .before .before .before .before .before .before .before .before .before .before .before .before .before .pre .1 .ladders .heights-size)
+    let w = rw (c .before .stop .given .1) at (c .before .before .before .read-field .ensures .1) in
+    omega (arith, c .before .before .before .before .before .before .before .before .before .before .before .pre .1 .ladders .heights-size)
 
 read-member-slice-write-heights : (t : ℕ) → read-member-lts.Need-slice-write-heights (
   read-field-reads.Asked,
   read-field-reads.Learnt,
-  put-span-reads.Asked,
-  put-span-reads.Learnt,
   read-group-below t,
   read-group.Post,
   close-group-reads.Asked,
   close-group-reads.Learnt,
 ) (read-member-at t) read-member.Post
 read-member-slice-write-heights t c =
-    let w = rw (c .before .before .before .before .before .start .given .1) at (c .before .before .before .before .before .before .before .read-field .ensures .1) in
-    omega (arith, c .before .before .before .before .before .before .before .before .before .before .before .before .before .before .before .pre .1 .ladders .heights-size)
+    let w = rw (c .before .stop .given .1) at (c .before .before .before .read-field .ensures .1) in
+    omega (arith, c .before .before .before .before .before .before .before .before .before .before .before .pre .1 .ladders .heights-size)
 
-read-member-add-t27 : (t : ℕ) → read-member-lts.Need-add-t27 (
+read-member-add-t23 : (t : ℕ) → read-member-lts.Need-add-t23 (
   read-field-reads.Asked,
   read-field-reads.Learnt,
-  put-span-reads.Asked,
-  put-span-reads.Learnt,
   read-group-below t,
   read-group.Post,
   close-group-reads.Asked,
   close-group-reads.Learnt,
 ) (read-member-at t) read-member.Post
-read-member-add-t27 t c =
-    let w = rw (c .before .before .before .before .before .start .given .1) at (c .before .before .before .before .before .before .before .read-field .ensures .1) in
-    omega (arith, c .before .before .before .before .before .before .before .before .before .before .before .before .before .before .before .pre .1 .ladders .heights-size)
+read-member-add-t23 t c =
+    let w = rw (c .before .stop .given .1) at (c .before .before .before .read-field .ensures .1) in
+    omega (arith, c .before .before .before .before .before .before .before .before .before .before .before .pre .1 .ladders .heights-size)
 
 read-member-enum-known-tag : (t : ℕ) → read-member-lts.Need-enum-known-tag (
   read-field-reads.Asked,
   read-field-reads.Learnt,
-  put-span-reads.Asked,
-  put-span-reads.Learnt,
   read-group-below t,
   read-group.Post,
   close-group-reads.Asked,
@@ -271,8 +266,6 @@ read-member-enum-known-tag t c = search needs
 read-member-add-read-group : (t : ℕ) → read-member-lts.Need-add-read-group (
   read-field-reads.Asked,
   read-field-reads.Learnt,
-  put-span-reads.Asked,
-  put-span-reads.Learnt,
   read-group-below t,
   read-group.Post,
   close-group-reads.Asked,
@@ -285,8 +278,6 @@ read-member-add-read-group t c =
 read-member-read-group-requires : (t : ℕ) → read-member-lts.Need-read-group-requires (
   read-field-reads.Asked,
   read-field-reads.Learnt,
-  put-span-reads.Asked,
-  put-span-reads.Learnt,
   read-group-below t,
   read-group.Post,
   close-group-reads.Asked,
@@ -295,13 +286,11 @@ read-member-read-group-requires : (t : ℕ) → read-member-lts.Need-read-group-
 read-member-read-group-requires t c κs =
     let w = rw (c .before .before .before .before .before .tag .given .1) at (c .before .before .before .before .before .before .before .read-field .ensures .1) in
     let p = c .before .before .before .before .before .before .before .before .before .before .before .before .before .before .before .pre .1 in
-    (omega arith, record { order = omega arith; inside = omega (arith, p .inside); deep = omega arith; spanned = p .spanned; ladders = p .ladders; low = p .low })
+    (omega arith, record { order = omega arith; inside = omega (arith, p .inside); deep = omega arith; located = p .located; ladders = p .ladders; low = p .low })
 
 read-member-enum-known-e-2 : (t : ℕ) → read-member-lts.Need-enum-known-e-2 (
   read-field-reads.Asked,
   read-field-reads.Learnt,
-  put-span-reads.Asked,
-  put-span-reads.Learnt,
   read-group-below t,
   read-group.Post,
   close-group-reads.Asked,
@@ -312,8 +301,6 @@ read-member-enum-known-e-2 t c = search needs
 read-member-enum-known-next : (t : ℕ) → read-member-lts.Need-enum-known-next (
   read-field-reads.Asked,
   read-field-reads.Learnt,
-  put-span-reads.Asked,
-  put-span-reads.Learnt,
   read-group-below t,
   read-group.Post,
   close-group-reads.Asked,
@@ -324,8 +311,6 @@ read-member-enum-known-next t c = search needs
 read-member-close-group-requires : (t : ℕ) → read-member-lts.Need-close-group-requires (
   read-field-reads.Asked,
   read-field-reads.Learnt,
-  put-span-reads.Asked,
-  put-span-reads.Learnt,
   read-group-below t,
   read-group.Post,
   close-group-reads.Asked,
@@ -341,8 +326,6 @@ read-member-close-group-requires t c κs =
 read-member-same-length : (t : ℕ) → read-member-lts.Need-same-length (
   read-field-reads.Asked,
   read-field-reads.Learnt,
-  put-span-reads.Asked,
-  put-span-reads.Learnt,
   read-group-below t,
   read-group.Post,
   close-group-reads.Asked,
@@ -353,8 +336,6 @@ read-member-same-length t c = search needs
 read-member-returns : (t : ℕ) → read-member-lts.Need-returns (
   read-field-reads.Asked,
   read-field-reads.Learnt,
-  put-span-reads.Asked,
-  put-span-reads.Learnt,
   read-group-below t,
   read-group.Post,
   close-group-reads.Asked,
@@ -364,14 +345,12 @@ read-member-returns t c =
     let a = c .before .before .before .before .before .before .before .before .before .before .before .args in
     let f = c .before .before .before .read-field in record {
       within = rw (c .before .e .given .1) at (f .ensures .1);
-      exact = member-refused _ _ (a .at) (a .end) (a .depth) (a .n) (tables (now (a .spans)) (now (a .masks)) (now (a .sorts)) (now (a .heights))) (tables (now (a .spans)) (now (a .masks)) (now (a .sorts)) (now (a .heights))) _ (f .ensures .0) _ (c .before .e .given .1);
+      exact = member-refused _ _ (a .at) (a .end) (a .depth) (a .n) (tables (now (a .places)) (now (a .masks)) (now (a .sorts)) (now (a .heights))) (tables (now (a .places)) (now (a .masks)) (now (a .sorts)) (now (a .heights))) _ (f .ensures .0) _ (c .before .e .given .1);
     }
 
 read-member-same-length-2 : (t : ℕ) → read-member-lts.Need-same-length-2 (
   read-field-reads.Asked,
   read-field-reads.Learnt,
-  put-span-reads.Asked,
-  put-span-reads.Learnt,
   read-group-below t,
   read-group.Post,
   close-group-reads.Asked,
@@ -382,8 +361,6 @@ read-member-same-length-2 t c = search needs
 read-member-same-length-3 : (t : ℕ) → read-member-lts.Need-same-length-3 (
   read-field-reads.Asked,
   read-field-reads.Learnt,
-  put-span-reads.Asked,
-  put-span-reads.Learnt,
   read-group-below t,
   read-group.Post,
   close-group-reads.Asked,
@@ -394,28 +371,24 @@ read-member-same-length-3 t c = search needs
 read-member-returns-2 : (t : ℕ) → read-member-lts.Need-returns-2 (
   read-field-reads.Asked,
   read-field-reads.Learnt,
-  put-span-reads.Asked,
-  put-span-reads.Learnt,
   read-group-below t,
   read-group.Post,
   close-group-reads.Asked,
   close-group-reads.Learnt,
 ) (read-member-at t) read-member.Post
 read-member-returns-2 t c =
-    let a = c .before .before .before .before .before .before .before .before .before .before .before .before .before .before .before .args in
-    let f = c .before .before .before .before .before .before .before .read-field in
-    let p = c .before .before .before .before .before .before .before .before .before .before .before .before .before .before .before .pre .1 in
-    let w = rw (c .before .before .before .before .before .start .given .1) at (f .ensures .1) in
-    let put = c .before .before .put-span in record {
-      within = leaf-within (now (a .tags)) (now (a .q)) (a .at) (a .end) (a .depth) (a .n) (now (a .spans)) (put .last .0) (now (a .masks)) (now (a .sorts)) (now (a .heights)) _ _ (w .1) (omega (arith, p .ladders .heights-size)) (put .ensures) (w .0) (w .2) (p .inside) (w .3) (p .deep) (p .spanned .placed) (p .low);
-      exact = member-leaf (now (a .tags)) (now (a .q)) (a .at) (a .end) (a .depth) (a .n) (now (a .spans)) (put .last .0) (now (a .masks)) (now (a .sorts)) (now (a .heights)) _ _ (w .1) (omega (arith, p .ladders .heights-size)) (put .ensures) _ (f .ensures .0) (c .before .before .before .before .before .start .given .1);
+    let a = c .before .before .before .before .before .before .before .before .before .before .before .args in
+    let f = c .before .before .before .read-field in
+    let p = c .before .before .before .before .before .before .before .before .before .before .before .pre .1 in
+    let is = c .before .stop .given .1 in
+    let w = rw is at (f .ensures .1) in record {
+      within = leaf-within (now (a .tags)) (now (a .q)) (a .at) (a .end) (a .depth) (a .n) (now (a .places)) (now (a .masks)) (now (a .sorts)) (now (a .heights)) _ _ (w .0) (w .5) (w .1) (omega (arith, p .located .sized)) (omega (arith, p .ladders .heights-size)) (w .2) (p .inside) (w .3) (p .deep) (p .located .placed) (p .low);
+      exact = member-leaf (now (a .tags)) (now (a .q)) (a .at) (a .end) (a .depth) (a .n) (now (a .places)) (now (a .masks)) (now (a .sorts)) (now (a .heights)) _ _ (w .0) (w .5) (w .1) (omega (arith, p .located .sized)) (omega (arith, p .ladders .heights-size)) _ (f .ensures .0) is;
     }
 
 read-member-same-length-4 : (t : ℕ) → read-member-lts.Need-same-length-4 (
   read-field-reads.Asked,
   read-field-reads.Learnt,
-  put-span-reads.Asked,
-  put-span-reads.Learnt,
   read-group-below t,
   read-group.Post,
   close-group-reads.Asked,
@@ -426,8 +399,6 @@ read-member-same-length-4 t c = search needs
 read-member-same-length-5 : (t : ℕ) → read-member-lts.Need-same-length-5 (
   read-field-reads.Asked,
   read-field-reads.Learnt,
-  put-span-reads.Asked,
-  put-span-reads.Learnt,
   read-group-below t,
   read-group.Post,
   close-group-reads.Asked,
@@ -438,8 +409,6 @@ read-member-same-length-5 t c = search needs
 read-member-same-length-6 : (t : ℕ) → read-member-lts.Need-same-length-6 (
   read-field-reads.Asked,
   read-field-reads.Learnt,
-  put-span-reads.Asked,
-  put-span-reads.Learnt,
   read-group-below t,
   read-group.Post,
   close-group-reads.Asked,
@@ -450,8 +419,6 @@ read-member-same-length-6 t c = search needs
 read-member-same-length-7 : (t : ℕ) → read-member-lts.Need-same-length-7 (
   read-field-reads.Asked,
   read-field-reads.Learnt,
-  put-span-reads.Asked,
-  put-span-reads.Learnt,
   read-group-below t,
   read-group.Post,
   close-group-reads.Asked,
@@ -462,8 +429,6 @@ read-member-same-length-7 t c = search needs
 read-member-returns-3 : (t : ℕ) → read-member-lts.Need-returns-3 (
   read-field-reads.Asked,
   read-field-reads.Learnt,
-  put-span-reads.Asked,
-  put-span-reads.Learnt,
   read-group-below t,
   read-group.Post,
   close-group-reads.Asked,
@@ -475,14 +440,12 @@ read-member-returns-3 t c =
     let g = c .before .before .before .before .before .before .before .before .before .before .before .read-group in
     let w = rw (c .before .before .before .before .before .before .before .before .before .before .before .before .before .before .before .before .before .tag .given .1) at (f .ensures .1) in record {
       within = rw (c .before .e2 .given .1) at (g .ensures .within);
-      exact = member-group-refused _ _ (a .at) (a .end) (a .depth) (a .n) (tables (now (a .spans)) (now (a .masks)) (now (a .sorts)) (now (a .heights))) (tables (g .last .1 .1 .1 .1 .1 .1 .0) (g .last .1 .1 .1 .1 .1 .1 .1 .0) (g .last .1 .1 .1 .1 .1 .1 .1 .1 .0) (g .last .1 .1 .1 .1 .1 .1 .1 .1 .1 .0)) _ (f .ensures .0) _ _ _ (c .before .before .before .before .before .before .before .before .before .before .before .before .before .before .before .before .before .tag .given .1) (w .0) (w .1) (w .2) _ (rw (c .before .e2 .given .1) at (g .ensures .exact));
+      exact = member-group-refused _ _ (a .at) (a .end) (a .depth) (a .n) (tables (now (a .places)) (now (a .masks)) (now (a .sorts)) (now (a .heights))) (tables (g .last .1 .1 .1 .1 .1 .1 .0) (g .last .1 .1 .1 .1 .1 .1 .1 .0) (g .last .1 .1 .1 .1 .1 .1 .1 .1 .0) (g .last .1 .1 .1 .1 .1 .1 .1 .1 .1 .0)) _ (f .ensures .0) _ _ _ (c .before .before .before .before .before .before .before .before .before .before .before .before .before .before .before .before .before .tag .given .1) (w .0) (w .1) (w .2) _ (rw (c .before .e2 .given .1) at (g .ensures .exact));
     }
 
 read-member-same-length-8 : (t : ℕ) → read-member-lts.Need-same-length-8 (
   read-field-reads.Asked,
   read-field-reads.Learnt,
-  put-span-reads.Asked,
-  put-span-reads.Learnt,
   read-group-below t,
   read-group.Post,
   close-group-reads.Asked,
@@ -493,8 +456,6 @@ read-member-same-length-8 t c = search needs
 read-member-same-length-9 : (t : ℕ) → read-member-lts.Need-same-length-9 (
   read-field-reads.Asked,
   read-field-reads.Learnt,
-  put-span-reads.Asked,
-  put-span-reads.Learnt,
   read-group-below t,
   read-group.Post,
   close-group-reads.Asked,
@@ -505,8 +466,6 @@ read-member-same-length-9 t c = search needs
 read-member-same-length-10 : (t : ℕ) → read-member-lts.Need-same-length-10 (
   read-field-reads.Asked,
   read-field-reads.Learnt,
-  put-span-reads.Asked,
-  put-span-reads.Learnt,
   read-group-below t,
   read-group.Post,
   close-group-reads.Asked,
@@ -517,8 +476,6 @@ read-member-same-length-10 t c = search needs
 read-member-same-length-11 : (t : ℕ) → read-member-lts.Need-same-length-11 (
   read-field-reads.Asked,
   read-field-reads.Learnt,
-  put-span-reads.Asked,
-  put-span-reads.Learnt,
   read-group-below t,
   read-group.Post,
   close-group-reads.Asked,
@@ -529,8 +486,6 @@ read-member-same-length-11 t c = search needs
 read-member-returns-4 : (t : ℕ) → read-member-lts.Need-returns-4 (
   read-field-reads.Asked,
   read-field-reads.Learnt,
-  put-span-reads.Asked,
-  put-span-reads.Learnt,
   read-group-below t,
   read-group.Post,
   close-group-reads.Asked,
@@ -543,8 +498,8 @@ read-member-returns-4 t c =
     let g = c .before .before .before .before .before .before .before .before .before .before .before .before .before .before .before .before .before .before .before .before .before .read-group in
     let k = c .before .before .before .before .before .before .close-group in
     let w = rw (v .1) at (f .ensures .1) in record {
-      within = group-within (now (a .q)) (a .at) (a .end) (a .depth) (a .n) _ _ _ _ (v .0 .0) (tables (now (a .spans)) (now (a .masks)) (now (a .sorts)) (now (a .heights))) (g .last .1 .1 .1 .1 .1 .1 .0) (g .last .1 .1 .1 .1 .1 .1 .1 .0) (g .last .1 .1 .1 .1 .1 .1 .1 .1 .0) (g .last .1 .1 .1 .1 .1 .1 .1 .1 .1 .0) (k .last .0) (k .last .1 .0) (k .last .1 .1 .0) (w .0) (w .2) (rw (c .before .before .before .before .before .before .before .before .before .before .before .next .given .1) at (g .ensures .within)) (k .ensures);
-      exact = member-group _ _ (a .at) (a .end) (a .depth) (a .n) (tables (now (a .spans)) (now (a .masks)) (now (a .sorts)) (now (a .heights))) (tables (g .last .1 .1 .1 .1 .1 .1 .0) (g .last .1 .1 .1 .1 .1 .1 .1 .0) (g .last .1 .1 .1 .1 .1 .1 .1 .1 .0) (g .last .1 .1 .1 .1 .1 .1 .1 .1 .1 .0)) _ (f .ensures .0) _ _ _ (v .1) (w .0) (w .1) (w .2) _ _ (tables (g .last .1 .1 .1 .1 .1 .1 .0) (k .last .0) (k .last .1 .0) (k .last .1 .1 .0)) (rw (c .before .before .before .before .before .before .before .before .before .before .before .next .given .1) at (g .ensures .exact)) refl (k .ensures (g .last .1 .1 .1 .1 .1 .1 .0));
+      within = group-within (now (a .q)) (a .at) (a .end) (a .depth) (a .n) _ _ _ _ (v .0 .0) (tables (now (a .places)) (now (a .masks)) (now (a .sorts)) (now (a .heights))) (g .last .1 .1 .1 .1 .1 .1 .0) (g .last .1 .1 .1 .1 .1 .1 .1 .0) (g .last .1 .1 .1 .1 .1 .1 .1 .1 .0) (g .last .1 .1 .1 .1 .1 .1 .1 .1 .1 .0) (k .last .0) (k .last .1 .0) (k .last .1 .1 .0) (w .0) (w .2) (rw (c .before .before .before .before .before .before .before .before .before .before .before .next .given .1) at (g .ensures .within)) (k .ensures);
+      exact = member-group _ _ (a .at) (a .end) (a .depth) (a .n) (tables (now (a .places)) (now (a .masks)) (now (a .sorts)) (now (a .heights))) (tables (g .last .1 .1 .1 .1 .1 .1 .0) (g .last .1 .1 .1 .1 .1 .1 .1 .0) (g .last .1 .1 .1 .1 .1 .1 .1 .1 .0) (g .last .1 .1 .1 .1 .1 .1 .1 .1 .1 .0)) _ (f .ensures .0) _ _ _ (v .1) (w .0) (w .1) (w .2) _ _ (tables (g .last .1 .1 .1 .1 .1 .1 .0) (k .last .0) (k .last .1 .0) (k .last .1 .1 .0)) (rw (c .before .before .before .before .before .before .before .before .before .before .before .next .given .1) at (g .ensures .exact)) refl (k .ensures (g .last .1 .1 .1 .1 .1 .1 .0));
     }
 
 pub +read-group+read-member-spec : {M : Type 1} → statement M
@@ -575,8 +530,6 @@ pub +read-group+read-member-spec : {M : Type 1} → statement M
     λ t. read-member-lts.spec (
       read-field-reads.Asked,
       read-field-reads.Learnt,
-      put-span-reads.Asked,
-      put-span-reads.Learnt,
       read-group-below t,
       read-group.Post,
       close-group-reads.Asked,
@@ -586,11 +539,12 @@ pub +read-group+read-member-spec : {M : Type 1} → statement M
     read-member.Post
     (read-member-read-field-requires t)
     (read-member-enum-known-e t)
-    (read-member-enum-known-start t)
-    (read-member-put-span-requires t)
+    (read-member-enum-known-stop t)
+    (read-member-mul-places t)
+    (read-member-slice-write-places t)
     (read-member-mul-heights t)
     (read-member-slice-write-heights t)
-    (read-member-add-t27 t)
+    (read-member-add-t23 t)
     (read-member-enum-known-tag t)
     (read-member-add-read-group t)
     (read-member-read-group-requires t)

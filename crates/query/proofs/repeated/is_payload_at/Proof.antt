@@ -1,17 +1,33 @@
 -- `is_payload_at` meets its contract: by column and kind, or by all bytes.
+use Prim.Native.Nat.{_+_}
+use native.Mathlib.Omega.{arith}
+use Rattle.fields.specs.Header.{headerSize}
+use Rattle.query.specs.Places.{fieldEnd}
 use Rattle.query.proofs.Repeats.{other-head, same-part}
 use borrow.Author.Needs.{needs}
 use Rattle.query.proofs.repeated.is_payload_at.Statement.{statement}
 use Rattle.query.proofs.repeated.is_payload_at.Tie as tie
 
+add-start : tie.Need-add-start
+add-start c = search needs
+
+head-requires : tie.Need-head-requires
+head-requires c κs = search needs
+
+head-requires-2 : tie.Need-head-requires-2
+head-requires-2 c κs = search needs
+
+returns : tie.Need-returns
+returns c = other-head (c .before .before .before .before .before .args .payload .now) (c .before .before .before .before .before .args .q .now) (c .before .before .before .before .before .args .at + headerSize) (fieldEnd (c .before .before .before .before .before .args .q .now) (c .before .before .before .before .before .args .at)) (c .before .before .before .before .before .pre .0) (c .before .before .before .before .before .pre .1) (c .before .before .before .before .before .pre .2) _ _ (c .before .before .head .ensures) (c .before .head2 .ensures) (c .if1 .taken)
+
+add-two-bytes : tie.Need-add-two-bytes
+add-two-bytes c = search needs
+
 two-bytes-requires : tie.Need-two-bytes-requires
 two-bytes-requires c κs = search needs
 
-two-bytes-requires-2 : tie.Need-two-bytes-requires-2
-two-bytes-requires-2 c κs = search needs
-
-returns : tie.Need-returns
-returns c = other-head (c .before .before .before .before .before .args .payload .now) (c .before .before .before .before .before .args .q .now) (c .before .before .before .before .before .args .start) (c .before .before .before .before .before .args .end) (c .before .before .before .before .before .pre .0) (c .before .before .before .before .before .pre .1) (c .before .before .before .before .before .pre .2) _ _ (c .before .before .two-bytes .ensures .0) (c .before .two-bytes2 .ensures .0) (c .if1 .taken)
+add-end : tie.Need-add-end
+add-end c = search needs
 
 sub-same-bytes : tie.Need-sub-same-bytes
 sub-same-bytes c = search needs
@@ -26,15 +42,19 @@ same-bytes-requires : tie.Need-same-bytes-requires
 same-bytes-requires c κs = search needs
 
 returns-2 : tie.Need-returns-2
-returns-2 c = same-part (c .before .before .before .before .before .before .before .args .payload .now) (c .before .before .before .before .before .before .before .args .q .now) (c .before .before .before .before .before .before .before .args .start) (c .before .before .before .before .before .before .before .args .end) (c .before .before .before .before .before .before .before .pre .0) (c .before .before .before .before .before .before .before .pre .1) (c .before .before .before .before .before .before .before .pre .2) _ (c .same-bytes .ensures)
+returns-2 c = same-part (c .before .before .before .before .before .before .before .before .args .payload .now) (c .before .before .before .before .before .before .before .before .args .q .now) (c .before .before .before .before .before .before .before .before .args .at + headerSize) (fieldEnd (c .before .before .before .before .before .before .before .before .args .q .now) (c .before .before .before .before .before .before .before .before .args .at)) (c .before .before .before .before .before .before .before .before .pre .0) (c .before .before .before .before .before .before .before .before .pre .1) (c .before .before .before .before .before .before .before .before .pre .2) _ (rw (c .before .before .two-bytes .ensures .0) at (c .same-bytes .ensures))
 
 pub is-payload-at-spec : {M : Type 1} → statement M
 is-payload-at-spec =
     tie.close
     (tie.spec
-    two-bytes-requires
-    two-bytes-requires-2
+    add-start
+    head-requires
+    head-requires-2
     returns
+    add-two-bytes
+    two-bytes-requires
+    add-end
     sub-same-bytes
     part-same-bytes-start
     part-same-bytes-end

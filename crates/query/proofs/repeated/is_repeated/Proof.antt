@@ -8,40 +8,28 @@ use Rattle.query.proofs.repeated.is_repeated.Statement.{statement}
 use Rattle.query.proofs.repeated.is_repeated.Tie as tie
 
 abbrev Inv-loop : tie.InvT-loop
-Inv-loop payload q spans n left₀ left = (left ≤ n) × Unlike payload q spans left n
+Inv-loop payload q places n left₀ left = (left ≤ n) × Unlike payload q places left n
 
 abbrev μ-loop : tie.MeasureT-loop
-μ-loop payload q spans n left₀ left = left
+μ-loop payload q places n left₀ left = left
 
 loop-holds : tie.Need-loop-holds Inv-loop μ-loop
 loop-holds c = (omega arith, λ d i j. absurd (omega arith))
 
-sub-i : tie.Need-sub-i Inv-loop μ-loop
-sub-i c = search needs
+sub-is-payload-at : tie.Need-sub-is-payload-at Inv-loop μ-loop
+sub-is-payload-at c = search needs
 
-mul-i : tie.Need-mul-i Inv-loop μ-loop
-mul-i c = search needs
+mul-is-payload-at : tie.Need-mul-is-payload-at Inv-loop μ-loop
+mul-is-payload-at c = omega (arith, c .before .before .before .before .before .pre .1 .few)
 
-mul-start : tie.Need-mul-start Inv-loop μ-loop
-mul-start c = search needs
-
-shared-slice-read-start : tie.Need-shared-slice-read-start Inv-loop μ-loop
-shared-slice-read-start c = omega (arith, c .before .before .before .before .before .before .pre .1 .sized, c .before .before .before .before .before .before .pre .1 .few)
-
-add-end : tie.Need-add-end Inv-loop μ-loop
-add-end c = search needs
-
-mul-end : tie.Need-mul-end Inv-loop μ-loop
-mul-end c = search needs
-
-shared-slice-read-end : tie.Need-shared-slice-read-end Inv-loop μ-loop
-shared-slice-read-end c = omega (arith, c .before .before .before .before .before .before .before .pre .1 .sized, c .before .before .before .before .before .before .before .pre .1 .few)
+shared-slice-read-is-payload-at : tie.Need-shared-slice-read-is-payload-at Inv-loop μ-loop
+shared-slice-read-is-payload-at c = omega (arith, c .before .before .before .before .before .before .pre .1 .sized, c .before .before .before .before .before .before .pre .1 .few)
 
 is-payload-at-requires : tie.Need-is-payload-at-requires Inv-loop μ-loop
-is-payload-at-requires c κs = (c .before .before .before .before .before .before .before .pre .0, c .before .before .before .before .before .before .before .pre .1 .placed (c .before .before .before .loop .left - 1) (omega arith) .0, c .before .before .before .before .before .before .before .pre .1 .placed (c .before .before .before .loop .left - 1) (omega arith) .1)
+is-payload-at-requires c κs = let p = c .before .before .before .before .before .before .pre .1 .placed (c .before .before .loop .left - 1) (omega arith) in (c .before .before .before .before .before .before .pre .0, p .0, p .1)
 
 returns : tie.Need-returns Inv-loop μ-loop
-returns c = repeated-at (c .before .before .before .before .before .before .before .before .before .args .payload .now) (c .before .before .before .before .before .before .before .before .before .args .q .now) (c .before .before .before .before .before .before .before .before .before .args .spans .now) _ (c .before .before .before .before .before .loop .left - 1) (same-shown (c .before .before .before .before .before .before .before .before .before .args .q .now) (c .before .before .before .before .before .before .before .before .before .args .spans .now) (c .before .before .before .before .before .loop .left - 1) (c .before .before .before .before .before .before .before .before .before .pre .1 .placed (c .before .before .before .before .before .loop .left - 1) (omega arith)) (c .before .before .before .before .before .before .before .before .before .args .payload .now) _ (c .before .is-payload-at .ensures)) _ (omega arith) (c .if1 .taken)
+returns c = repeated-at (c .before .before .before .before .before .before .before .before .args .payload .now) (c .before .before .before .before .before .before .before .before .args .q .now) (c .before .before .before .before .before .before .before .before .args .places .now) _ (c .before .before .before .before .loop .left - 1) (same-shown (c .before .before .before .before .before .before .before .before .args .q .now) (c .before .before .before .before .before .before .before .before .args .places .now) (c .before .before .before .before .loop .left - 1) (c .before .before .before .before .before .before .before .before .pre .1 .placed (c .before .before .before .before .loop .left - 1) (omega arith)) (c .before .before .before .before .before .before .before .before .args .payload .now) _ (c .before .is-payload-at .ensures)) _ (omega arith) (c .if1 .taken)
 
 sub-left : tie.Need-sub-left Inv-loop μ-loop
 sub-left c = search needs
@@ -50,7 +38,7 @@ loop-less : tie.Need-loop-less Inv-loop μ-loop
 loop-less c = search needs
 
 loop-again : tie.Need-loop-again Inv-loop μ-loop
-loop-again c = (omega arith, unlike-more (c .before .before .before .before .before .before .before .before .before .args .payload .now) (c .before .before .before .before .before .before .before .before .before .args .q .now) (c .before .before .before .before .before .before .before .before .before .args .spans .now) _ (c .before .before .before .before .before .loop .left - 1) (same-shown (c .before .before .before .before .before .before .before .before .before .args .q .now) (c .before .before .before .before .before .before .before .before .before .args .spans .now) (c .before .before .before .before .before .loop .left - 1) (c .before .before .before .before .before .before .before .before .before .pre .1 .placed (c .before .before .before .before .before .loop .left - 1) (omega arith)) (c .before .before .before .before .before .before .before .before .before .args .payload .now) _ (c .before .is-payload-at .ensures)) _ _ _ (omega arith) (omega arith) (c .before .before .before .before .before .loop .inv .1) (c .if1 .left))
+loop-again c = (omega arith, unlike-more (c .before .before .before .before .before .before .before .before .args .payload .now) (c .before .before .before .before .before .before .before .before .args .q .now) (c .before .before .before .before .before .before .before .before .args .places .now) _ (c .before .before .before .before .loop .left - 1) (same-shown (c .before .before .before .before .before .before .before .before .args .q .now) (c .before .before .before .before .before .before .before .before .args .places .now) (c .before .before .before .before .loop .left - 1) (c .before .before .before .before .before .before .before .before .pre .1 .placed (c .before .before .before .before .loop .left - 1) (omega arith)) (c .before .before .before .before .before .before .before .before .args .payload .now) _ (c .before .is-payload-at .ensures)) _ _ _ (omega arith) (omega arith) (c .before .before .before .before .loop .inv .1) (c .if1 .left))
 
 returns-2 : tie.Need-returns-2 Inv-loop μ-loop
 returns-2 c = let e : c .before .loop .left ≡ 0 = omega arith in sym (repeated-none _ _ _ _ (rw e at (c .before .loop .inv .1)))
@@ -62,13 +50,9 @@ is-repeated-spec =
     Inv-loop
     μ-loop
     loop-holds
-    sub-i
-    mul-i
-    mul-start
-    shared-slice-read-start
-    add-end
-    mul-end
-    shared-slice-read-end
+    sub-is-payload-at
+    mul-is-payload-at
+    shared-slice-read-is-payload-at
     is-payload-at-requires
     returns
     sub-left
