@@ -2,4 +2,3 @@ pub mod Decimal
 pub mod DecimalLaws
 pub mod Register
 pub mod RegisterLaws
-pub mod Parish

@@ -29,7 +29,7 @@ slice-aggregate-write-register-2 : tie.Need-slice-aggregate-write-register-2
 slice-aggregate-write-register-2 c = search needs
 
 write-register-requires : tie.Need-write-register-requires
-write-register-requires c κs = has-room _ _ _ _ _ (laid-few _ _ (decodeCatalogue (c .before .before .before .before .before .before .before .before .before .before .before .before .before .before .before .args .catalogue .now)) (c .before .before .before .lay-out .ensures)) (omega arith) (omega arith) (omega arith) (omega arith)
+write-register-requires c κs = has-room _ _ _ _ _ (omega (arith, laid-few _ _ (decodeCatalogue (c .before .before .before .before .before .before .before .before .before .before .before .before .before .before .before .args .catalogue .now)) (c .before .before .before .lay-out .ensures))) (omega arith) (omega arith) (omega arith) (omega arith)
 
 same-length : tie.Need-same-length
 same-length c = search needs
