@@ -3,7 +3,7 @@ use Prim.Native.Nat.{ℕ, zero, suc, _*_, _/_, _%_, _^_, _≤_}
 use native.Mathlib.Nat.{mul-le-mul-right}
 use native.Mathlib.Omega.{arith}
 use mathlib.Core.Path.{_≡_, sym, ap, ap₂, _∙_}
-use mathlib.Core.Logic.{_⊎_, inl, inr}
+use mathlib.Core.Logic.{inl, inr}
 use mathlib.Core.List.{List}
 use lib.ListN.{length, replicate}
 use Rattle.fields.specs.Decoded.{Decoded, refused, accepted}
@@ -14,21 +14,21 @@ use Rattle.catalogue.specs.declared.layout.Layout.{Layout}
 use Rattle.catalogue.specs.Layout.{LaidOut}
 use Rattle.query.specs.Format.{predicateLimit}
 use Rattle.bitmaps.specs.Bitmap.{bytesFor}
-use Rattle.bitmaps.specs.Table.{lineSize}
-use Rattle.searchroom.specs.Input.{Input, decodeInput}
+use Rattle.searchroom.specs.Input.{Input}
 use Rattle.searchroom.specs.Run.{Ran, ran, rowCount, predicateCount, counterSize}
-use Rattle.searchroom.specs.Demands.{Lent, Reads, Kept, FirstBroken, badForm, badOrder, badTables, badTally}
+use Rattle.searchroom.specs.Demands.{Lent, Reads, FirstBroken, badForm, badOrder, badTables, badTally}
 use Rattle.searchroom.proofs.DemandLaws.{reads-input, broken-input}
 use Rattle.searchroom.proofs.DemandRuns.{Cases, run-cases, broken-gives, broken-number}
 use Rattle.register.specs.Register as register
-use Rattle.consultation.specs.Consultation.{consultationRun, registerAfter, consultationOf, longest}
+use Rattle.register.specs.Writing.{roomFor}
+use Rattle.consultation.specs.Consultation.{listedSize, looksSize, consultationRun, registerAfter, consultationOf, longest}
 
 pub laid-few : (b : List ℕ) (l : Layout) (d : Decoded Catalogue) → LaidOut b l d → l .rows ≤ rowLimit
 laid-few b l (refused e) h = omega arith
 laid-few b l (accepted c) h = omega arith
 
-pub has-room : (rows n a b o : ℕ) → rows ≤ rowLimit → n ≤ predicateLimit → a ≡ lineSize → b ≡ predicateLimit * lineSize → longest ≤ o
-    → (bytesFor rows ≤ a) × (n * bytesFor rows ≤ b) × (register.roomFor rows n ≤ o)
+pub has-room : (rows n a b o : ℕ) → rows ≤ rowLimit → n ≤ predicateLimit → a ≡ listedSize → b ≡ looksSize → longest ≤ o
+    → (bytesFor rows ≤ a) × (n * bytesFor rows ≤ b) × (roomFor rows n ≤ o)
 has-room rows n a b o h l e f g = (omega arith, omega (arith, mul-le-mul-right (bytesFor rows) l), omega arith)
 
 -- a number other than 0 in the word: the register of a refusal, whatever stands beside it
@@ -38,7 +38,7 @@ refused-text w rows n (suc e) listed looks z l = ap (λ (k : ℕ). register.regi
 
 module _ (b q order : List ℕ) where
   abbrev lent : Lent
-  lent = record { catalogue = b; question = q; order = order; listed = replicate lineSize 0; looks = replicate (predicateLimit * lineSize) 0; tally = replicate counterSize 0 }
+  lent = record { catalogue = b; question = q; order = order; listed = replicate listedSize 0; looks = replicate looksSize 0; tally = replicate counterSize 0 }
 
   abbrev after : Ran
   after = consultationRun b q order

@@ -1,5 +1,5 @@
 -- The text of document 01's register: "A parish of three entries".
-use Prim.Native.Nat.{ℕ, zero, suc, _+_, _*_, _/_, _%_, _^_}
+use Prim.Native.Nat.{ℕ, zero, suc, _*_, _/_, _%_, _^_}
 use mathlib.Core.Path.{_≡_}
 use mathlib.Core.Bool.{Bool, true, false}
 use mathlib.Core.List.{List, [], _∷_, _++_}
@@ -7,7 +7,7 @@ use lib.ListN.{length, take, drop}
 use Rattle.bitmaps.specs.Sums.{joined}
 use Rattle.bitmaps.specs.Bitmap.{bytesFor, onesIn, putFront}
 use Rattle.bitmaps.specs.Bit.{bit}
-use Rattle.register.specs.Decimal.{decimal, numberRoom}
+use Rattle.register.specs.Decimal.{decimal}
 
 -- the first line, "consultation register" and byte 10
 abbrev pub header : List ℕ
@@ -73,31 +73,6 @@ registerWith (suc e) found look-count rows n listed looks = refused (suc e)
 -- the register of a run, from its packed word (bits 0 to 7 the number, 8 to 23 the found count, 40 to 63 the look count) and the tables it wrote
 abbrev pub registerOf : (word rows n : ℕ) (listed looks : List ℕ) → List ℕ
 registerOf word rows n listed looks = registerWith (word % 2 ^ 8) (word / 2 ^ 8 % 2 ^ 16) (word / 2 ^ 40) rows n listed looks
-
--- room for a line: its label, a number, byte 10
-abbrev pub lineRoom : (label : List ℕ) → ℕ
-lineRoom label = length label + numberRoom + 1
-
-abbrev pub entryRoom : ℕ
-entryRoom = lineRoom entryLabel
-
-abbrev pub conditionRoom : ℕ
-conditionRoom = length conditionLabel + numberRoom + lineRoom space
-
-abbrev pub refusedRoom : ℕ
-refusedRoom = length header + lineRoom refusedLabel
-
--- an output long enough for the register of so many entries and conditions
-abbrev pub roomFor : (rows n : ℕ) → ℕ
-roomFor rows n = length header + lineRoom foundLabel + entryRoom * rows + lineRoom looksLabel + conditionRoom * n
-
--- the bytes of `new` from place `at` on, every other byte of `old` staying
-abbrev pub putAt : (at : ℕ) (new old : List ℕ) → List ℕ
-putAt at new old = take at old ++ new ++ drop (at + length new) old
-
--- an output with a text written from `at` on, and the place behind the text
-abbrev pub Wrote : (at : ℕ) (text old : List ℕ) (next : ℕ) (new : List ℕ) → Type 0
-Wrote at text old next new = (new ≡ putAt at text old) × (next ≡ at + length text)
 
 -- a text at the front of an output, which keeps its further bytes, and the text's length
 abbrev pub Printed : (text old : List ℕ) (size : ℕ) (new : List ℕ) → Type 0

@@ -9,11 +9,12 @@ use mathlib.Core.List.{List, [], _∷_, _++_, append-assoc}
 use lib.ListN.{length, take, drop, getD, set, length-append, length-take, length-drop}
 use lib.Seq.{length-take-le, take-at, drop-at, drop-drop, take-length, set-split, append-snoc, paste, paste-zero, paste-suc}
 use Rattle.bitmaps.specs.Sums.{joined}
-use Rattle.bitmaps.specs.Bitmap.{bytesFor, onesIn, putFront}
+use Rattle.bitmaps.specs.Bitmap.{bytesFor, onesIn}
 use Rattle.bitmaps.specs.Bit.{bit}
 use Rattle.register.specs.Decimal.{digitsOf, decimal}
 use Rattle.register.specs.DecimalLaws.{digits-more, digits-none, decimal-zero, decimal-more}
-use Rattle.register.specs.Register.{header, foundLabel, looksLabel, conditionLabel, refusedLabel, line, entryIf, entries, looksOf, space, conditionLine, conditions, accepted, refused, registerWith, registerOf, putAt, Wrote, Printed}
+use Rattle.register.specs.Register.{header, foundLabel, looksLabel, conditionLabel, refusedLabel, line, entryIf, entries, looksOf, space, conditionLine, conditions, accepted, refused, registerWith, registerOf, Printed}
+use Rattle.register.specs.Writing.{putAt, Wrote}
 
 length-more : (at : ℕ) (p q : List ℕ) → at + length p + length q ≡ at + length (p ++ q)
 length-more at p q = omega (arith, length-append p q)

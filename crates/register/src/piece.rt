@@ -2,7 +2,8 @@
 ghost use Prim.Native.Nat.{_+_, _≤_};
 ghost use lib.ListN.{length};
 ghost use Rattle.register.specs.Decimal.{digitsOf, decimal, numberRoom};
-ghost use Rattle.register.specs.Register.{line, lineRoom, Wrote};
+ghost use Rattle.register.specs.Register.{line};
+ghost use Rattle.register.specs.Writing.{lineRoom, Wrote};
 
 // Each function here writes its piece from `at` on and gives the place behind it.
 pub fn put(out: &mut [u8], at: usize, piece: &[u8]) -> usize

@@ -4,7 +4,8 @@ ghost use Prim.Native.Nat.{_+_, _*_, _/_, _^_, _≤_, _<_};
 ghost use lib.ListN.{length};
 ghost use Rattle.bitmaps.specs.Bitmap.{bytesFor};
 ghost use Rattle.bitmaps.specs.Bit.{bit};
-ghost use Rattle.register.specs.Register.{entryIf, entries, conditionLine, conditions, accepted, refused, registerOf, entryRoom, conditionRoom, refusedRoom, roomFor, Wrote, Printed};
+ghost use Rattle.register.specs.Register.{entryIf, entries, conditionLine, conditions, accepted, refused, registerOf, Printed};
+ghost use Rattle.register.specs.Writing.{entryRoom, conditionRoom, refusedRoom, roomFor, Wrote};
 
 fn is_listed(listed: &[u8], row: usize) -> bool
     requires { ⌜ row / 8 < length (now listed) ⌝ }
