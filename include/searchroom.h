@@ -1,7 +1,8 @@
 /*
  * searchroom.h - the search engine of a record office's catalogue, for C99 and C++.
  *
- * Link with libsearchroom.a. The calls keep no state, allocate nothing and may be made from any thread.
+ * Link with libsearchroom.a. The calls keep no state, allocate nothing and may be made from any thread that has 256 KiB of
+ * stack left: each takes less.
  *
  * What a caller gives: byte slices, each a pointer and the number of bytes behind it, and numbers. Any bytes may be
  * given: the engine trusts none of them, and there is nothing to check beforehand. Three things only are the caller's:

@@ -6,6 +6,25 @@ pub enum File {
     Bytes(usize),
 }
 
+// How long each file may be.
+pub struct CatalogueFile;
+
+impl CatalogueFile {
+    pub const LIMIT: usize = 65536;
+}
+
+pub struct QuestionFile;
+
+impl QuestionFile {
+    pub const LIMIT: usize = 4096;
+}
+
+pub struct OrderFile;
+
+impl OrderFile {
+    pub const LIMIT: usize = 64;
+}
+
 // One read; no bytes at the end of the file.
 fn read_some(fd: i32, space: &mut [u8]) -> File
     ensures { λ r. ⌜ Held (now (space .exit)) r ⌝ }

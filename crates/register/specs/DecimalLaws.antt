@@ -5,7 +5,7 @@ use native.Mathlib.Omega.{arith}
 use mathlib.Core.Path.{_≡_, refl, ap}
 use mathlib.Core.List.{List, [], _∷_, _++_}
 use lib.ListN.{length, length-append}
-use Rattle.register.specs.Decimal.{digits, digitsOf, decimal}
+use Rattle.register.specs.Decimal.{digits, digitsOf, decimal, numberRoom}
 
 digits-same : (a b x : ℕ) → x < a → x < b → digits a x ≡ digits b x
 unfolding digits
@@ -44,11 +44,11 @@ digits-few zero (suc s) (suc x) l = absurd (omega arith)
 digits-few (suc k) (suc s) (suc x) l =
     omega (arith, length-append (digits s (suc x / 10)) ((48 + suc x % 10) ∷ []), digits-few k s (suc x / 10) (omega (arith, pow-succ' 10 k)))
 
--- an eight-byte number has at most twenty digits
-pub digits-length : (x : ℕ) → x < 2 ^ 64 → length (digitsOf x) ≤ 20
-digits-length x l = digits-few 20 (suc x) x (omega arith)
+-- an eight-byte number has no more digits than there is room for
+pub digits-length : (x : ℕ) → x < 2 ^ 64 → length (digitsOf x) ≤ numberRoom
+digits-length x l = digits-few numberRoom (suc x) x (omega arith)
 
-pub decimal-length : (x : ℕ) → x < 2 ^ 64 → length (decimal x) ≤ 20
+pub decimal-length : (x : ℕ) → x < 2 ^ 64 → length (decimal x) ≤ numberRoom
 unfolding decimal
 decimal-length zero l = omega arith
 decimal-length (suc x) l = digits-length (suc x) l

@@ -1,5 +1,5 @@
 pub mod Decimal
 pub mod DecimalLaws
 pub mod Register
+pub mod Writing
 pub mod RegisterLaws
-pub mod Parish

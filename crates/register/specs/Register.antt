@@ -1,11 +1,11 @@
 -- The text of document 01's register: "A parish of three entries".
-use Prim.Native.Nat.{ℕ, zero, suc, _+_, _*_, _/_, _%_, _^_}
+use Prim.Native.Nat.{ℕ, zero, suc, _*_, _/_, _%_, _^_}
 use mathlib.Core.Path.{_≡_}
 use mathlib.Core.Bool.{Bool, true, false}
 use mathlib.Core.List.{List, [], _∷_, _++_}
 use lib.ListN.{length, take, drop}
 use Rattle.bitmaps.specs.Sums.{joined}
-use Rattle.bitmaps.specs.Bitmap.{bytesFor, onesIn}
+use Rattle.bitmaps.specs.Bitmap.{bytesFor, onesIn, putFront}
 use Rattle.bitmaps.specs.Bit.{bit}
 use Rattle.register.specs.Decimal.{decimal}
 
@@ -45,8 +45,12 @@ entries listed rows = joined (λ e. entryIf (bit listed e) e) rows
 abbrev pub looksOf : (looks : List ℕ) (size c : ℕ) → ℕ
 looksOf looks size c = onesIn (take size (drop (c * size) looks))
 
+-- between a condition's number and its looks
+abbrev pub space : List ℕ
+space = 32 ∷ []
+
 unfoldable pub conditionLine : (c count : ℕ) → List ℕ
-conditionLine c count = conditionLabel ++ decimal c ++ line (32 ∷ []) count
+conditionLine c count = conditionLabel ++ decimal c ++ line space count
 
 -- "each condition's number and looks"
 unfoldable pub conditions : (looks : List ℕ) (size n : ℕ) → List ℕ
@@ -70,14 +74,6 @@ registerWith (suc e) found look-count rows n listed looks = refused (suc e)
 abbrev pub registerOf : (word rows n : ℕ) (listed looks : List ℕ) → List ℕ
 registerOf word rows n listed looks = registerWith (word % 2 ^ 8) (word / 2 ^ 8 % 2 ^ 16) (word / 2 ^ 40) rows n listed looks
 
--- an output long enough for it, at twenty digits a number
-abbrev pub roomFor : (rows n : ℕ) → ℕ
-roomFor rows n = 76 + 27 * rows + 52 * n
-
--- the bytes of `new` from place `at` on, every other byte of `old` staying
-abbrev pub putAt : (at : ℕ) (new old : List ℕ) → List ℕ
-putAt at new old = take at old ++ new ++ drop (at + length new) old
-
--- an output with a text written from `at` on, and the place behind the text
-abbrev pub Wrote : (at : ℕ) (text old : List ℕ) (next : ℕ) (new : List ℕ) → Type 0
-Wrote at text old next new = (new ≡ putAt at text old) × (next ≡ at + length text)
+-- a text at the front of an output, which keeps its further bytes, and the text's length
+abbrev pub Printed : (text old : List ℕ) (size : ℕ) (new : List ℕ) → Type 0
+Printed text old size new = (new ≡ putFront text old) × (size ≡ length text)

@@ -9,11 +9,12 @@ use mathlib.Core.List.{List, [], _∷_, _++_, append-assoc}
 use lib.ListN.{length, take, drop, getD, set, length-append, length-take, length-drop}
 use lib.Seq.{length-take-le, take-at, drop-at, drop-drop, take-length, set-split, append-snoc, paste, paste-zero, paste-suc}
 use Rattle.bitmaps.specs.Sums.{joined}
-use Rattle.bitmaps.specs.Bitmap.{bytesFor, onesIn, putFront}
+use Rattle.bitmaps.specs.Bitmap.{bytesFor, onesIn}
 use Rattle.bitmaps.specs.Bit.{bit}
 use Rattle.register.specs.Decimal.{digitsOf, decimal}
 use Rattle.register.specs.DecimalLaws.{digits-more, digits-none, decimal-zero, decimal-more}
-use Rattle.register.specs.Register.{header, foundLabel, looksLabel, conditionLabel, refusedLabel, line, entryIf, entries, looksOf, conditionLine, conditions, accepted, refused, registerWith, registerOf, putAt, Wrote}
+use Rattle.register.specs.Register.{header, foundLabel, looksLabel, conditionLabel, refusedLabel, line, entryIf, entries, looksOf, space, conditionLine, conditions, accepted, refused, registerWith, registerOf, Printed}
+use Rattle.register.specs.Writing.{putAt, Wrote}
 
 length-more : (at : ℕ) (p q : List ℕ) → at + length p + length q ≡ at + length (p ++ q)
 length-more at p q = omega (arith, length-append p q)
@@ -118,10 +119,10 @@ module _ (at : ℕ) (old : List ℕ) where
       rw (add-one c) (wrote-then at end r (conditions looks size c) (conditionLine c (looksOf looks size c)) old new newer l w v)
 
   pub condition-end : (number end r c count : ℕ) (a b new : List ℕ) → end ≤ length old
-      → Wrote at conditionLabel old number a → Wrote number (decimal c) a end b → Wrote end (line (32 ∷ []) count) b r new → Wrote at (conditionLine c count) old r new
+      → Wrote at conditionLabel old number a → Wrote number (decimal c) a end b → Wrote end (line space count) b r new → Wrote at (conditionLine c count) old r new
   unfolding conditionLine
   condition-end number end r c count a b new l u v w =
-      wrote-then at end r (conditionLabel ++ decimal c) (line (32 ∷ []) count) old b new l (wrote-then at number end conditionLabel (decimal c) old a b (omega (arith, v .1)) u v) w
+      wrote-then at end r (conditionLabel ++ decimal c) (line space count) old b new l (wrote-then at number end conditionLabel (decimal c) old a b (omega (arith, v .1)) u v) w
 
 pub row-fits : (size n c : ℕ) → c < n → c * size + size ≤ n * size
 row-fits size n c l = omega (arith, mul-le-mul-right size l)
@@ -154,12 +155,12 @@ unfolding refused
 refused-end number a r old o new l u v = wrote-then 0 a r header (line refusedLabel number) old o new l u v
 
 -- written from the first byte on
-at-front : (r : ℕ) (text old new : List ℕ) → Wrote 0 text old r new → (new ≡ putFront text old) × (r ≡ length text)
+at-front : (r : ℕ) (text old new : List ℕ) → Wrote 0 text old r new → Printed text old r new
 at-front r text old new w = (w .0 ∙ ap (λ (k : ℕ). text ++ drop k old) (zero-add (length text)), w .1 ∙ zero-add (length text))
 
 module _ (word rows n r : ℕ) (listed looks old new : List ℕ) where
   pub register-refused : (number : ℕ) → number ≡ word % 256 → (number ≡ 0 → ⊥) → Wrote 0 (refused number) old r new
-      → (new ≡ putFront (registerOf word rows n listed looks) old) × (r ≡ length (registerOf word rows n listed looks))
+      → Printed (registerOf word rows n listed looks) old r new
   register-refused number e ne w = at-front r (registerOf word rows n listed looks) old new (wrote-same 0 r (refused number) (registerOf word rows n listed looks) old new (go (word % 256) (number) e ne) w)
     where
       go : (k number : ℕ) → number ≡ k → (number ≡ 0 → ⊥) → refused number ≡ registerWith k (word / 2 ^ 8 % 2 ^ 16) (word / 2 ^ 40) rows n listed looks
@@ -167,7 +168,7 @@ module _ (word rows n r : ℕ) (listed looks old new : List ℕ) where
       go (suc k) number e ne = ap refused e
 
   pub register-accepted : word % 256 ≡ 0 → Wrote 0 (accepted (word / 256 % 65536) (word / 1099511627776) rows n listed looks) old r new
-      → (new ≡ putFront (registerOf word rows n listed looks) old) × (r ≡ length (registerOf word rows n listed looks))
+      → Printed (registerOf word rows n listed looks) old r new
   register-accepted e w =
       at-front r (registerOf word rows n listed looks) old new
       (wrote-same 0 r (accepted (word / 256 % 65536) (word / 1099511627776) rows n listed looks) (registerOf word rows n listed looks) old new

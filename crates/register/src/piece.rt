@@ -1,8 +1,9 @@
 // Writing pieces of text into a lent output, one behind the other.
 ghost use Prim.Native.Nat.{_+_, _≤_};
 ghost use lib.ListN.{length};
-ghost use Rattle.register.specs.Decimal.{digitsOf, decimal};
-ghost use Rattle.register.specs.Register.{line, Wrote};
+ghost use Rattle.register.specs.Decimal.{digitsOf, decimal, numberRoom};
+ghost use Rattle.register.specs.Register.{line};
+ghost use Rattle.register.specs.Writing.{lineRoom, Wrote};
 
 // Each function here writes its piece from `at` on and gives the place behind it.
 pub fn put(out: &mut [u8], at: usize, piece: &[u8]) -> usize
@@ -31,8 +32,8 @@ fn put_digits(out: &mut [u8], at: usize, x: u64) -> usize
 }
 
 pub fn put_number(out: &mut [u8], at: usize, x: u64) -> usize
-    requires { ⌜ at + 20 ≤ length (now out) ⌝ }
-    ensures { λ r. ⌜ Wrote at (decimal x) (now (out .entry)) r (now (out .exit)) × (r ≤ at + 20) ⌝ }
+    requires { ⌜ at + numberRoom ≤ length (now out) ⌝ }
+    ensures { λ r. ⌜ Wrote at (decimal x) (now (out .entry)) r (now (out .exit)) × (r ≤ at + numberRoom) ⌝ }
 {
     if x == 0 {
         return put(out, at, b"0");
@@ -41,8 +42,8 @@ pub fn put_number(out: &mut [u8], at: usize, x: u64) -> usize
 }
 
 pub fn put_line(out: &mut [u8], at: usize, label: &[u8], x: u64) -> usize
-    requires { ⌜ at + length (now label) + 21 ≤ length (now out) ⌝ }
-    ensures { λ r. ⌜ Wrote at (line (now (label .entry)) x) (now (out .entry)) r (now (out .exit)) × (r ≤ at + length (now (label .entry)) + 21) ⌝ }
+    requires { ⌜ at + lineRoom (now label) ≤ length (now out) ⌝ }
+    ensures { λ r. ⌜ Wrote at (line (now (label .entry)) x) (now (out .entry)) r (now (out .exit)) × (r ≤ at + lineRoom (now (label .entry))) ⌝ }
 {
     let number = put(out, at, label);
     let end = put_number(out, number, x);

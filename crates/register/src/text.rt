@@ -2,9 +2,10 @@
 ghost use mathlib.Core.Path.{_≡_};
 ghost use Prim.Native.Nat.{_+_, _*_, _/_, _^_, _≤_, _<_};
 ghost use lib.ListN.{length};
-ghost use Rattle.bitmaps.specs.Bitmap.{bytesFor, putFront};
+ghost use Rattle.bitmaps.specs.Bitmap.{bytesFor};
 ghost use Rattle.bitmaps.specs.Bit.{bit};
-ghost use Rattle.register.specs.Register.{entryIf, entries, conditionLine, conditions, accepted, refused, registerOf, roomFor, Wrote};
+ghost use Rattle.register.specs.Register.{entryIf, entries, conditionLine, conditions, accepted, refused, registerOf, Printed};
+ghost use Rattle.register.specs.Writing.{entryRoom, conditionRoom, refusedRoom, roomFor, Wrote};
 
 fn is_listed(listed: &[u8], row: usize) -> bool
     requires { ⌜ row / 8 < length (now listed) ⌝ }
@@ -14,8 +15,8 @@ fn is_listed(listed: &[u8], row: usize) -> bool
 }
 
 fn put_entry(out: &mut [u8], at: usize, listed: &[u8], row: usize) -> usize
-    requires { ⌜ (row / 8 < length (now listed)) × (at + 27 ≤ length (now out)) ⌝ }
-    ensures { λ r. ⌜ Wrote at (entryIf (bit (now (listed .entry)) row) row) (now (out .entry)) r (now (out .exit)) × (r ≤ at + 27) ⌝ }
+    requires { ⌜ (row / 8 < length (now listed)) × (at + entryRoom ≤ length (now out)) ⌝ }
+    ensures { λ r. ⌜ Wrote at (entryIf (bit (now (listed .entry)) row) row) (now (out .entry)) r (now (out .exit)) × (r ≤ at + entryRoom) ⌝ }
 {
     if is_listed(listed, row) {
         return crate::piece::put_line(out, at, b"entry ", row as u64);
@@ -24,8 +25,8 @@ fn put_entry(out: &mut [u8], at: usize, listed: &[u8], row: usize) -> usize
 }
 
 fn put_entries(out: &mut [u8], at: usize, listed: &[u8], rows: usize) -> usize
-    requires { ⌜ (rows ≤ length (now listed) * 8) × (at + 27 * rows ≤ length (now out)) ⌝ }
-    ensures { λ r. ⌜ Wrote at (entries (now (listed .entry)) rows) (now (out .entry)) r (now (out .exit)) × (r ≤ at + 27 * rows) ⌝ }
+    requires { ⌜ (rows ≤ length (now listed) * 8) × (at + entryRoom * rows ≤ length (now out)) ⌝ }
+    ensures { λ r. ⌜ Wrote at (entries (now (listed .entry)) rows) (now (out .entry)) r (now (out .exit)) × (r ≤ at + entryRoom * rows) ⌝ }
 {
     let mut end = at;
     let mut row: usize = 0;
@@ -37,8 +38,8 @@ fn put_entries(out: &mut [u8], at: usize, listed: &[u8], rows: usize) -> usize
 }
 
 fn put_condition(out: &mut [u8], at: usize, c: usize, count: u64) -> usize
-    requires { ⌜ at + 52 ≤ length (now out) ⌝ }
-    ensures { λ r. ⌜ Wrote at (conditionLine c count) (now (out .entry)) r (now (out .exit)) × (r ≤ at + 52) ⌝ }
+    requires { ⌜ at + conditionRoom ≤ length (now out) ⌝ }
+    ensures { λ r. ⌜ Wrote at (conditionLine c count) (now (out .entry)) r (now (out .exit)) × (r ≤ at + conditionRoom) ⌝ }
 {
     let number = crate::piece::put(out, at, b"condition ");
     let end = crate::piece::put_number(out, number, c as u64);
@@ -46,8 +47,8 @@ fn put_condition(out: &mut [u8], at: usize, c: usize, count: u64) -> usize
 }
 
 fn put_conditions(out: &mut [u8], at: usize, looks: &[u8], size: usize, n: usize) -> usize
-    requires { ⌜ (size < 2 ^ 61) × (n * size ≤ length (now looks)) × (at + 52 * n ≤ length (now out)) ⌝ }
-    ensures { λ r. ⌜ Wrote at (conditions (now (looks .entry)) size n) (now (out .entry)) r (now (out .exit)) × (r ≤ at + 52 * n) ⌝ }
+    requires { ⌜ (size < 2 ^ 61) × (n * size ≤ length (now looks)) × (at + conditionRoom * n ≤ length (now out)) ⌝ }
+    ensures { λ r. ⌜ Wrote at (conditions (now (looks .entry)) size n) (now (out .entry)) r (now (out .exit)) × (r ≤ at + conditionRoom * n) ⌝ }
 {
     let mut end = at;
     let mut c: usize = 0;
@@ -82,7 +83,7 @@ fn put_accepted(
 }
 
 fn put_refused(number: u64, out: &mut [u8]) -> usize
-    requires { ⌜ 76 ≤ length (now out) ⌝ }
+    requires { ⌜ refusedRoom ≤ length (now out) ⌝ }
     ensures { λ r. ⌜ Wrote 0 (refused number) (now (out .entry)) r (now (out .exit)) ⌝ }
 {
     let next = crate::piece::put(out, 0, b"consultation register\n");
@@ -99,7 +100,7 @@ pub fn write_register(
     out: &mut [u8],
 ) -> usize
     requires { ⌜ (bytesFor rows ≤ length (now listed)) × (n * bytesFor rows ≤ length (now looks)) × (roomFor rows n ≤ length (now out)) ⌝ }
-    ensures { λ r. ⌜ (now (out .exit) ≡ putFront (registerOf word rows n (now (listed .entry)) (now (looks .entry))) (now (out .entry))) × (r ≡ length (registerOf word rows n (now (listed .entry)) (now (looks .entry)))) ⌝ }
+    ensures { λ r. ⌜ Printed (registerOf word rows n (now (listed .entry)) (now (looks .entry))) (now (out .entry)) r (now (out .exit)) ⌝ }
 {
     let number = word % 256;
     if number != 0 {

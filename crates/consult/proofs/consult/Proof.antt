@@ -1,6 +1,6 @@
 -- `consult` meets its contract: what was read of each file stands at the front of its space, and the register at the front of the output.
 use native.Mathlib.Omega.{arith}
-use Rattle.consult.proofs.Consulting.{front-counts}
+use Rattle.consult.proofs.Consulting.{files-print, unreadable-prints}
 use borrow.Author.Needs.{needs}
 use Rattle.consult.proofs.consult.Statement.{statement}
 use Rattle.consult.proofs.consult.Tie as tie
@@ -38,14 +38,14 @@ enum-known-first c = search needs
 enum-told : tie.Need-enum-told
 enum-told c = search needs
 
-not-readable-requires : tie.Need-not-readable-requires
-not-readable-requires c κs = search needs
+write-unreadable-requires : tie.Need-write-unreadable-requires
+write-unreadable-requires c κs = search needs
 
 same-length : tie.Need-same-length
 same-length c = search needs
 
 returns : tie.Need-returns
-returns c = front-counts _ _ _ _ (c .before .before .not-readable .ensures)
+returns c = unreadable-prints _ _ _ (c .before .before .write-unreadable .ensures)
 
 enum-known-second : tie.Need-enum-known-second
 enum-known-second c = search needs
@@ -53,14 +53,14 @@ enum-known-second c = search needs
 enum-told-2 : tie.Need-enum-told-2
 enum-told-2 c = search needs
 
-not-readable-requires-2 : tie.Need-not-readable-requires-2
-not-readable-requires-2 c κs = search needs
+write-unreadable-requires-2 : tie.Need-write-unreadable-requires-2
+write-unreadable-requires-2 c κs = search needs
 
 same-length-2 : tie.Need-same-length-2
 same-length-2 c = search needs
 
 returns-2 : tie.Need-returns-2
-returns-2 c = front-counts _ _ _ _ (c .before .before .not-readable2 .ensures)
+returns-2 c = unreadable-prints _ _ _ (c .before .before .write-unreadable2 .ensures)
 
 enum-known-third : tie.Need-enum-known-third
 enum-known-third c = search needs
@@ -68,41 +68,41 @@ enum-known-third c = search needs
 enum-told-3 : tie.Need-enum-told-3
 enum-told-3 c = search needs
 
-not-readable-requires-3 : tie.Need-not-readable-requires-3
-not-readable-requires-3 c κs = search needs
+write-unreadable-requires-3 : tie.Need-write-unreadable-requires-3
+write-unreadable-requires-3 c κs = search needs
 
 same-length-3 : tie.Need-same-length-3
 same-length-3 c = search needs
 
 returns-3 : tie.Need-returns-3
-returns-3 c = front-counts _ _ _ _ (c .before .before .not-readable3 .ensures)
+returns-3 c = unreadable-prints _ _ _ (c .before .before .write-unreadable3 .ensures)
 
 array-share-prefix-catalogue : tie.Need-array-share-prefix-catalogue
 array-share-prefix-catalogue c = (rw (c .before .before .before .before .before .before .before .first .given .1) at (c .before .before .before .before .before .before .before .before .before .before .before .before .before .before .before .before .before .before .read-file .ensures)) .0
 
-slice-aggregate-consultation : tie.Need-slice-aggregate-consultation
-slice-aggregate-consultation c = (rw (c .before .before .before .before .before .before .before .before .first .given .1) at (c .before .before .before .before .before .before .before .before .before .before .before .before .before .before .before .before .before .before .before .read-file .ensures)) .1
+slice-aggregate-write-consultation : tie.Need-slice-aggregate-write-consultation
+slice-aggregate-write-consultation c = (rw (c .before .before .before .before .before .before .before .before .first .given .1) at (c .before .before .before .before .before .before .before .before .before .before .before .before .before .before .before .before .before .before .before .read-file .ensures)) .1
 
 array-share-prefix-question : tie.Need-array-share-prefix-question
 array-share-prefix-question c = (rw (c .before .before .before .before .before .second .given .1) at (c .before .before .before .before .before .before .before .before .before .before .before .before .before .before .before .read-file2 .ensures)) .0
 
-slice-aggregate-consultation-2 : tie.Need-slice-aggregate-consultation-2
-slice-aggregate-consultation-2 c = (rw (c .before .before .before .before .before .before .second .given .1) at (c .before .before .before .before .before .before .before .before .before .before .before .before .before .before .before .before .read-file2 .ensures)) .1
+slice-aggregate-write-consultation-2 : tie.Need-slice-aggregate-write-consultation-2
+slice-aggregate-write-consultation-2 c = (rw (c .before .before .before .before .before .before .second .given .1) at (c .before .before .before .before .before .before .before .before .before .before .before .before .before .before .before .before .read-file2 .ensures)) .1
 
 array-share-prefix-order : tie.Need-array-share-prefix-order
 array-share-prefix-order c = (rw (c .before .before .before .third .given .1) at (c .before .before .before .before .before .before .before .before .before .before .before .before .read-file3 .ensures)) .0
 
-slice-aggregate-consultation-3 : tie.Need-slice-aggregate-consultation-3
-slice-aggregate-consultation-3 c = (rw (c .before .before .before .before .third .given .1) at (c .before .before .before .before .before .before .before .before .before .before .before .before .before .read-file3 .ensures)) .1
+slice-aggregate-write-consultation-3 : tie.Need-slice-aggregate-write-consultation-3
+slice-aggregate-write-consultation-3 c = (rw (c .before .before .before .before .third .given .1) at (c .before .before .before .before .before .before .before .before .before .before .before .before .before .read-file3 .ensures)) .1
 
-consultation-requires : tie.Need-consultation-requires
-consultation-requires c κs = let h = (rw (c .before .before .before .before .before .third .given .1) at (c .before .before .before .before .before .before .before .before .before .before .before .before .before .before .read-file3 .ensures)) in (omega (arith, h), omega arith)
+write-consultation-requires : tie.Need-write-consultation-requires
+write-consultation-requires c κs = let h = (rw (c .before .before .before .before .before .third .given .1) at (c .before .before .before .before .before .before .before .before .before .before .before .before .before .before .read-file3 .ensures)) in (omega (arith, h), omega arith)
 
 same-length-4 : tie.Need-same-length-4
 same-length-4 c = search needs
 
 returns-4 : tie.Need-returns-4
-returns-4 c = front-counts _ _ _ _ (c .before .before .consultation .ensures)
+returns-4 c = files-print _ _ _ _ _ _ (c .before .before .write-consultation .ensures) (omega (arith, (rw (c .before .before .before .before .before .before .before .before .before .before .before .before .before .before .first .given .1) at (c .before .before .before .before .before .before .before .before .before .before .before .before .before .before .before .before .before .before .before .before .before .before .before .before .before .read-file .ensures)))) (omega (arith, (rw (c .before .before .before .before .before .before .before .before .before .before .before .second .given .1) at (c .before .before .before .before .before .before .before .before .before .before .before .before .before .before .before .before .before .before .before .before .before .read-file2 .ensures)))) (omega (arith, (rw (c .before .before .before .before .before .before .before .before .third .given .1) at (c .before .before .before .before .before .before .before .before .before .before .before .before .before .before .before .before .before .read-file3 .ensures))))
 
 pub consult-spec : {M : Type 1} → statement M
 consult-spec =
@@ -119,25 +119,25 @@ consult-spec =
     read-file-requires-3
     enum-known-first
     enum-told
-    not-readable-requires
+    write-unreadable-requires
     same-length
     returns
     enum-known-second
     enum-told-2
-    not-readable-requires-2
+    write-unreadable-requires-2
     same-length-2
     returns-2
     enum-known-third
     enum-told-3
-    not-readable-requires-3
+    write-unreadable-requires-3
     same-length-3
     returns-3
     array-share-prefix-catalogue
-    slice-aggregate-consultation
+    slice-aggregate-write-consultation
     array-share-prefix-question
-    slice-aggregate-consultation-2
+    slice-aggregate-write-consultation-2
     array-share-prefix-order
-    slice-aggregate-consultation-3
-    consultation-requires
+    slice-aggregate-write-consultation-3
+    write-consultation-requires
     same-length-4
     returns-4)

@@ -2,7 +2,6 @@
 use native.Mathlib.Omega.{arith}
 use borrow.Author.Needs.{needs}
 use Rattle.register.specs.RegisterLaws.{line-end}
-use borrow.Author.Needs.{needs}
 use Rattle.register.proofs.piece.put_line.Statement.{statement}
 use Rattle.register.proofs.piece.put_line.Tie as tie
 

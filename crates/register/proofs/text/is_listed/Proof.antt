@@ -2,9 +2,6 @@
 use borrow.Author.Needs.{needs}
 use Rattle.sets.specs.Set.{member}
 use Rattle.bitmaps.specs.Bit.{bit}
-use borrow.Author.Needs.{needs}
-use Rattle.sets.specs.Set.{member}
-use Rattle.bitmaps.specs.Bit.{bit}
 use Rattle.register.proofs.text.is_listed.Statement.{statement}
 use Rattle.register.proofs.text.is_listed.Tie as tie
 

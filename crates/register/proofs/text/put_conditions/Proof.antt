@@ -4,13 +4,14 @@ use native.Mathlib.Omega.{arith}
 use borrow.Author.Needs.{needs}
 use mathlib.Core.Path.{_≡_, refl}
 use lib.ListN.{length}
-use Rattle.register.specs.Register.{conditions, Wrote}
+use Rattle.register.specs.Register.{conditions}
+use Rattle.register.specs.Writing.{conditionRoom, Wrote}
 use Rattle.register.specs.RegisterLaws.{conditions-none, conditions-more, condition-row, row-fits, row-short}
 use Rattle.register.proofs.text.put_conditions.Statement.{statement}
 use Rattle.register.proofs.text.put_conditions.Tie as tie
 
 abbrev Inv-loop : tie.InvT-loop
-Inv-loop out₀ at looks size n end₀ c₀ row₀ out end c row = (c ≤ n) × (row ≡ c * size) × (length out ≡ length out₀) × Wrote at (conditions looks size c) out₀ end out × (end ≤ at + 52 * c)
+Inv-loop out₀ at looks size n end₀ c₀ row₀ out end c row = (c ≤ n) × (row ≡ c * size) × (length out ≡ length out₀) × Wrote at (conditions looks size c) out₀ end out × (end ≤ at + conditionRoom * c)
 
 abbrev μ-loop : tie.MeasureT-loop
 μ-loop out₀ at looks size n end₀ c₀ row₀ out end c row = n - c

@@ -4,13 +4,14 @@ use native.Mathlib.Omega.{arith}
 use borrow.Author.Needs.{needs}
 use mathlib.Core.Path.{_≡_, refl}
 use lib.ListN.{length}
-use Rattle.register.specs.Register.{entries, Wrote}
+use Rattle.register.specs.Register.{entries}
+use Rattle.register.specs.Writing.{entryRoom, Wrote}
 use Rattle.register.specs.RegisterLaws.{entries-none, entries-more}
 use Rattle.register.proofs.text.put_entries.Statement.{statement}
 use Rattle.register.proofs.text.put_entries.Tie as tie
 
 abbrev Inv-loop : tie.InvT-loop
-Inv-loop out₀ at listed rows end₀ row₀ out end row = (row ≤ rows) × (length out ≡ length out₀) × Wrote at (entries listed row) out₀ end out × (end ≤ at + 27 * row)
+Inv-loop out₀ at listed rows end₀ row₀ out end row = (row ≤ rows) × (length out ≡ length out₀) × Wrote at (entries listed row) out₀ end out × (end ≤ at + entryRoom * row)
 
 abbrev μ-loop : tie.MeasureT-loop
 μ-loop out₀ at listed rows end₀ row₀ out end row = rows - row

@@ -3,7 +3,6 @@ use native.Mathlib.Omega.{arith}
 use borrow.Author.Needs.{needs}
 use mathlib.Core.Path.{sym, _∙_}
 use Rattle.register.specs.RegisterLaws.{entry-listed, entry-not}
-use borrow.Author.Needs.{needs}
 use Rattle.register.proofs.text.put_entry.Statement.{statement}
 use Rattle.register.proofs.text.put_entry.Tie as tie
 

@@ -2,7 +2,6 @@
 use native.Mathlib.Omega.{arith}
 use borrow.Author.Needs.{needs}
 use Rattle.register.specs.RegisterLaws.{refused-end}
-use borrow.Author.Needs.{needs}
 use Rattle.register.proofs.text.put_refused.Statement.{statement}
 use Rattle.register.proofs.text.put_refused.Tie as tie
 

@@ -1,9 +1,14 @@
 // One consultation: a run with the tally at zero, and its register.
+use bitmaps::copy::Line;
+use query::format::Predicate;
+use searchroom::finish::Counter;
 ghost use Prim.Native.Nat.{_≤_};
 ghost use lib.ListN.{length};
-ghost use Rattle.register.specs.Register.{refused};
-ghost use Rattle.consult.specs.Consultation.{unreadable, consultationOf, Printed};
+ghost use Rattle.query.specs.Format.{predicateLimit};
+ghost use Rattle.register.specs.Register.{refused, Printed};
+ghost use Rattle.consultation.specs.Consultation.{unreadable, consultationOf, longest};
 
+// Document 01's refusal 19; the contracts tie it to that of specs/Consultation.antt.
 pub struct Refusal;
 
 impl Refusal {
@@ -11,13 +16,13 @@ impl Refusal {
 }
 
 // The register of three files, to the front of the output; its length.
-pub fn consultation(catalogue: &[u8], question: &[u8], order: &[u8], out: &mut [u8]) -> usize
-    requires { ⌜ (length (now order) ≤ 64) × (65536 ≤ length (now out)) ⌝ }
+pub fn write_consultation(catalogue: &[u8], question: &[u8], order: &[u8], out: &mut [u8]) -> usize
+    requires { ⌜ (length (now order) ≤ predicateLimit) × (longest ≤ length (now out)) ⌝ }
     ensures { λ r. ⌜ Printed (consultationOf (now (catalogue .entry)) (now (question .entry)) (now (order .entry))) (now (out .entry)) r (now (out .exit)) ⌝ }
 {
-    let mut listed = [0u8; 256];
-    let mut looks = [0u8; 16384];
-    let mut tally = [0u8; 8];
+    let mut listed = [0u8; Line::SIZE];
+    let mut looks = [0u8; Predicate::LIMIT * Line::SIZE];
+    let mut tally = [0u8; Counter::SIZE];
     let word = searchroom::run_call::searchroom_run(
         catalogue,
         question,
@@ -32,8 +37,8 @@ pub fn consultation(catalogue: &[u8], question: &[u8], order: &[u8], out: &mut [
 }
 
 // The register where a file cannot be read.
-pub fn not_readable(out: &mut [u8]) -> usize
-    requires { ⌜ 65536 ≤ length (now out) ⌝ }
+pub fn write_unreadable(out: &mut [u8]) -> usize
+    requires { ⌜ longest ≤ length (now out) ⌝ }
     ensures { λ r. ⌜ Printed (refused unreadable) (now (out .entry)) r (now (out .exit)) ⌝ }
 {
     let none = [0u8; 0];

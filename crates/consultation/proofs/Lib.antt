@@ -1,0 +1,2 @@
+pub mod Consulting
+pub mod Parish

@@ -1,0 +1,41 @@
+-- "A parish of three entries": with order 00 01 02, `consult` prints exactly these lines.
+use mathlib.Core.Path.{_≡_, refl}
+use mathlib.Core.Bool.{xor}
+use mathlib.Core.List.{[], _∷_, _++_}
+use lib.Count.{ones, onesIn as digitOnes}
+use Rattle.fields.specs.Numbers.{numberAt, bytesOf}
+use Rattle.fields.specs.Header.{headerAt}
+use Rattle.catalogue.specs.Slots.{textAt, textsAt, zerosAt, validSlot, validSlots}
+use Rattle.catalogue.specs.Decode.{numbersAt, countsAt, firstOf, columnOf, columnsAt, decodeCatalogue}
+use Rattle.predicate.specs.Kinds.{plainKind}
+use Rattle.predicate.specs.Meaning.{folded, same, begins, occurs, numberTest, textTest, outcomeOf}
+use Rattle.predicate.specs.Payload.{tagsIn, kindFits, rangeFits, operandFits, validPayload}
+use Rattle.query.specs.Decode.{payloadAt, isRepeated, predicateField, groupField, memberField, decodeTagged, decodeQuery, member}
+use Rattle.strategy.specs.Assignment.{update, elem}
+use Rattle.strategy.specs.Strategy.{predicates}
+use Rattle.strategy.specs.Trace.{decides, someOutcomes, due, trace}
+use Rattle.strategy.specs.Tree.{eval}
+use Rattle.strategy.specs.Order.{occurrences, allBelow, isOrder}
+use Rattle.bitmaps.specs.Sums.{sumOf, joined}
+use Rattle.bitmaps.specs.Bitmap.{bitmap, bitmaps, onesIn}
+use Rattle.run.specs.Run.{isSelected, traceAt}
+use Rattle.searchroom.specs.Input.{decodeInput}
+use Rattle.searchroom.specs.Run.{selection, probes, runOn, runOf}
+use Rattle.bitmaps.specs.Bit.{bit}
+use Rattle.sets.specs.Set as sets
+use Rattle.register.specs.Decimal.{digits, decimal}
+use Rattle.register.specs.Register.{header, line, entries, conditionLine, conditions, accepted}
+use Rattle.searchroom.specs.Parish.{parish, question}
+use Rattle.consultation.specs.Consultation.{consultationOf}
+
+parish-register : consultationOf parish question (0 ∷ 1 ∷ 2 ∷ [])
+    ≡ header
+    ++ (102 ∷ 111 ∷ 117 ∷ 110 ∷ 100 ∷ 32 ∷ 50 ∷ 10 ∷ [])
+    ++ (101 ∷ 110 ∷ 116 ∷ 114 ∷ 121 ∷ 32 ∷ 48 ∷ 10 ∷ [])
+    ++ (101 ∷ 110 ∷ 116 ∷ 114 ∷ 121 ∷ 32 ∷ 50 ∷ 10 ∷ [])
+    ++ (108 ∷ 111 ∷ 111 ∷ 107 ∷ 115 ∷ 32 ∷ 54 ∷ 10 ∷ [])
+    ++ (99 ∷ 111 ∷ 110 ∷ 100 ∷ 105 ∷ 116 ∷ 105 ∷ 111 ∷ 110 ∷ 32 ∷ 48 ∷ 32 ∷ 51 ∷ 10 ∷ [])
+    ++ (99 ∷ 111 ∷ 110 ∷ 100 ∷ 105 ∷ 116 ∷ 105 ∷ 111 ∷ 110 ∷ 32 ∷ 49 ∷ 32 ∷ 49 ∷ 10 ∷ [])
+    ++ (99 ∷ 111 ∷ 110 ∷ 100 ∷ 105 ∷ 116 ∷ 105 ∷ 111 ∷ 110 ∷ 32 ∷ 50 ∷ 32 ∷ 50 ∷ 10 ∷ [])
+unfolding numberAt bytesOf headerAt textAt textsAt zerosAt validSlot validSlots numbersAt countsAt firstOf columnOf columnsAt decodeCatalogue folded same begins occurs plainKind numberTest textTest outcomeOf tagsIn kindFits rangeFits operandFits validPayload payloadAt isRepeated predicateField groupField memberField decodeTagged decodeQuery member update elem predicates decides someOutcomes due trace eval occurrences allBelow isOrder sumOf joined bitmap bitmaps onesIn isSelected traceAt decodeInput selection probes runOn runOf ones digitOnes xor bit sets.member digits decimal line entries conditionLine conditions accepted
+parish-register = refl
