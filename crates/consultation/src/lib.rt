@@ -1,6 +1,6 @@
 // One consultation: a run with the tally at zero, and its register.
 use bitmaps::copy::Line;
-use query::format::Predicate;
+use query::table::Predicate;
 use searchroom::finish::Counter;
 ghost use Prim.Native.Nat.{_≤_};
 ghost use lib.ListN.{length};
