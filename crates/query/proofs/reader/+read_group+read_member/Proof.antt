@@ -41,86 +41,57 @@ abbrev read-member-below : ℕ → In 6 read-member-kinds.ps
 read-member-below t =
     and 6 read-member-kinds.ps (falls 6 read-member-kinds.ps _<_ μ-read-member t) read-member.Pre
 
+-- what each reader may rely on of those that it calls: of the other reader only where the measure falls
+abbrev group-claims : ℕ → read-group-lts.Claims
+group-claims t = (read-member-below t, read-member.Post)
+
+abbrev member-claims : ℕ → read-member-lts.Claims
+member-claims t =
+    (read-field-reads.Asked, read-field-reads.Learnt, read-group-below t, read-group.Post, close-group-reads.Asked, close-group-reads.Learnt)
+
 abbrev read-group-Inv-loop : read-group-lts.InvT-loop
 read-group-Inv-loop tags q at end depth n places₀ masks₀ sorts₀ heights₀ p₀ m₀ places masks sorts heights p m = InGroup tags q at end depth n p m (tables places₀ masks₀ sorts₀ heights₀) (tables places masks sorts heights)
 
 abbrev read-group-μ-loop : read-group-lts.MeasureT-loop
 read-group-μ-loop tags q at end depth n places₀ masks₀ sorts₀ heights₀ p₀ m₀ places masks sorts heights p m = end - p
 
-read-group-loop-holds : (t : ℕ) → read-group-lts.Need-loop-holds (
-  read-member-below t,
-  read-member.Post,
-) (read-group-at t) read-group.Post read-group-Inv-loop read-group-μ-loop
+read-group-loop-holds : (t : ℕ) → read-group-lts.Need-loop-holds (group-claims t) (read-group-at t) read-group.Post read-group-Inv-loop read-group-μ-loop
 read-group-loop-holds t c = in-group-none _ _ _ _ _ _ _ (c .before .before .before .before .before .before .pre .1)
 
-read-group-read-member-requires : (t : ℕ) → read-group-lts.Need-read-member-requires (
-  read-member-below t,
-  read-member.Post,
-) (read-group-at t) read-group.Post read-group-Inv-loop read-group-μ-loop
+read-group-read-member-requires : (t : ℕ) → read-group-lts.Need-read-member-requires (group-claims t) (read-group-at t) read-group.Post read-group-Inv-loop read-group-μ-loop
 read-group-read-member-requires t c κs = (omega (arith, c .before .before .before .before .before .loop .inv .past), c .before .before .before .before .before .loop .inv .room)
 
-read-group-enum-known-e : (t : ℕ) → read-group-lts.Need-enum-known-e (
-  read-member-below t,
-  read-member.Post,
-) (read-group-at t) read-group.Post read-group-Inv-loop read-group-μ-loop
+read-group-enum-known-e : (t : ℕ) → read-group-lts.Need-enum-known-e (group-claims t) (read-group-at t) read-group.Post read-group-Inv-loop read-group-μ-loop
 read-group-enum-known-e t c = search needs
 
-read-group-same-length : (t : ℕ) → read-group-lts.Need-same-length (
-  read-member-below t,
-  read-member.Post,
-) (read-group-at t) read-group.Post read-group-Inv-loop read-group-μ-loop
+read-group-same-length : (t : ℕ) → read-group-lts.Need-same-length (group-claims t) (read-group-at t) read-group.Post read-group-Inv-loop read-group-μ-loop
 read-group-same-length t c = search needs
 
-read-group-same-length-2 : (t : ℕ) → read-group-lts.Need-same-length-2 (
-  read-member-below t,
-  read-member.Post,
-) (read-group-at t) read-group.Post read-group-Inv-loop read-group-μ-loop
+read-group-same-length-2 : (t : ℕ) → read-group-lts.Need-same-length-2 (group-claims t) (read-group-at t) read-group.Post read-group-Inv-loop read-group-μ-loop
 read-group-same-length-2 t c = search needs
 
-read-group-same-length-3 : (t : ℕ) → read-group-lts.Need-same-length-3 (
-  read-member-below t,
-  read-member.Post,
-) (read-group-at t) read-group.Post read-group-Inv-loop read-group-μ-loop
+read-group-same-length-3 : (t : ℕ) → read-group-lts.Need-same-length-3 (group-claims t) (read-group-at t) read-group.Post read-group-Inv-loop read-group-μ-loop
 read-group-same-length-3 t c = search needs
 
-read-group-same-length-4 : (t : ℕ) → read-group-lts.Need-same-length-4 (
-  read-member-below t,
-  read-member.Post,
-) (read-group-at t) read-group.Post read-group-Inv-loop read-group-μ-loop
+read-group-same-length-4 : (t : ℕ) → read-group-lts.Need-same-length-4 (group-claims t) (read-group-at t) read-group.Post read-group-Inv-loop read-group-μ-loop
 read-group-same-length-4 t c = search needs
 
-read-group-returns :
-    (t : ℕ) →
-    read-group-lts.Need-returns
-    (read-member-below t, read-member.Post)
-    (read-group-at t)
-    read-group.Post
-    read-group-Inv-loop
-    read-group-μ-loop
+read-group-returns : (t : ℕ) → read-group-lts.Need-returns (group-claims t) (read-group-at t) read-group.Post read-group-Inv-loop read-group-μ-loop
 read-group-returns t c =
     let a = c .before .before .before .before .before .before .before .before .before .before .before .before .before .before .before .before .before .before .before .before .before .before .before .before .args in
     let l = c .before .before .before .before .before .before .before .before .before .before .before .before .before .before .before .before .before .loop in
     let m = c .before .before .before .before .before .before .before .before .before .before .before .read-member in
     in-group-refused _ _ _ (a .end) (a .depth) _ (l .p) (l .m) (tables (now (a .places)) (now (a .masks)) (now (a .sorts)) (now (a .heights))) (tables (l .places) (l .masks) (l .sorts) (l .heights)) (l .inv) (tables (m .last .1 .1 .1 .1 .1 .1 .0) (m .last .1 .1 .1 .1 .1 .1 .1 .0) (m .last .1 .1 .1 .1 .1 .1 .1 .1 .0) (m .last .1 .1 .1 .1 .1 .1 .1 .1 .1 .0)) (omega arith) _ (rw (c .before .e .given .1) at (m .ensures))
 
-read-group-enum-known-next : (t : ℕ) → read-group-lts.Need-enum-known-next (
-  read-member-below t,
-  read-member.Post,
-) (read-group-at t) read-group.Post read-group-Inv-loop read-group-μ-loop
+read-group-enum-known-next : (t : ℕ) → read-group-lts.Need-enum-known-next (group-claims t) (read-group-at t) read-group.Post read-group-Inv-loop read-group-μ-loop
 read-group-enum-known-next t c = search needs
 
-read-group-loop-less : (t : ℕ) → read-group-lts.Need-loop-less (
-  read-member-below t,
-  read-member.Post,
-) (read-group-at t) read-group.Post read-group-Inv-loop read-group-μ-loop
+read-group-loop-less : (t : ℕ) → read-group-lts.Need-loop-less (group-claims t) (read-group-at t) read-group.Post read-group-Inv-loop read-group-μ-loop
 read-group-loop-less t c =
     let w = rw (c .before .next .given .1) at (c .before .before .before .before .before .before .before .before .before .before .before .read-member .ensures .within) in
     omega arith
 
-read-group-loop-again : (t : ℕ) → read-group-lts.Need-loop-again (
-  read-member-below t,
-  read-member.Post,
-) (read-group-at t) read-group.Post read-group-Inv-loop read-group-μ-loop
+read-group-loop-again : (t : ℕ) → read-group-lts.Need-loop-again (group-claims t) (read-group-at t) read-group.Post read-group-Inv-loop read-group-μ-loop
 read-group-loop-again t c =
     let a = c .before .before .before .before .before .before .before .before .before .before .before .before .before .before .before .before .before .before .before .before .before .before .before .before .args in
     let l = c .before .before .before .before .before .before .before .before .before .before .before .before .before .before .before .before .before .loop in
@@ -130,192 +101,79 @@ read-group-loop-again t c =
     in-group-more _ _ _ (a .end) (a .depth) _ (l .p) (l .m) (tables (now (a .places)) (now (a .masks)) (now (a .sorts)) (now (a .heights))) (tables (l .places) (l .masks) (l .sorts) (l .heights)) (l .inv) (tables (m .last .1 .1 .1 .1 .1 .1 .0) (m .last .1 .1 .1 .1 .1 .1 .1 .0) (m .last .1 .1 .1 .1 .1 .1 .1 .1 .0) (m .last .1 .1 .1 .1 .1 .1 .1 .1 .1 .0)) (omega arith) _ _ (rw (c .before .next .given .1) at (m .ensures)) (omega arith)
     (record { masks-size = omega arith; sorts-size = omega arith; heights-size = omega arith })
 
-read-group-same-length-5 : (t : ℕ) → read-group-lts.Need-same-length-5 (
-  read-member-below t,
-  read-member.Post,
-) (read-group-at t) read-group.Post read-group-Inv-loop read-group-μ-loop
+read-group-same-length-5 : (t : ℕ) → read-group-lts.Need-same-length-5 (group-claims t) (read-group-at t) read-group.Post read-group-Inv-loop read-group-μ-loop
 read-group-same-length-5 t c = search needs
 
-read-group-same-length-6 : (t : ℕ) → read-group-lts.Need-same-length-6 (
-  read-member-below t,
-  read-member.Post,
-) (read-group-at t) read-group.Post read-group-Inv-loop read-group-μ-loop
+read-group-same-length-6 : (t : ℕ) → read-group-lts.Need-same-length-6 (group-claims t) (read-group-at t) read-group.Post read-group-Inv-loop read-group-μ-loop
 read-group-same-length-6 t c = search needs
 
-read-group-same-length-7 : (t : ℕ) → read-group-lts.Need-same-length-7 (
-  read-member-below t,
-  read-member.Post,
-) (read-group-at t) read-group.Post read-group-Inv-loop read-group-μ-loop
+read-group-same-length-7 : (t : ℕ) → read-group-lts.Need-same-length-7 (group-claims t) (read-group-at t) read-group.Post read-group-Inv-loop read-group-μ-loop
 read-group-same-length-7 t c = search needs
 
-read-group-same-length-8 : (t : ℕ) → read-group-lts.Need-same-length-8 (
-  read-member-below t,
-  read-member.Post,
-) (read-group-at t) read-group.Post read-group-Inv-loop read-group-μ-loop
+read-group-same-length-8 : (t : ℕ) → read-group-lts.Need-same-length-8 (group-claims t) (read-group-at t) read-group.Post read-group-Inv-loop read-group-μ-loop
 read-group-same-length-8 t c = search needs
 
-read-group-returns-2 : (t : ℕ) → read-group-lts.Need-returns-2 (
-  read-member-below t,
-  read-member.Post,
-) (read-group-at t) read-group.Post read-group-Inv-loop read-group-μ-loop
+read-group-returns-2 : (t : ℕ) → read-group-lts.Need-returns-2 (group-claims t) (read-group-at t) read-group.Post read-group-Inv-loop read-group-μ-loop
 read-group-returns-2 t c =
     let a = c .before .before .before .before .before .before .before .before .args in
     let l = c .before .loop in
     in-group-end _ _ _ (a .end) (a .depth) _ (l .p) (l .m) (tables (now (a .places)) (now (a .masks)) (now (a .sorts)) (now (a .heights))) (tables (l .places) (l .masks) (l .sorts) (l .heights)) (l .inv) (omega arith)
 
-read-member-read-field-requires : (t : ℕ) → read-member-lts.Need-read-field-requires (
-  read-field-reads.Asked,
-  read-field-reads.Learnt,
-  read-group-below t,
-  read-group.Post,
-  close-group-reads.Asked,
-  close-group-reads.Learnt,
-) (read-member-at t) read-member.Post
+read-member-read-field-requires : (t : ℕ) → read-member-lts.Need-read-field-requires (member-claims t) (read-member-at t) read-member.Post
 read-member-read-field-requires t c κs = (c .before .before .before .before .before .before .before .pre .1 .order, c .before .before .before .before .before .before .before .pre .1 .inside, c .before .before .before .before .before .before .before .pre .1 .located)
 
-read-member-enum-known-e : (t : ℕ) → read-member-lts.Need-enum-known-e (
-  read-field-reads.Asked,
-  read-field-reads.Learnt,
-  read-group-below t,
-  read-group.Post,
-  close-group-reads.Asked,
-  close-group-reads.Learnt,
-) (read-member-at t) read-member.Post
+read-member-enum-known-e : (t : ℕ) → read-member-lts.Need-enum-known-e (member-claims t) (read-member-at t) read-member.Post
 read-member-enum-known-e t c = search needs
 
-read-member-enum-known-stop : (t : ℕ) → read-member-lts.Need-enum-known-stop (
-  read-field-reads.Asked,
-  read-field-reads.Learnt,
-  read-group-below t,
-  read-group.Post,
-  close-group-reads.Asked,
-  close-group-reads.Learnt,
-) (read-member-at t) read-member.Post
+read-member-enum-known-stop : (t : ℕ) → read-member-lts.Need-enum-known-stop (member-claims t) (read-member-at t) read-member.Post
 read-member-enum-known-stop t c = search needs
 
-read-member-mul-places : (t : ℕ) → read-member-lts.Need-mul-places (
-  read-field-reads.Asked,
-  read-field-reads.Learnt,
-  read-group-below t,
-  read-group.Post,
-  close-group-reads.Asked,
-  close-group-reads.Learnt,
-) (read-member-at t) read-member.Post
+read-member-mul-places : (t : ℕ) → read-member-lts.Need-mul-places (member-claims t) (read-member-at t) read-member.Post
 read-member-mul-places t c =
     let w = rw (c .before .stop .given .1) at (c .before .before .before .read-field .ensures .1) in
     omega (arith, c .before .before .before .before .before .before .before .before .before .before .before .pre .1 .located .sized)
 
-read-member-slice-write-places : (t : ℕ) → read-member-lts.Need-slice-write-places (
-  read-field-reads.Asked,
-  read-field-reads.Learnt,
-  read-group-below t,
-  read-group.Post,
-  close-group-reads.Asked,
-  close-group-reads.Learnt,
-) (read-member-at t) read-member.Post
+read-member-slice-write-places : (t : ℕ) → read-member-lts.Need-slice-write-places (member-claims t) (read-member-at t) read-member.Post
 read-member-slice-write-places t c =
     let w = rw (c .before .stop .given .1) at (c .before .before .before .read-field .ensures .1) in
     omega (arith, c .before .before .before .before .before .before .before .before .before .before .before .pre .1 .located .sized)
 
-read-member-mul-heights : (t : ℕ) → read-member-lts.Need-mul-heights (
-  read-field-reads.Asked,
-  read-field-reads.Learnt,
-  read-group-below t,
-  read-group.Post,
-  close-group-reads.Asked,
-  close-group-reads.Learnt,
-) (read-member-at t) read-member.Post
+read-member-mul-heights : (t : ℕ) → read-member-lts.Need-mul-heights (member-claims t) (read-member-at t) read-member.Post
 read-member-mul-heights t c =
     let w = rw (c .before .stop .given .1) at (c .before .before .before .read-field .ensures .1) in
     omega (arith, c .before .before .before .before .before .before .before .before .before .before .before .pre .1 .ladders .heights-size)
 
-read-member-slice-write-heights : (t : ℕ) → read-member-lts.Need-slice-write-heights (
-  read-field-reads.Asked,
-  read-field-reads.Learnt,
-  read-group-below t,
-  read-group.Post,
-  close-group-reads.Asked,
-  close-group-reads.Learnt,
-) (read-member-at t) read-member.Post
+read-member-slice-write-heights : (t : ℕ) → read-member-lts.Need-slice-write-heights (member-claims t) (read-member-at t) read-member.Post
 read-member-slice-write-heights t c =
     let w = rw (c .before .stop .given .1) at (c .before .before .before .read-field .ensures .1) in
     omega (arith, c .before .before .before .before .before .before .before .before .before .before .before .pre .1 .ladders .heights-size)
 
-read-member-add-t23 : (t : ℕ) → read-member-lts.Need-add-t23 (
-  read-field-reads.Asked,
-  read-field-reads.Learnt,
-  read-group-below t,
-  read-group.Post,
-  close-group-reads.Asked,
-  close-group-reads.Learnt,
-) (read-member-at t) read-member.Post
+read-member-add-t23 : (t : ℕ) → read-member-lts.Need-add-t23 (member-claims t) (read-member-at t) read-member.Post
 read-member-add-t23 t c =
     let w = rw (c .before .stop .given .1) at (c .before .before .before .read-field .ensures .1) in
     omega (arith, c .before .before .before .before .before .before .before .before .before .before .before .pre .1 .ladders .heights-size)
 
-read-member-enum-known-tag : (t : ℕ) → read-member-lts.Need-enum-known-tag (
-  read-field-reads.Asked,
-  read-field-reads.Learnt,
-  read-group-below t,
-  read-group.Post,
-  close-group-reads.Asked,
-  close-group-reads.Learnt,
-) (read-member-at t) read-member.Post
+read-member-enum-known-tag : (t : ℕ) → read-member-lts.Need-enum-known-tag (member-claims t) (read-member-at t) read-member.Post
 read-member-enum-known-tag t c = search needs
 
-read-member-add-read-group : (t : ℕ) → read-member-lts.Need-add-read-group (
-  read-field-reads.Asked,
-  read-field-reads.Learnt,
-  read-group-below t,
-  read-group.Post,
-  close-group-reads.Asked,
-  close-group-reads.Learnt,
-) (read-member-at t) read-member.Post
+read-member-add-read-group : (t : ℕ) → read-member-lts.Need-add-read-group (member-claims t) (read-member-at t) read-member.Post
 read-member-add-read-group t c =
     let w = rw (c .before .tag .given .1) at (c .before .before .before .read-field .ensures .1) in
     omega arith
 
-read-member-read-group-requires : (t : ℕ) → read-member-lts.Need-read-group-requires (
-  read-field-reads.Asked,
-  read-field-reads.Learnt,
-  read-group-below t,
-  read-group.Post,
-  close-group-reads.Asked,
-  close-group-reads.Learnt,
-) (read-member-at t) read-member.Post
+read-member-read-group-requires : (t : ℕ) → read-member-lts.Need-read-group-requires (member-claims t) (read-member-at t) read-member.Post
 read-member-read-group-requires t c κs =
     let w = rw (c .before .before .before .before .before .tag .given .1) at (c .before .before .before .before .before .before .before .read-field .ensures .1) in
     let p = c .before .before .before .before .before .before .before .before .before .before .before .before .before .before .before .pre .1 in
     (omega arith, record { order = omega arith; inside = omega (arith, p .inside); deep = omega arith; located = p .located; ladders = p .ladders; low = p .low })
 
-read-member-enum-known-e-2 : (t : ℕ) → read-member-lts.Need-enum-known-e-2 (
-  read-field-reads.Asked,
-  read-field-reads.Learnt,
-  read-group-below t,
-  read-group.Post,
-  close-group-reads.Asked,
-  close-group-reads.Learnt,
-) (read-member-at t) read-member.Post
+read-member-enum-known-e-2 : (t : ℕ) → read-member-lts.Need-enum-known-e-2 (member-claims t) (read-member-at t) read-member.Post
 read-member-enum-known-e-2 t c = search needs
 
-read-member-enum-known-next : (t : ℕ) → read-member-lts.Need-enum-known-next (
-  read-field-reads.Asked,
-  read-field-reads.Learnt,
-  read-group-below t,
-  read-group.Post,
-  close-group-reads.Asked,
-  close-group-reads.Learnt,
-) (read-member-at t) read-member.Post
+read-member-enum-known-next : (t : ℕ) → read-member-lts.Need-enum-known-next (member-claims t) (read-member-at t) read-member.Post
 read-member-enum-known-next t c = search needs
 
-read-member-close-group-requires : (t : ℕ) → read-member-lts.Need-close-group-requires (
-  read-field-reads.Asked,
-  read-field-reads.Learnt,
-  read-group-below t,
-  read-group.Post,
-  close-group-reads.Asked,
-  close-group-reads.Learnt,
-) (read-member-at t) read-member.Post
+read-member-close-group-requires : (t : ℕ) → read-member-lts.Need-close-group-requires (member-claims t) (read-member-at t) read-member.Post
 read-member-close-group-requires t c κs =
     let g = c .before .before .before .before .before .before .before .before .before .before .before .before .before .before .read-group in
     let k = g .kept in
@@ -323,24 +181,10 @@ read-member-close-group-requires t c κs =
     let w = rw (c .before .before .before .before .next .given .1) at (g .ensures .within) in
     ((w .2, w .3, record { masks-size = omega arith; sorts-size = omega arith; heights-size = omega arith }), (w .5, λ k i j. (let u = w .6 k i j in omega arith)))
 
-read-member-same-length : (t : ℕ) → read-member-lts.Need-same-length (
-  read-field-reads.Asked,
-  read-field-reads.Learnt,
-  read-group-below t,
-  read-group.Post,
-  close-group-reads.Asked,
-  close-group-reads.Learnt,
-) (read-member-at t) read-member.Post
+read-member-same-length : (t : ℕ) → read-member-lts.Need-same-length (member-claims t) (read-member-at t) read-member.Post
 read-member-same-length t c = search needs
 
-read-member-returns : (t : ℕ) → read-member-lts.Need-returns (
-  read-field-reads.Asked,
-  read-field-reads.Learnt,
-  read-group-below t,
-  read-group.Post,
-  close-group-reads.Asked,
-  close-group-reads.Learnt,
-) (read-member-at t) read-member.Post
+read-member-returns : (t : ℕ) → read-member-lts.Need-returns (member-claims t) (read-member-at t) read-member.Post
 read-member-returns t c =
     let a = c .before .before .before .before .before .before .before .before .before .before .before .args in
     let f = c .before .before .before .read-field in record {
@@ -348,34 +192,13 @@ read-member-returns t c =
       exact = member-refused _ _ (a .at) (a .end) (a .depth) (a .n) (tables (now (a .places)) (now (a .masks)) (now (a .sorts)) (now (a .heights))) (tables (now (a .places)) (now (a .masks)) (now (a .sorts)) (now (a .heights))) _ (f .ensures .0) _ (c .before .e .given .1);
     }
 
-read-member-same-length-2 : (t : ℕ) → read-member-lts.Need-same-length-2 (
-  read-field-reads.Asked,
-  read-field-reads.Learnt,
-  read-group-below t,
-  read-group.Post,
-  close-group-reads.Asked,
-  close-group-reads.Learnt,
-) (read-member-at t) read-member.Post
+read-member-same-length-2 : (t : ℕ) → read-member-lts.Need-same-length-2 (member-claims t) (read-member-at t) read-member.Post
 read-member-same-length-2 t c = search needs
 
-read-member-same-length-3 : (t : ℕ) → read-member-lts.Need-same-length-3 (
-  read-field-reads.Asked,
-  read-field-reads.Learnt,
-  read-group-below t,
-  read-group.Post,
-  close-group-reads.Asked,
-  close-group-reads.Learnt,
-) (read-member-at t) read-member.Post
+read-member-same-length-3 : (t : ℕ) → read-member-lts.Need-same-length-3 (member-claims t) (read-member-at t) read-member.Post
 read-member-same-length-3 t c = search needs
 
-read-member-returns-2 : (t : ℕ) → read-member-lts.Need-returns-2 (
-  read-field-reads.Asked,
-  read-field-reads.Learnt,
-  read-group-below t,
-  read-group.Post,
-  close-group-reads.Asked,
-  close-group-reads.Learnt,
-) (read-member-at t) read-member.Post
+read-member-returns-2 : (t : ℕ) → read-member-lts.Need-returns-2 (member-claims t) (read-member-at t) read-member.Post
 read-member-returns-2 t c =
     let a = c .before .before .before .before .before .before .before .before .before .before .before .args in
     let f = c .before .before .before .read-field in
@@ -386,54 +209,19 @@ read-member-returns-2 t c =
       exact = member-leaf (now (a .tags)) (now (a .q)) (a .at) (a .end) (a .depth) (a .n) (now (a .places)) (now (a .masks)) (now (a .sorts)) (now (a .heights)) _ _ (w .0) (w .5) (w .1) (omega (arith, p .located .sized)) (omega (arith, p .ladders .heights-size)) _ (f .ensures .0) is;
     }
 
-read-member-same-length-4 : (t : ℕ) → read-member-lts.Need-same-length-4 (
-  read-field-reads.Asked,
-  read-field-reads.Learnt,
-  read-group-below t,
-  read-group.Post,
-  close-group-reads.Asked,
-  close-group-reads.Learnt,
-) (read-member-at t) read-member.Post
+read-member-same-length-4 : (t : ℕ) → read-member-lts.Need-same-length-4 (member-claims t) (read-member-at t) read-member.Post
 read-member-same-length-4 t c = search needs
 
-read-member-same-length-5 : (t : ℕ) → read-member-lts.Need-same-length-5 (
-  read-field-reads.Asked,
-  read-field-reads.Learnt,
-  read-group-below t,
-  read-group.Post,
-  close-group-reads.Asked,
-  close-group-reads.Learnt,
-) (read-member-at t) read-member.Post
+read-member-same-length-5 : (t : ℕ) → read-member-lts.Need-same-length-5 (member-claims t) (read-member-at t) read-member.Post
 read-member-same-length-5 t c = search needs
 
-read-member-same-length-6 : (t : ℕ) → read-member-lts.Need-same-length-6 (
-  read-field-reads.Asked,
-  read-field-reads.Learnt,
-  read-group-below t,
-  read-group.Post,
-  close-group-reads.Asked,
-  close-group-reads.Learnt,
-) (read-member-at t) read-member.Post
+read-member-same-length-6 : (t : ℕ) → read-member-lts.Need-same-length-6 (member-claims t) (read-member-at t) read-member.Post
 read-member-same-length-6 t c = search needs
 
-read-member-same-length-7 : (t : ℕ) → read-member-lts.Need-same-length-7 (
-  read-field-reads.Asked,
-  read-field-reads.Learnt,
-  read-group-below t,
-  read-group.Post,
-  close-group-reads.Asked,
-  close-group-reads.Learnt,
-) (read-member-at t) read-member.Post
+read-member-same-length-7 : (t : ℕ) → read-member-lts.Need-same-length-7 (member-claims t) (read-member-at t) read-member.Post
 read-member-same-length-7 t c = search needs
 
-read-member-returns-3 : (t : ℕ) → read-member-lts.Need-returns-3 (
-  read-field-reads.Asked,
-  read-field-reads.Learnt,
-  read-group-below t,
-  read-group.Post,
-  close-group-reads.Asked,
-  close-group-reads.Learnt,
-) (read-member-at t) read-member.Post
+read-member-returns-3 : (t : ℕ) → read-member-lts.Need-returns-3 (member-claims t) (read-member-at t) read-member.Post
 read-member-returns-3 t c =
     let a = c .before .before .before .before .before .before .before .before .before .before .before .before .before .before .before .before .before .before .before .before .before .before .before .before .before .before .before .args in
     let f = c .before .before .before .before .before .before .before .before .before .before .before .before .before .before .before .before .before .before .before .read-field in
@@ -443,54 +231,19 @@ read-member-returns-3 t c =
       exact = member-group-refused _ _ (a .at) (a .end) (a .depth) (a .n) (tables (now (a .places)) (now (a .masks)) (now (a .sorts)) (now (a .heights))) (tables (g .last .1 .1 .1 .1 .1 .1 .0) (g .last .1 .1 .1 .1 .1 .1 .1 .0) (g .last .1 .1 .1 .1 .1 .1 .1 .1 .0) (g .last .1 .1 .1 .1 .1 .1 .1 .1 .1 .0)) _ (f .ensures .0) _ _ _ (c .before .before .before .before .before .before .before .before .before .before .before .before .before .before .before .before .before .tag .given .1) (w .0) (w .1) (w .2) _ (rw (c .before .e2 .given .1) at (g .ensures .exact));
     }
 
-read-member-same-length-8 : (t : ℕ) → read-member-lts.Need-same-length-8 (
-  read-field-reads.Asked,
-  read-field-reads.Learnt,
-  read-group-below t,
-  read-group.Post,
-  close-group-reads.Asked,
-  close-group-reads.Learnt,
-) (read-member-at t) read-member.Post
+read-member-same-length-8 : (t : ℕ) → read-member-lts.Need-same-length-8 (member-claims t) (read-member-at t) read-member.Post
 read-member-same-length-8 t c = search needs
 
-read-member-same-length-9 : (t : ℕ) → read-member-lts.Need-same-length-9 (
-  read-field-reads.Asked,
-  read-field-reads.Learnt,
-  read-group-below t,
-  read-group.Post,
-  close-group-reads.Asked,
-  close-group-reads.Learnt,
-) (read-member-at t) read-member.Post
+read-member-same-length-9 : (t : ℕ) → read-member-lts.Need-same-length-9 (member-claims t) (read-member-at t) read-member.Post
 read-member-same-length-9 t c = search needs
 
-read-member-same-length-10 : (t : ℕ) → read-member-lts.Need-same-length-10 (
-  read-field-reads.Asked,
-  read-field-reads.Learnt,
-  read-group-below t,
-  read-group.Post,
-  close-group-reads.Asked,
-  close-group-reads.Learnt,
-) (read-member-at t) read-member.Post
+read-member-same-length-10 : (t : ℕ) → read-member-lts.Need-same-length-10 (member-claims t) (read-member-at t) read-member.Post
 read-member-same-length-10 t c = search needs
 
-read-member-same-length-11 : (t : ℕ) → read-member-lts.Need-same-length-11 (
-  read-field-reads.Asked,
-  read-field-reads.Learnt,
-  read-group-below t,
-  read-group.Post,
-  close-group-reads.Asked,
-  close-group-reads.Learnt,
-) (read-member-at t) read-member.Post
+read-member-same-length-11 : (t : ℕ) → read-member-lts.Need-same-length-11 (member-claims t) (read-member-at t) read-member.Post
 read-member-same-length-11 t c = search needs
 
-read-member-returns-4 : (t : ℕ) → read-member-lts.Need-returns-4 (
-  read-field-reads.Asked,
-  read-field-reads.Learnt,
-  read-group-below t,
-  read-group.Post,
-  close-group-reads.Asked,
-  close-group-reads.Learnt,
-) (read-member-at t) read-member.Post
+read-member-returns-4 : (t : ℕ) → read-member-lts.Need-returns-4 (member-claims t) (read-member-at t) read-member.Post
 read-member-returns-4 t c =
     let a = c .before .before .before .before .before .before .before .before .before .before .before .before .before .before .before .before .before .before .before .before .before .before .before .before .before .before .before .before .before .before .before .before .before .before .before .before .before .args in
     let f = c .before .before .before .before .before .before .before .before .before .before .before .before .before .before .before .before .before .before .before .before .before .before .before .before .before .before .before .before .before .read-field in
@@ -503,14 +256,7 @@ read-member-returns-4 t c =
     }
 
 pub +read-group+read-member-spec : {M : Type 1} → statement M
-+read-group+read-member-spec = close μ-read-group μ-read-member (λ t. read-group-lts.spec (
-  read-member-below t,
-  read-member.Post,
-)
-    (read-group-at t)
-    read-group.Post
-    read-group-Inv-loop
-    read-group-μ-loop
++read-group+read-member-spec = close μ-read-group μ-read-member (λ t. read-group-lts.spec (group-claims t) (read-group-at t) read-group.Post read-group-Inv-loop read-group-μ-loop
     (read-group-loop-holds t)
     (read-group-read-member-requires t)
     (read-group-enum-known-e t)
@@ -527,16 +273,7 @@ pub +read-group+read-member-spec : {M : Type 1} → statement M
     (read-group-same-length-7 t)
     (read-group-same-length-8 t)
     (read-group-returns-2 t))
-    λ t. read-member-lts.spec (
-      read-field-reads.Asked,
-      read-field-reads.Learnt,
-      read-group-below t,
-      read-group.Post,
-      close-group-reads.Asked,
-      close-group-reads.Learnt,
-    )
-    (read-member-at t)
-    read-member.Post
+    λ t. read-member-lts.spec (member-claims t) (read-member-at t) read-member.Post
     (read-member-read-field-requires t)
     (read-member-enum-known-e t)
     (read-member-enum-known-stop t)
