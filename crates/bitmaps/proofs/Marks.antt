@@ -14,7 +14,8 @@ use lib.Bits.{bitOr, or-lt}
 use Rattle.strategy.specs.Bools.{same?, eqb-self, eqb-ne}
 use Rattle.sets.specs.Set.{member, oneSet}
 use Rattle.sets.specs.SetLaws.{member-or, member-one}
-use Rattle.bitmaps.specs.Bit.{bit, Bytes, Marked}
+use Rattle.fields.specs.Numbers.{Bytes}
+use Rattle.bitmaps.specs.Bit.{bit, Marked}
 use Rattle.bitmaps.specs.BitLaws.{or-false}
 
 pub shift-one : (place : ℕ) → place < 8 → 1 * 2 ^ place % 2 ^ 8 ≡ 2 ^ place

@@ -17,7 +17,8 @@ use Rattle.sets.specs.SetLaws.{member-or, member-one, member-none, same-set}
 use Rattle.bitmaps.specs.Sums.{sumOf, digit, countOf}
 use Rattle.bitmaps.specs.SumLaws.{sum-split, count-same}
 use Rattle.bitmaps.specs.Bitmap.{binary, onesIn}
-use Rattle.bitmaps.specs.Bit.{bit, Bytes}
+use Rattle.fields.specs.Numbers.{Bytes}
+use Rattle.bitmaps.specs.Bit.{bit}
 
 -- a number below 2 ^ k has no bit from k on
 pub member-high : (k x d : ℕ) → x < 2 ^ k → k ≤ d → member x d ≡ false

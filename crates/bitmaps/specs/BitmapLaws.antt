@@ -16,7 +16,8 @@ use Rattle.bitmaps.specs.Sums.{sumOf, joined, digit, countOf}
 use Rattle.bitmaps.specs.SumLaws.{sum-below, sum-same, count-same, joined-same, joined-length, joined-line, listed-length, listed-at}
 use Rattle.bitmaps.specs.Bitmap.{bytesFor, binary, bitmap, bitmaps, onesIn}
 use Rattle.bitmaps.specs.OnesLaws.{ones-joined}
-use Rattle.bitmaps.specs.Bit.{bit, Bytes}
+use Rattle.fields.specs.Numbers.{Bytes}
+use Rattle.bitmaps.specs.Bit.{bit}
 use Rattle.bitmaps.specs.BitLaws.{member-high, binary-lt, member-binary, bit-at, ones-bits}
 
 -- the bytes for so many rows hold them, and no byte is without a row

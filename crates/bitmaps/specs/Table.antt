@@ -6,7 +6,8 @@ use mathlib.Core.List.{List}
 use lib.ListN.{length, take, drop}
 use lib.Dec.{ltb}
 use Rattle.bitmaps.specs.Sums.{joined}
-use Rattle.bitmaps.specs.Bit.{bit, Bytes}
+use Rattle.fields.specs.Numbers.{Bytes}
+use Rattle.bitmaps.specs.Bit.{bit}
 
 -- the bytes and the bits of a line
 abbrev pub lineSize : ℕ

@@ -1,5 +1,6 @@
 -- The loop over the columns: the layout shows those read so far, and whatever the rest gives, the whole gives.
 use Prim.Native.Nat.{ℕ, zero, suc, _+_, _-_, _≤_, _<_}
+use mathlib.Core.Bool.{cond}
 use native.Mathlib.Omega.{arith}
 use mathlib.Core.Path.{_≡_, refl, ap, _∙_}
 use mathlib.Core.List.{List, [], _∷_, _++_, append-assoc, append-nil}
@@ -7,7 +8,7 @@ use lib.ListN.{length, getD, set, length-append, length-set}
 use lib.Seq.{getD-set-same, getD-set-other}
 use lib.Dec.{eqb}
 use borrow.Author.Tests.{eq-eqb, ne-eqb}
-use Rattle.fields.specs.Decoded.{Decoded, refused, accepted, either}
+use Rattle.fields.specs.Decoded.{Decoded, refused, accepted}
 use Rattle.fields.specs.Header.{headerAt}
 use Rattle.catalogue.specs.declared.column.ColumnField.{ColumnField}
 use Rattle.catalogue.specs.declared.column.ColumnField.the-variants.{Refused, Numbers, Texts}
@@ -43,7 +44,7 @@ unfolding columnsAt
 columns-step b rows zero at h = absurd (omega arith)
 columns-step b rows (suc n) at h = let z : suc n - 1 ≡ n = omega arith in rw z
 
-columns-none : (b : List ℕ) (rows n at : ℕ) → n ≡ 0 → columnsAt b rows n at ≡ either (eqb at (length b)) (accepted []) (refused bytesAfterColumns)
+columns-none : (b : List ℕ) (rows n at : ℕ) → n ≡ 0 → columnsAt b rows n at ≡ cond (eqb at (length b)) (accepted []) (refused bytesAfterColumns)
 unfolding columnsAt
 columns-none b rows n at e = rw e
 

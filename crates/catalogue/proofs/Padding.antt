@@ -4,12 +4,11 @@ use native.Mathlib.Nat.{div-div-eq-div-mul, div-eq-of-lt, div-lt-iff-lt-mul}
 use lib.Pow.{pow-add}
 use native.Mathlib.Omega.{arith}
 use mathlib.Core.Path.{_≡_, refl, sym, ap, _∙_}
-use mathlib.Core.Bool.{Bool, true, false}
+use mathlib.Core.Bool.{Bool, true, false, _&&_, and-assoc}
 use mathlib.Core.List.{List}
 use lib.ListN.{getD}
 use lib.Dec.{eqb, leb}
 use borrow.Author.Tests.{leb-true, leb-false, le-leb, lt-leb, ne-eqb}
-use Rattle.fields.specs.Decoded.{both}
 use Rattle.catalogue.specs.Slots.{zerosAt, validSlot}
 use Rattle.catalogue.specs.Words.{wordAt}
 
@@ -20,7 +19,7 @@ pow-pos : (k : ℕ) → 0 < 256 ^ k
 pow-pos zero = omega arith
 pow-pos (suc k) = let h : 0 < 256 ^ k = pow-pos k in omega arith
 
-leb-zero : (x w : ℕ) → leb (x + 256 * w) 0 ≡ both (eqb x 0) (leb w 0)
+leb-zero : (x w : ℕ) → leb (x + 256 * w) 0 ≡ (eqb x 0 && leb w 0)
 leb-zero zero zero = refl
 leb-zero zero (suc w) = rw (lt-leb (0 + 256 * suc w) 0 (omega arith), lt-leb (suc w) 0 (omega arith))
 leb-zero (suc x) w = rw (lt-leb (suc x + 256 * w) 0 (omega arith), ne-eqb (suc x) 0 (λ e. omega arith))
@@ -35,7 +34,7 @@ leb-step x w l p m h e f = go (leb w m) refl
 zeros-zero : (b : List ℕ) (p m : ℕ) → leb (wordAt b p m) 0 ≡ zerosAt b p m
 unfolding zerosAt wordAt
 zeros-zero b p zero = refl
-zeros-zero b p (suc m) = leb-zero (getD b p 0) (wordAt b (p + 1) m) ∙ ap (both (eqb (getD b p 0) 0)) (zeros-zero b (p + 1) m)
+zeros-zero b p (suc m) = leb-zero (getD b p 0) (wordAt b (p + 1) m) ∙ ap (_&&_ (eqb (getD b p 0) 0)) (zeros-zero b (p + 1) m)
 
 -- a word is small where its later bytes are zeros
 word-limit : (b : List ℕ) → ((i : ℕ) → getD b i 0 < 256) → (k m p : ℕ) → k ≤ m → leb (wordAt b p m) (256 ^ k - 1) ≡ zerosAt b (p + k) (m - k)
@@ -48,17 +47,13 @@ word-limit b s (suc k) (suc m) p l =
     let q : 0 < 256 ^ k = pow-pos k in
     leb-step (getD b p 0) (wordAt b (p + 1) m) (256 ^ suc k - 1) (256 ^ k) (256 ^ k - 1) (s p) (omega arith) (omega arith) ∙ word-limit b s k m (p + 1) (omega arith) ∙ rw (z, y)
 
-zeros-split : (b : List ℕ) (m n p : ℕ) → zerosAt b p (m + n) ≡ both (zerosAt b p m) (zerosAt b (p + m) n)
+zeros-split : (b : List ℕ) (m n p : ℕ) → zerosAt b p (m + n) ≡ (zerosAt b p m && zerosAt b (p + m) n)
 unfolding zerosAt
 zeros-split b zero n p = let z : 0 + n ≡ n = omega arith in let y : p + 0 ≡ p = omega arith in rw (z, y)
 zeros-split b (suc m) n p =
     let z : suc m + n ≡ suc (m + n) = omega arith in
     let y : p + suc m ≡ p + 1 + m = omega arith in
-    rw (z, y, zeros-split b m n (p + 1)) (both-both (eqb (getD b p 0) 0) (zerosAt b (p + 1) m) (zerosAt b (p + 1 + m) n))
-  where
-    both-both : (x y z : Bool) → both x (both y z) ≡ both (both x y) z
-    both-both true y z = refl
-    both-both false y z = refl
+    rw (z, y, zeros-split b m n (p + 1)) (sym (and-assoc (eqb (getD b p 0) 0) (zerosAt b (p + 1) m) (zerosAt b (p + 1 + m) n)))
 
 zeros-nil : (b : List ℕ) (p : ℕ) → zerosAt b p 0 ≡ true
 unfolding zerosAt
@@ -75,17 +70,17 @@ module _ (b : List ℕ) (s : (i : ℕ) → getD b i 0 < 256) (at n : ℕ) (l : n
   third-word k q r e h x y = rw (e, ← x, ← y) (word-limit b s k 8 (at + 16) h)
 
   -- n + 1 to 24 in parts
-  parts : (p c q m : ℕ) → p + c ≡ q → zerosAt b p (c + m) ≡ both (zerosAt b p c) (zerosAt b q m)
+  parts : (p c q m : ℕ) → p + c ≡ q → zerosAt b p (c + m) ≡ (zerosAt b p c && zerosAt b q m)
   parts p c q m e = rw (← e) (zeros-split b c m p)
 
   abbrev Words : Bool
-  Words = both (leb (wordAt b at 8) (limitOf (n + 17))) (both (leb (wordAt b (at + 8) 8) (limitOf (n + 9))) (leb (wordAt b (at + 16) 8) (limitOf (n + 1))))
+  Words = leb (wordAt b at 8) (limitOf (n + 17)) && (leb (wordAt b (at + 8) 8) (limitOf (n + 9)) && leb (wordAt b (at + 16) 8) (limitOf (n + 1)))
 
   in-first : n ≤ 7 → zerosAt b (at + 1 + n) (23 - n) ≡ Words
   in-first h =
       let c : 23 - n ≡ (7 - n) + (8 + 8) = omega arith in
       rw (first-word (n + 1) (at + 1 + n) (7 - n) (omega arith) (omega arith) (omega arith) (omega arith), second-word 0 (at + 8) 8 (omega arith) (omega arith) (omega arith) refl, third-word 0 (at + 16) 8 (omega arith) (omega arith) (omega arith) refl, c)
-      (parts (at + 1 + n) (7 - n) (at + 8) (8 + 8) (omega arith) ∙ ap (both (zerosAt b (at + 1 + n) (7 - n))) (parts (at + 8) 8 (at + 16) 8 (omega arith)))
+      (parts (at + 1 + n) (7 - n) (at + 8) (8 + 8) (omega arith) ∙ ap (_&&_ (zerosAt b (at + 1 + n) (7 - n))) (parts (at + 8) 8 (at + 16) 8 (omega arith)))
 
   in-second : 7 < n → n ≤ 15 → zerosAt b (at + 1 + n) (23 - n) ≡ Words
   in-second h i =

@@ -2,26 +2,18 @@
 use Prim.Native.Nat.{ℕ, zero, suc, _+_, _-_, _*_, _≤_, _<_}
 use native.Mathlib.Omega.{arith}
 use mathlib.Core.Path.{_≡_, refl, ap, _∙_}
-use mathlib.Core.Bool.{Bool, true, false}
+use mathlib.Core.Bool.{Bool, true, false, _&&_}
 use mathlib.Core.List.{List, []}
 use lib.ListN.{length, getD, take, drop}
 use lib.Dec.{leb}
 use borrow.Author.Tests.{leb-true}
-use Rattle.fields.specs.Decoded.{both}
+use Rattle.fields.proofs.Conjunctions.{and-left, and-right}
 use Rattle.fields.specs.Numbers.{numberAt}
 use Rattle.catalogue.specs.Format.{numberTag, numberSize, textTag, slotSize, textLimit}
 use Rattle.catalogue.specs.Catalogue.{numbers, texts}
 use Rattle.catalogue.specs.Slots.{textAt, textsAt, zerosAt, validSlot, validSlots}
 use Rattle.catalogue.specs.Decode.{numbersAt}
 use Rattle.catalogue.specs.Layout.{HasRow, NumberIs, TextIs}
-
-both-left : (x y : Bool) → both x y ≡ true → x ≡ true
-both-left true y h = refl
-both-left false y h = h
-
-both-right : (x y : Bool) → both x y ≡ true → y ≡ true
-both-right true y h = h
-both-right false y h = let z : _≡_ {A = ℕ} 0 1 = cc in absurd (omega arith)
 
 numbers-at : (b : List ℕ) (s rows row : ℕ) → row < rows → getD (numbersAt b s rows) row 0 ≡ numberAt b (s + numberSize * row) numberSize
 unfolding numbersAt
@@ -44,14 +36,14 @@ unfolding validSlots
 slots-at b s zero row g h = absurd (omega arith)
 slots-at b s (suc rows) zero g h =
     let z : s + slotSize * 0 ≡ s = omega arith in
-    ap (validSlot b) z ∙ both-left (validSlot b s) (validSlots b (s + slotSize) rows) g
+    ap (validSlot b) z ∙ and-left (validSlot b s) (validSlots b (s + slotSize) rows) g
 slots-at b s (suc rows) (suc row) g h =
     let z : s + slotSize * suc row ≡ s + slotSize + slotSize * row = omega arith in
-    ap (validSlot b) z ∙ slots-at b (s + slotSize) rows row (both-right (validSlot b s) (validSlots b (s + slotSize) rows) g) (omega arith)
+    ap (validSlot b) z ∙ slots-at b (s + slotSize) rows row (and-right (validSlot b s) (validSlots b (s + slotSize) rows) g) (omega arith)
 
 slot-short : (b : List ℕ) (p : ℕ) → validSlot b p ≡ true → getD b p 0 ≤ textLimit
 unfolding validSlot
-slot-short b p g = leb-true _ _ (both-left (leb (getD b p 0) textLimit) (zerosAt b (p + 1 + getD b p 0) (textLimit - getD b p 0)) g)
+slot-short b p g = leb-true _ _ (and-left (leb (getD b p 0) textLimit) (zerosAt b (p + 1 + getD b p 0) (textLimit - getD b p 0)) g)
 
 -- a row of a number column lies in the bytes, and its number is the decoded one
 pub has-number : (b : List ℕ) (start row : ℕ) → HasRow b numberTag start row → start + numberSize * row + numberSize ≤ length b

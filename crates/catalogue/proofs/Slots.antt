@@ -2,13 +2,12 @@
 use Prim.Native.Nat.{ℕ, zero, suc, _+_, _-_, _≤_, _<_}
 use native.Mathlib.Omega.{arith}
 use mathlib.Core.Path.{_≡_}
-use mathlib.Core.Bool.{Bool, true, false}
+use mathlib.Core.Bool.{Bool, true, false, _&&_}
 use mathlib.Core.List.{List}
-use Rattle.fields.specs.Decoded.{both}
 use Rattle.catalogue.specs.Format.{slotSize}
 use Rattle.catalogue.specs.Slots.{validSlot, validSlots}
 
-slots-step : (b : List ℕ) (p k : ℕ) → 0 < k → validSlots b p k ≡ both (validSlot b p) (validSlots b (p + slotSize) (k - 1))
+slots-step : (b : List ℕ) (p k : ℕ) → 0 < k → validSlots b p k ≡ (validSlot b p && validSlots b (p + slotSize) (k - 1))
 unfolding validSlots
 slots-step b p zero h = absurd (omega arith)
 slots-step b p (suc k) h = let z : suc k - 1 ≡ k = omega arith in rw z

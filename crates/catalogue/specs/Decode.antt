@@ -1,11 +1,12 @@
 -- A catalogue's bytes as values; the checks in document 01's order, front to back, the first that fails decides.
 use Prim.Native.Nat.{ℕ, zero, suc, _+_, _-_, _*_}
+use mathlib.Core.Bool.{_&&_, cond}
 use mathlib.Core.List.{List, [], _∷_}
 use lib.ListN.{length, getD}
 use lib.Dec.{leb, eqb}
 use Rattle.fields.specs.declared.header.Header.{Header}
 use Rattle.fields.specs.declared.header.Header.the-variants.{Cut, Field}
-use Rattle.fields.specs.Decoded.{Decoded, refused, accepted, either, both}
+use Rattle.fields.specs.Decoded.{Decoded, refused, accepted}
 use Rattle.fields.specs.Numbers.{numberAt}
 use Rattle.fields.specs.Header.{headerAt}
 use Rattle.catalogue.specs.declared.column.ColumnField.{ColumnField}
@@ -24,7 +25,7 @@ numbersAt b at (suc n) = numberAt b at numberSize ∷ numbersAt b (at + numberSi
 -- "entries E (two bytes, 0 to 2,048), columns C (one byte, 1 to 16)"; the columns begin at `next`
 unfoldable pub countsAt : (rows columns next : ℕ) → First
 countsAt rows columns next =
-    either (both (leb rows rowLimit) (both (leb 1 columns) (leb columns columnLimit)))
+    cond (leb rows rowLimit && (leb 1 columns && leb columns columnLimit))
     (first.Counts rows columns next)
     (first.Refused countsOutOfRange)
 
@@ -32,7 +33,7 @@ countsAt rows columns next =
 unfoldable pub firstOf : List ℕ → Header → First
 firstOf b Cut = first.Refused fieldCut
 firstOf b (Field tag start end) =
-    either (both (eqb tag firstTag) (eqb (end - start) firstSize))
+    cond (eqb tag firstTag && eqb (end - start) firstSize)
     (countsAt (numberAt b start 2) (getD b (start + 2) 0) end)
     (first.Refused notCatalogue)
 
@@ -40,9 +41,9 @@ firstOf b (Field tag start end) =
 unfoldable pub columnOf : List ℕ → (rows : ℕ) → Header → ColumnField
 columnOf b rows Cut = field.Refused fieldCut
 columnOf b rows (Field tag start end) =
-    either (eqb tag numberTag) (either (eqb (end - start) (numberSize * rows)) (field.Numbers start end) (field.Refused notColumn))
-    (either (eqb tag textTag)
-    (either (eqb (end - start) (slotSize * rows)) (either (validSlots b start rows) (field.Texts start end) (field.Refused badSlot)) (field.Refused notColumn))
+    cond (eqb tag numberTag) (cond (eqb (end - start) (numberSize * rows)) (field.Numbers start end) (field.Refused notColumn))
+    (cond (eqb tag textTag)
+    (cond (eqb (end - start) (slotSize * rows)) (cond (validSlots b start rows) (field.Texts start end) (field.Refused badSlot)) (field.Refused notColumn))
     (field.Refused notColumn))
 
 abbrev pub putBefore : Column → Decoded (List Column) → Decoded (List Column)
@@ -57,7 +58,7 @@ columnThen b rows (field.Texts start end) rest = putBefore (texts (textsAt b sta
 
 -- so many columns from a place on, and nothing after them
 unfoldable pub columnsAt : List ℕ → (rows n at : ℕ) → Decoded (List Column)
-columnsAt b rows zero at = either (eqb at (length b)) (accepted []) (refused bytesAfterColumns)
+columnsAt b rows zero at = cond (eqb at (length b)) (accepted []) (refused bytesAfterColumns)
 columnsAt b rows (suc n) at = columnThen b rows (columnOf b rows (headerAt b at (length b))) (λ next. columnsAt b rows n next)
 
 abbrev pub withRows : ℕ → Decoded (List Column) → Decoded Catalogue

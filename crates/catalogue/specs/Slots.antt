@@ -1,10 +1,9 @@
 -- Document 01's text slot: "each a length 0 to 23, the text (any byte values), and zeros to the end".
 use Prim.Native.Nat.{ℕ, zero, suc, _+_, _-_}
-use mathlib.Core.Bool.{Bool, true}
+use mathlib.Core.Bool.{Bool, true, _&&_}
 use mathlib.Core.List.{List, [], _∷_}
 use lib.ListN.{getD, take, drop}
 use lib.Dec.{leb, eqb}
-use Rattle.fields.specs.Decoded.{both}
 use Rattle.catalogue.specs.Format.{slotSize, textLimit}
 
 -- the text of the slot at a place
@@ -18,12 +17,12 @@ textsAt b at (suc n) = textAt b at ∷ textsAt b (at + slotSize) n
 
 unfoldable pub zerosAt : List ℕ → (at n : ℕ) → Bool
 zerosAt b at zero = true
-zerosAt b at (suc n) = both (eqb (getD b at 0) 0) (zerosAt b (at + 1) n)
+zerosAt b at (suc n) = eqb (getD b at 0) 0 && zerosAt b (at + 1) n
 
 -- refusal 5 otherwise: "a slot length over 23 or a non-zero byte after its text"
 unfoldable pub validSlot : List ℕ → (at : ℕ) → Bool
-validSlot b at = both (leb (getD b at 0) textLimit) (zerosAt b (at + 1 + getD b at 0) (textLimit - getD b at 0))
+validSlot b at = leb (getD b at 0) textLimit && zerosAt b (at + 1 + getD b at 0) (textLimit - getD b at 0)
 
 unfoldable pub validSlots : List ℕ → (at n : ℕ) → Bool
 validSlots b at zero = true
-validSlots b at (suc n) = both (validSlot b at) (validSlots b (at + slotSize) n)
+validSlots b at (suc n) = validSlot b at && validSlots b (at + slotSize) n

@@ -8,25 +8,19 @@ ghost use Rattle.catalogue.specs.Format.{slotSize};
 ghost use Rattle.catalogue.specs.Slots.{validSlot, validSlots};
 ghost use Rattle.catalogue.specs.Words.{wordAt};
 
-fn widen64(x: u8) -> u64
-    ensures { λ r. ⌜ (r ≡ x) × (r < 256) ⌝ }
-{
-    x as u64
-}
-
 // Eight bytes as one number, the least significant first.
 fn word_at(b: &[u8], at: usize) -> u64
     requires { ⌜ at + 8 ≤ length (now b) ⌝ }
     ensures { λ r. ⌜ r ≡ wordAt (now (b .entry)) at 8 ⌝ }
 {
-    widen64(b[at])
-        + 256 * widen64(b[at + 1])
-        + 65536 * widen64(b[at + 2])
-        + 16777216 * widen64(b[at + 3])
-        + 4294967296 * widen64(b[at + 4])
-        + 1099511627776 * widen64(b[at + 5])
-        + 281474976710656 * widen64(b[at + 6])
-        + 72057594037927936 * widen64(b[at + 7])
+    fields::number::widen64(b[at])
+        + 256 * fields::number::widen64(b[at + 1])
+        + 65536 * fields::number::widen64(b[at + 2])
+        + 16777216 * fields::number::widen64(b[at + 3])
+        + 4294967296 * fields::number::widen64(b[at + 4])
+        + 1099511627776 * fields::number::widen64(b[at + 5])
+        + 281474976710656 * fields::number::widen64(b[at + 6])
+        + 72057594037927936 * fields::number::widen64(b[at + 7])
 }
 
 // How many bytes of a word are taken: those of its eight before place n, the word being at place 16 of n.

@@ -1,12 +1,12 @@
 -- Document 01: "A field is a one-byte tag, a two-byte length, then that many bytes."
 use Prim.Native.Nat.{ℕ, _+_, _-_, _≤_}
+use mathlib.Core.Bool.{cond}
 use mathlib.Core.Path.{_≡_}
 use mathlib.Core.List.{List}
 use lib.ListN.{getD}
 use lib.Dec.{ltb}
 use Rattle.fields.specs.declared.header.Header.{Header}
 use Rattle.fields.specs.declared.header.Header.the-variants.{Cut, Field}
-use Rattle.fields.specs.Decoded.{either}
 use Rattle.fields.specs.Numbers.{numberAt}
 
 abbrev pub headerSize : ℕ
@@ -15,8 +15,8 @@ headerSize = 3
 -- the field at a place inside an enclosing end; cut: "fewer than three bytes left or the length passes the end"
 unfoldable pub headerAt : List ℕ → (at end : ℕ) → Header
 headerAt b at end =
-    either (ltb (end - at) headerSize) Cut
-    (either (ltb (end - (at + headerSize)) (numberAt b (at + 1) 2)) Cut
+    cond (ltb (end - at) headerSize) Cut
+    (cond (ltb (end - (at + headerSize)) (numberAt b (at + 1) 2)) Cut
     (Field (getD b at 0) (at + headerSize) (at + headerSize + numberAt b (at + 1) 2)))
 
 -- a field's payload lies after its header and within the end

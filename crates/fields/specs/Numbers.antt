@@ -1,5 +1,5 @@
 -- Document 01: "Numbers are unsigned, most significant byte first."
-use Prim.Native.Nat.{ℕ, zero, suc, _+_, _*_, _/_, _%_, _^_}
+use Prim.Native.Nat.{ℕ, zero, suc, _+_, _*_, _/_, _%_, _^_, _<_}
 use mathlib.Core.List.{List, [], _∷_}
 use lib.ListN.{getD}
 
@@ -12,3 +12,7 @@ numberAt b at (suc k) = numberAt b at k * 256 + getD b (at + k) 0
 unfoldable pub bytesOf : (width : ℕ) → ℕ → List ℕ
 bytesOf zero x = []
 bytesOf (suc k) x = x / 256 ^ k % 256 ∷ bytesOf k x
+
+-- each element is a byte, as those of a lent slice are
+abbrev pub Bytes : List ℕ → Type 0
+Bytes b = (i : ℕ) → getD b i 0 < 256

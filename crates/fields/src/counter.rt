@@ -1,24 +1,17 @@
 // The house tally, our counter: a number of eight lent bytes.
 ghost use mathlib.Core.Path.{_≡_};
-ghost use Prim.Native.Nat.{_<_};
 ghost use lib.ListN.{length};
 ghost use Rattle.fields.specs.Numbers.{numberAt, bytesOf};
-
-fn widen64(x: u8) -> u64
-    ensures { λ r. ⌜ (r ≡ x) × (r < 256) ⌝ }
-{
-    x as u64
-}
 
 // The number of the counter's eight bytes.
 pub fn eight_bytes(b: &[u8]) -> u64
     requires { ⌜ length (now b) ≡ 8 ⌝ }
     ensures { λ r. ⌜ r ≡ numberAt (now (b .entry)) 0 8 ⌝ }
 {
-    let two = widen64(b[0]) * 256 + widen64(b[1]);
-    let four = (two * 256 + widen64(b[2])) * 256 + widen64(b[3]);
-    let six = (four * 256 + widen64(b[4])) * 256 + widen64(b[5]);
-    (six * 256 + widen64(b[6])) * 256 + widen64(b[7])
+    let two = crate::number::widen64(b[0]) * 256 + crate::number::widen64(b[1]);
+    let four = (two * 256 + crate::number::widen64(b[2])) * 256 + crate::number::widen64(b[3]);
+    let six = (four * 256 + crate::number::widen64(b[4])) * 256 + crate::number::widen64(b[5]);
+    (six * 256 + crate::number::widen64(b[6])) * 256 + crate::number::widen64(b[7])
 }
 
 // Writes a number to the counter.

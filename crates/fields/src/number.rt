@@ -17,6 +17,20 @@ fn widen32(x: u8) -> u32
     x as u32
 }
 
+pub fn widen64(x: u8) -> u64
+    ensures { λ r. ⌜ (r ≡ x) × (r < 256) ⌝ }
+{
+    x as u64
+}
+
+// A number that is a byte.
+pub fn narrow(x: usize) -> u8
+    requires { ⌜ x < 256 ⌝ }
+    ensures { λ r. ⌜ r ≡ x ⌝ }
+{
+    x as u8
+}
+
 // The number of two bytes at a place.
 pub fn two_bytes(b: &[u8], at: usize) -> usize
     requires { ⌜ at + 2 ≤ length (now b) ⌝ }

@@ -1,4 +1,3 @@
-pub mod Conjunctions
 pub mod Table
 pub mod TextLaws
 pub mod PayloadLaws

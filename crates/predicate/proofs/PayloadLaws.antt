@@ -12,7 +12,7 @@ use Rattle.catalogue.specs.Catalogue.{Catalogue, Column, numbers}
 use Rattle.predicate.specs.Kinds.{plainKind}
 use Rattle.predicate.specs.Outcome.{HasRange}
 use Rattle.predicate.specs.Payload.{tagOf, tagsIn, tagsOf, payloadHead, columnByte, kindByte, operandOf, kindFits, rangeFits, operandFits, validPayload, predicateOf, Fits}
-use Rattle.predicate.proofs.Conjunctions.{and-left, and-right}
+use Rattle.fields.proofs.Conjunctions.{and-left, and-right}
 
 module _ (tags payload : List ℕ) where
   pub payload-short : length payload < 2 → false ≡ validPayload tags payload

@@ -9,7 +9,7 @@ use lib.Dec.{eqb}
 use borrow.Author.Tests.{eqb-true}
 use Rattle.predicate.specs.Meaning.{fold}
 use Rattle.predicate.specs.Outcome.{Folds}
-use Rattle.predicate.proofs.Conjunctions.{and-left, and-right}
+use Rattle.fields.proofs.Conjunctions.{and-left, and-right}
 
 -- the rule holds of each entry and its place, the places counted from i
 abbrev pub every : (rule : ℕ → ℕ → Bool) (i : ℕ) → List ℕ → Bool

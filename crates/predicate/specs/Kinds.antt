@@ -1,7 +1,7 @@
 -- The numbers of a predicate's kinds.
 use Prim.Native.Nat.{ℕ, _-_}
+use mathlib.Core.Bool.{cond}
 use lib.Dec.{ltb}
-use Rattle.fields.specs.Decoded.{either}
 
 abbrev pub rangeKind : ℕ
 rangeKind = 0
@@ -27,4 +27,4 @@ oppositeFrom = 128
 
 -- the kind that is answered, or whose opposite is
 unfoldable pub plainKind : (kind : ℕ) → ℕ
-plainKind kind = either (ltb kind oppositeFrom) kind (kind - oppositeFrom)
+plainKind kind = cond (ltb kind oppositeFrom) kind (kind - oppositeFrom)

@@ -1,11 +1,10 @@
 -- The whole meaning of a predicate, document 01's condition, over values: a number, a text or an operand as a list of bytes.
 -- Nothing here knows how a catalogue or a query lies in its bytes.
 use Prim.Native.Nat.{ℕ, _+_}
-use mathlib.Core.Bool.{Bool, true, false, not, _&&_, _||_}
+use mathlib.Core.Bool.{Bool, true, false, not, _&&_, _||_, cond}
 use mathlib.Core.List.{List, [], _∷_}
 use lib.ListN.{length, getD}
 use lib.Dec.{ltb, leb, eqb}
-use Rattle.fields.specs.Decoded.{either}
 use Rattle.fields.specs.Numbers.{numberAt}
 use Rattle.catalogue.specs.Format.{numberSize, blankNumber}
 use Rattle.catalogue.specs.Catalogue.{Catalogue, Column, numbers, texts}
@@ -21,7 +20,7 @@ abbrev pub capital : ℕ → Bool
 capital x = between 65 90 x || between 192 222 x && not (eqb x 215)
 
 abbrev pub fold : ℕ → ℕ
-fold x = either (capital x) (x + 32) x
+fold x = cond (capital x) (x + 32) x
 
 unfoldable pub folded : List ℕ → List ℕ
 folded [] = []
@@ -78,16 +77,16 @@ highOf o = numberAt o numberSize numberSize
 -- "Kind 0, number from low to high", "Kind 1, number blank"
 unfoldable pub numberTest : (kind : ℕ) (operand : List ℕ) (n : ℕ) → Bool
 numberTest kind o n =
-    either (eqb kind rangeKind) (inRange (lowOf o) (highOf o) n)
-    (either (eqb kind numberBlankKind) (numberBlank n) false)
+    cond (eqb kind rangeKind) (inRange (lowOf o) (highOf o) n)
+    (cond (eqb kind numberBlankKind) (numberBlank n) false)
 
 -- "Kind 2 equals, 3 begins with, 4 contains", "Kind 5, text blank"
 unfoldable pub textTest : (kind : ℕ) (operand text : List ℕ) → Bool
 textTest kind o t =
-    either (eqb kind equalsKind) (equals o t)
-    (either (eqb kind beginsKind) (beginsWith o t)
-    (either (eqb kind containsKind) (contains o t)
-    (either (eqb kind textBlankKind) (textBlank t) false)))
+    cond (eqb kind equalsKind) (equals o t)
+    (cond (eqb kind beginsKind) (beginsWith o t)
+    (cond (eqb kind containsKind) (contains o t)
+    (cond (eqb kind textBlankKind) (textBlank t) false)))
 
 abbrev pub answerOf : Bool → Answer
 answerOf true = Yes
@@ -109,7 +108,7 @@ plainOf (texts ts) kind o row = answerOf (textTest kind o (getD ts row []))
 
 -- "Kinds 128 to 133: the opposite outcome of 0 to 5, at every entry"
 abbrev pub turned : (kind : ℕ) → Answer → Answer
-turned kind a = either (ltb kind oppositeFrom) a (opposite a)
+turned kind a = cond (ltb kind oppositeFrom) a (opposite a)
 
 unfoldable pub outcomeOf : Column → (kind : ℕ) (operand : List ℕ) (row : ℕ) → Answer
 outcomeOf c kind o row = turned kind (plainOf c (plainKind kind) o row)

@@ -2,11 +2,10 @@
 -- "payload under two bytes, no such column, unknown kind, kind not fitting the column, or operand of wrong length or range".
 use Prim.Native.Nat.{ℕ, _≤_, _<_}
 use mathlib.Core.Path.{_≡_}
-use mathlib.Core.Bool.{Bool, true, _&&_, _||_}
+use mathlib.Core.Bool.{Bool, true, _&&_, _||_, cond}
 use mathlib.Core.List.{List, [], _∷_}
 use lib.ListN.{length, getD, drop}
 use lib.Dec.{ltb, leb, eqb}
-use Rattle.fields.specs.Decoded.{either}
 use Rattle.catalogue.specs.Format.{numberTag, textTag, blankNumber, textLimit}
 use Rattle.catalogue.specs.Catalogue.{Catalogue, Column, numbers, texts}
 use Rattle.predicate.specs.Kinds.{rangeKind, numberBlankKind, textBlankKind, plainKind}
@@ -45,7 +44,7 @@ predicateOf place payload =
 
 -- kinds 0 and 1 are a number column's, 2 to 5 a text column's, and there are no others
 unfoldable pub kindFits : (tag kind : ℕ) → Bool
-kindFits tag kind = either (leb kind numberBlankKind) (eqb tag numberTag) (leb kind textBlankKind && eqb tag textTag)
+kindFits tag kind = cond (leb kind numberBlankKind) (eqb tag numberTag) (leb kind textBlankKind && eqb tag textTag)
 
 -- "two four-byte numbers, low ≤ high < 4,294,967,295"
 unfoldable pub rangeFits : (operand : List ℕ) → Bool
@@ -54,8 +53,8 @@ rangeFits o = eqb (length o) rangeSize && (leb (lowOf o) (highOf o) && ltb (high
 -- the blank kinds have no operand, the other text kinds "1 to 23 bytes"
 unfoldable pub operandFits : (kind : ℕ) (operand : List ℕ) → Bool
 operandFits kind o =
-    either (eqb kind rangeKind) (rangeFits o)
-    (either (eqb kind numberBlankKind || eqb kind textBlankKind) (eqb (length o) 0)
+    cond (eqb kind rangeKind) (rangeFits o)
+    (cond (eqb kind numberBlankKind || eqb kind textBlankKind) (eqb (length o) 0)
     (leb 1 (length o) && leb (length o) textLimit))
 
 -- over the tags of a catalogue's columns in their order

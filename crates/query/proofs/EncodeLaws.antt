@@ -11,7 +11,7 @@ use lib.Seq.{drop-cons, drop-drop, drop-length}
 use lib.Dec.{eqb}
 use borrow.Author.Tests.{eqb-true}
 use Rattle.fields.specs.Decoded.{accepted}
-use Rattle.fields.specs.Numbers.{numberAt, bytesOf}
+use Rattle.fields.specs.Numbers.{numberAt, bytesOf, Bytes}
 use Rattle.fields.proofs.Written.{number-written}
 use Rattle.catalogue.specs.Catalogue.{Catalogue}
 use Rattle.strategy.specs.Tree.{Tree, leaf, group, Forest, more, relabel, relabels}
@@ -23,10 +23,6 @@ use Rattle.query.specs.Decode.{payloadAt, payloadOf, settling, decodeTag
 use Rattle.query.specs.Encode.{fieldOf, groupTag, encode, encodes, payloadNumbered, payloads}
 use Rattle.query.proofs.Payloads.{numbered-left, numbered-right, payload-again}
 use Rattle.query.proofs.Induction.{FieldAt, LeafAt, GroupAt, Said, Steps, accepted-holds}
-
--- each element is a byte, as those of a lent slice are
-abbrev pub Bytes : List ℕ → Type 0
-Bytes q = (i : ℕ) → getD q i 0 < 256
 
 -- from this number on the labels are the payloads of these predicates
 abbrev Labels : (g : ℕ → List ℕ) → (number : ℕ) → List Predicate → Type 0

@@ -2,14 +2,13 @@
 use Prim.Native.Nat.{ℕ, _+_, _-_, _≤_, _<_}
 use native.Mathlib.Omega.{arith}
 use mathlib.Core.Path.{_≡_, refl, ap, _∙_}
-use mathlib.Core.Bool.{Bool, true, false, _||_}
+use mathlib.Core.Bool.{Bool, true, false, _||_, cond}
 use mathlib.Core.List.{List}
 use lib.ListN.{length, getD, take, drop, length-take}
 use lib.Dec.{ltb, leb, eqb}
 use borrow.Author.Tests.{ltb-false, leb-false, eqb-false, le-leb, lt-leb, eq-eqb, ne-eqb}
 use Rattle.fields.specs.declared.header.Header.{Header}
 use Rattle.fields.specs.declared.header.Header.the-variants.{Cut, Field}
-use Rattle.fields.specs.Decoded.{either}
 use Rattle.fields.specs.Numbers.{numberAt}
 use Rattle.fields.specs.Header.{headerAt, headerSize, Inside}
 use Rattle.predicate.specs.Meaning.{Predicate}
@@ -29,12 +28,12 @@ unfolding headerAt
 header-inside b at end = short (ltb (end - at) headerSize) refl
   where
     long : (x : Bool) → ltb (end - (at + headerSize)) (numberAt b (at + 1) 2) ≡ x → headerSize ≤ end - at
-        → Inside at end (either x Cut (Field (getD b at 0) (at + headerSize) (at + headerSize + numberAt b (at + 1) 2)))
+        → Inside at end (cond x Cut (Field (getD b at 0) (at + headerSize) (at + headerSize + numberAt b (at + 1) 2)))
     long true e l = tt
     long false e l = let k : numberAt b (at + 1) 2 ≤ end - (at + headerSize) = ltb-false _ _ e in (refl, omega arith, omega arith)
 
     short : (x : Bool) → ltb (end - at) headerSize ≡ x
-        → Inside at end (either x Cut (either (ltb (end - (at + headerSize)) (numberAt b (at + 1) 2)) Cut (Field (getD b at 0) (at + headerSize) (at + headerSize + numberAt b (at + 1) 2))))
+        → Inside at end (cond x Cut (cond (ltb (end - (at + headerSize)) (numberAt b (at + 1) 2)) Cut (Field (getD b at 0) (at + headerSize) (at + headerSize + numberAt b (at + 1) 2))))
     short true e = tt
     short false e = long (ltb (end - (at + headerSize)) (numberAt b (at + 1) 2)) refl (ltb-false _ _ e)
 
@@ -47,11 +46,11 @@ header-ends : (b : List ℕ) (at end : ℕ) → Ends b at (headerAt b at end)
 unfolding headerAt
 header-ends b at end = short (ltb (end - at) headerSize)
   where
-    long : (x : Bool) → Ends b at (either x Cut (Field (getD b at 0) (at + headerSize) (at + headerSize + numberAt b (at + 1) 2)))
+    long : (x : Bool) → Ends b at (cond x Cut (Field (getD b at 0) (at + headerSize) (at + headerSize + numberAt b (at + 1) 2)))
     long true = tt
     long false = refl
 
-    short : (x : Bool) → Ends b at (either x Cut (either (ltb (end - (at + headerSize)) (numberAt b (at + 1) 2)) Cut (Field (getD b at 0) (at + headerSize) (at + headerSize + numberAt b (at + 1) 2))))
+    short : (x : Bool) → Ends b at (cond x Cut (cond (ltb (end - (at + headerSize)) (numberAt b (at + 1) 2)) Cut (Field (getD b at 0) (at + headerSize) (at + headerSize + numberAt b (at + 1) 2))))
     short true = tt
     short false = long (ltb (end - (at + headerSize)) (numberAt b (at + 1) 2))
 
@@ -68,17 +67,17 @@ module _ (tags q : List ℕ) (at end depth : ℕ) (earlier : List Predicate) whe
     unfolding predicateField
     predicate-sound = many (leb predicateLimit (length earlier)) refl
       where
-        repeated : (z : Bool) → length earlier < predicateLimit → validPayload tags (payloadAt q start stop) ≡ true → Sound (either z (Refused repeatedPayload) (Leaf start stop))
+        repeated : (z : Bool) → length earlier < predicateLimit → validPayload tags (payloadAt q start stop) ≡ true → Sound (cond z (Refused repeatedPayload) (Leaf start stop))
         repeated true l v = (omega arith, omega arith)
         repeated false l v = (after, payload-room q start stop (valid-payload tags (payloadAt q start stop) v .head), within, l, v, ends)
 
         invalid : (y : Bool) → length earlier < predicateLimit → validPayload tags (payloadAt q start stop) ≡ y
-            → Sound (either y (either (isRepeated (payloadAt q start stop) earlier) (Refused repeatedPayload) (Leaf start stop)) (Refused invalidPayload))
+            → Sound (cond y (cond (isRepeated (payloadAt q start stop) earlier) (Refused repeatedPayload) (Leaf start stop)) (Refused invalidPayload))
         invalid true l v = repeated (isRepeated (payloadAt q start stop) earlier) l v
         invalid false l v = (omega arith, omega arith)
 
         many : (x : Bool) → leb predicateLimit (length earlier) ≡ x
-            → Sound (either x (Refused tooManyPredicates) (either (validPayload tags (payloadAt q start stop)) (either (isRepeated (payloadAt q start stop) earlier) (Refused repeatedPayload) (Leaf start stop)) (Refused invalidPayload)))
+            → Sound (cond x (Refused tooManyPredicates) (cond (validPayload tags (payloadAt q start stop)) (cond (isRepeated (payloadAt q start stop) earlier) (Refused repeatedPayload) (Leaf start stop)) (Refused invalidPayload)))
         many true e = (omega arith, omega arith)
         many false e = invalid (validPayload tags (payloadAt q start stop)) (leb-false _ _ e) refl
 
@@ -86,11 +85,11 @@ module _ (tags q : List ℕ) (at end depth : ℕ) (earlier : List Predicate) whe
     unfolding groupField
     group-sound tag = deep (leb depthLimit depth) refl
       where
-        empty : (y : Bool) → depth < depthLimit → eqb start stop ≡ y → Sound (either y (Refused emptyGroup) (Group tag start stop))
+        empty : (y : Bool) → depth < depthLimit → eqb start stop ≡ y → Sound (cond y (Refused emptyGroup) (Group tag start stop))
         empty true l e = (omega arith, omega arith)
         empty false l e = let n = eqb-false start stop e in (after, omega arith, within, l)
 
-        deep : (x : Bool) → leb depthLimit depth ≡ x → Sound (either x (Refused tooDeep) (either (eqb start stop) (Refused emptyGroup) (Group tag start stop)))
+        deep : (x : Bool) → leb depthLimit depth ≡ x → Sound (cond x (Refused tooDeep) (cond (eqb start stop) (Refused emptyGroup) (Group tag start stop)))
         deep true e = (omega arith, omega arith)
         deep false e = empty (eqb start stop) (leb-false _ _ e) refl
 
@@ -99,11 +98,11 @@ module _ (tags q : List ℕ) (at end depth : ℕ) (earlier : List Predicate) whe
   sound-at Cut i e = (omega arith, omega arith)
   sound-at (Field tag start stop) i e = leaf (eqb tag predicateTag)
     where
-      grouped : (y : Bool) → Sound (either y (groupField depth tag start stop) (Refused unknownTag))
+      grouped : (y : Bool) → Sound (cond y (groupField depth tag start stop) (Refused unknownTag))
       grouped true = group-sound start stop (i .0) (i .1) (i .2) e tag
       grouped false = (omega arith, omega arith)
 
-      leaf : (x : Bool) → Sound (either x (predicateField tags q earlier start stop) (either (eqb tag conjunctionTag || eqb tag disjunctionTag) (groupField depth tag start stop) (Refused unknownTag)))
+      leaf : (x : Bool) → Sound (cond x (predicateField tags q earlier start stop) (cond (eqb tag conjunctionTag || eqb tag disjunctionTag) (groupField depth tag start stop) (Refused unknownTag)))
       leaf true = predicate-sound start stop (i .0) (i .1) (i .2) e
       leaf false = grouped (eqb tag conjunctionTag || eqb tag disjunctionTag)
 

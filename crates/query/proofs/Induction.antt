@@ -3,14 +3,14 @@
 use Prim.Native.Nat.{ℕ, zero, suc, _+_, _-_, _*_, _≤_, _<_}
 use native.Mathlib.Omega.{arith}
 use mathlib.Core.Path.{_≡_, refl}
-use mathlib.Core.Bool.{Bool, true, false, _||_}
+use mathlib.Core.Bool.{Bool, true, false, _||_, cond}
 use mathlib.Core.List.{List, [], _∷_, _++_}
 use lib.ListN.{length, getD}
 use lib.Dec.{ltb, leb, eqb}
 use borrow.Author.Tests.{eqb-true, leb-false, ltb-false}
 use Rattle.fields.specs.declared.header.Header.{Header}
 use Rattle.fields.specs.declared.header.Header.the-variants.{Cut, Field}
-use Rattle.fields.specs.Decoded.{refused, accepted, either}
+use Rattle.fields.specs.Decoded.{refused, accepted}
 use Rattle.fields.specs.Numbers.{numberAt}
 use Rattle.fields.specs.Header.{headerAt, headerSize}
 use Rattle.strategy.specs.Tree.{Tree, leaf, group, Forest, none, more}
@@ -56,14 +56,14 @@ unfolding headerAt
 header-is q at end = short (ltb (end - at) headerSize) refl
   where
     long : (x : Bool) → ltb (end - (at + headerSize)) (numberAt q (at + 1) 2) ≡ x → headerSize ≤ end - at
-        → HeaderIs q at end (either x Cut (Field (getD q at 0) (at + headerSize) (at + headerSize + numberAt q (at + 1) 2)))
+        → HeaderIs q at end (cond x Cut (Field (getD q at 0) (at + headerSize) (at + headerSize + numberAt q (at + 1) 2)))
     long true e l = tt
     long false e l =
         let k : numberAt q (at + 1) 2 ≤ end - (at + headerSize) = ltb-false _ _ e in
         record { tagged = refl; begins = refl; sized = refl; within = omega arith }
 
     short : (x : Bool) → ltb (end - at) headerSize ≡ x
-        → HeaderIs q at end (either x Cut (either (ltb (end - (at + headerSize)) (numberAt q (at + 1) 2)) Cut (Field (getD q at 0) (at + headerSize) (at + headerSize + numberAt q (at + 1) 2))))
+        → HeaderIs q at end (cond x Cut (cond (ltb (end - (at + headerSize)) (numberAt q (at + 1) 2)) Cut (Field (getD q at 0) (at + headerSize) (at + headerSize + numberAt q (at + 1) 2))))
     short true e = tt
     short false e = long (ltb (end - (at + headerSize)) (numberAt q (at + 1) 2)) refl (ltb-false _ _ e)
 
@@ -77,16 +77,16 @@ module _ (tags q : List ℕ) (at end depth : ℕ) (earlier : List Predicate) whe
     predicate-is s = many (leb predicateLimit (length earlier))
       where
         repeated : (z : Bool) → isRepeated (payloadAt q start stop) earlier ≡ z → validPayload tags (payloadAt q start stop) ≡ true
-            → Is (either z (field.Refused repeatedPayload) (field.Leaf start stop))
+            → Is (cond z (field.Refused repeatedPayload) (field.Leaf start stop))
         repeated true f v = tt
         repeated false f v = record { stands = s; valid = v; fresh = f }
 
         invalid : (y : Bool) → validPayload tags (payloadAt q start stop) ≡ y
-            → Is (either y (either (isRepeated (payloadAt q start stop) earlier) (field.Refused repeatedPayload) (field.Leaf start stop)) (field.Refused invalidPayload))
+            → Is (cond y (cond (isRepeated (payloadAt q start stop) earlier) (field.Refused repeatedPayload) (field.Leaf start stop)) (field.Refused invalidPayload))
         invalid true v = repeated (isRepeated (payloadAt q start stop) earlier) refl v
         invalid false v = tt
 
-        many : (x : Bool) → Is (either x (field.Refused tooManyPredicates) (either (validPayload tags (payloadAt q start stop)) (either (isRepeated (payloadAt q start stop) earlier) (field.Refused repeatedPayload) (field.Leaf start stop)) (field.Refused invalidPayload)))
+        many : (x : Bool) → Is (cond x (field.Refused tooManyPredicates) (cond (validPayload tags (payloadAt q start stop)) (cond (isRepeated (payloadAt q start stop) earlier) (field.Refused repeatedPayload) (field.Leaf start stop)) (field.Refused invalidPayload)))
         many true = tt
         many false = invalid (validPayload tags (payloadAt q start stop)) refl
 
@@ -94,7 +94,7 @@ module _ (tags q : List ℕ) (at end depth : ℕ) (earlier : List Predicate) whe
     unfolding groupField
     group-is tag s g = deep (leb depthLimit depth) refl (eqb start stop)
       where
-        deep : (x : Bool) → leb depthLimit depth ≡ x → (y : Bool) → Is (either x (field.Refused tooDeep) (either y (field.Refused emptyGroup) (field.Group tag start stop)))
+        deep : (x : Bool) → leb depthLimit depth ≡ x → (y : Bool) → Is (cond x (field.Refused tooDeep) (cond y (field.Refused emptyGroup) (field.Group tag start stop)))
         deep true e y = tt
         deep false e true = tt
         deep false e false = record { stands = s; sort = g; shallow = leb-false _ _ e }
@@ -106,7 +106,7 @@ module _ (tags q : List ℕ) (at end depth : ℕ) (earlier : List Predicate) whe
       sort (eqb tag predicateTag) refl (eqb tag conjunctionTag || eqb tag disjunctionTag) refl
     where
       sort : (x : Bool) → eqb tag predicateTag ≡ x → (y : Bool) → (eqb tag conjunctionTag || eqb tag disjunctionTag) ≡ y
-          → Is (either x (predicateField tags q earlier start stop) (either y (groupField depth tag start stop) (field.Refused unknownTag)))
+          → Is (cond x (predicateField tags q earlier start stop) (cond y (groupField depth tag start stop) (field.Refused unknownTag)))
       sort true e y g = let z : tag ≡ predicateTag = eqb-true _ _ e in predicate-is start stop (rw z at s)
       sort false e true g = group-is start stop tag s g
       sort false e false g = tt
@@ -190,7 +190,7 @@ unfolding decodeTagged
 accepted-read tags q Q h = go (member (2 * length q + 1) tags q 0 (length q) 0 []) h
   where
     ended : (t : Tree ℕ) (ps : List Predicate) (next : ℕ) (b : Bool) → eqb next (length q) ≡ b
-        → either b (accepted (record { tree = t; predicates = ps })) (refused bytesAfterQuery) ≡ accepted Q → read t ps next ≡ read (Q .tree) (Q .predicates) (length q)
+        → cond b (accepted (record { tree = t; predicates = ps })) (refused bytesAfterQuery) ≡ accepted Q → read t ps next ≡ read (Q .tree) (Q .predicates) (length q)
     ended t ps next true e g =
         let z : next ≡ length q = eqb-true _ _ e in
         let y : record { tree = t; predicates = ps } ≡ Q = cc in

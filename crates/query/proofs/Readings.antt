@@ -3,12 +3,12 @@
 use Prim.Native.Nat.{ℕ, zero, suc, _+_, _-_, _*_, _≤_, _<_}
 use native.Mathlib.Omega.{arith}
 use mathlib.Core.Path.{_≡_, refl}
-use mathlib.Core.Bool.{Bool, true, false}
+use mathlib.Core.Bool.{Bool, true, false, cond}
 use mathlib.Core.List.{List, [], _∷_, _++_}
 use lib.ListN.{length, take, drop, length-append, length-take, length-drop}
 use lib.Dec.{eqb}
 use borrow.Author.Tests.{eqb-true}
-use Rattle.fields.specs.Decoded.{refused, accepted, either}
+use Rattle.fields.specs.Decoded.{refused, accepted}
 use Rattle.fields.specs.Header.{headerAt}
 use Rattle.strategy.specs.Tree.{Tree, group, Forest, size, sizes, Numbered, Numbereds, HasMember, NonEmpty, NonEmpties}
 use Rattle.predicate.specs.Meaning.{Predicate}
@@ -190,7 +190,7 @@ unfolding decodeTagged
 decoded-sound tags q Q h = go (member (2 * length q + 1) tags q 0 (length q) 0 []) (member-sound (2 * length q + 1) tags q 0 (length q) 0 []) h
   where
     whole : (t : Tree ℕ) (ps : List Predicate) (next : ℕ) (b : Bool) → eqb next (length q) ≡ b → TreeSound tags q 0 (length q) 0 t ps next
-        → either b (accepted (record { tree = t; predicates = ps })) (refused bytesAfterQuery) ≡ accepted Q → TreeSound tags q 0 (length q) 0 (Q .tree) (Q .predicates) (length q)
+        → cond b (accepted (record { tree = t; predicates = ps })) (refused bytesAfterQuery) ≡ accepted Q → TreeSound tags q 0 (length q) 0 (Q .tree) (Q .predicates) (length q)
     whole t ps next true e s i =
         let w : _≡_ {A = Query} (record { tree = t; predicates = ps }) Q = cc in
         rw (← w) (rw (eqb-true next (length q) e) at s)

@@ -2,20 +2,19 @@
 use Prim.Native.Nat.{ℕ, zero, suc, _+_, _-_, _*_, _≤_, _<_}
 use native.Mathlib.Omega.{arith}
 use mathlib.Core.Path.{_≡_, refl, ap}
-use mathlib.Core.Bool.{Bool, true, false, _&&_}
+use mathlib.Core.Bool.{Bool, true, false, _&&_, cond}
 use mathlib.Core.Logic.{_⊎_, inl, inr}
 use mathlib.Core.List.{List, [], _∷_, _++_}
 use lib.ListN.{length, getD}
 use lib.Dec.{ltb, leb, eqb}
 use borrow.Author.Tests.{eq-eqb, ne-eqb, leb-true, ltb-true}
-use Rattle.fields.specs.Decoded.{either}
 use Rattle.strategy.specs.Bools.{same?}
 use Rattle.strategy.specs.Tree.{Tree}
 use Rattle.strategy.specs.Climb.{enclosing}
 use Rattle.predicate.specs.Kinds.{plainKind, oppositeFrom}
 use Rattle.predicate.specs.Meaning.{Predicate}
 use Rattle.predicate.specs.Payload.{kindFits}
-use Rattle.predicate.proofs.Conjunctions.{and-left}
+use Rattle.fields.proofs.Conjunctions.{and-left}
 use Rattle.predicate.proofs.PayloadLaws.{valid-payload}
 use Rattle.query.specs.declared.reader.Progress.the-variants as progress
 use Rattle.query.specs.declared.whole.Reading.the-variants.{Refused, Accepted}
@@ -34,12 +33,12 @@ kind-small : (tag kind : ℕ) → kindFits tag (plainKind kind) ≡ true → kin
 unfolding kindFits plainKind
 kind-small tag kind h = opposite (ltb kind oppositeFrom) refl h
   where
-    below : (x : Bool) (k t : ℕ) → leb k 1 ≡ x → either x (eqb t 78) (leb k 5 && eqb t 84) ≡ true → k ≤ 5
+    below : (x : Bool) (k t : ℕ) → leb k 1 ≡ x → cond x (eqb t 78) (leb k 5 && eqb t 84) ≡ true → k ≤ 5
     below true k t e g = let l = leb-true k 1 e in omega arith
     below false k t e g = leb-true k 5 (and-left _ _ g)
 
     opposite : (x : Bool) → ltb kind oppositeFrom ≡ x
-        → either (leb (either x kind (kind - 128)) 1) (eqb tag 78) (leb (either x kind (kind - 128)) 5 && eqb tag 84) ≡ true → kind < 256
+        → cond (leb (cond x kind (kind - 128)) 1) (eqb tag 78) (leb (cond x kind (kind - 128)) 5 && eqb tag 84) ≡ true → kind < 256
     opposite true e g = let l = ltb-true kind 128 e in omega arith
     opposite false e g = let l = below (leb (kind - 128) 1) (kind - 128) tag refl g in omega arith
 

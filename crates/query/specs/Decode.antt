@@ -1,12 +1,12 @@
 -- A query's bytes as values; the checks in document 01's order, front to back, the first that fails decides.
 use Prim.Native.Nat.{ℕ, zero, suc, _+_, _-_, _*_}
-use mathlib.Core.Bool.{Bool, true, false, _||_}
+use mathlib.Core.Bool.{Bool, true, false, _||_, cond}
 use mathlib.Core.List.{List, [], _∷_, _++_}
 use lib.ListN.{length, take, drop}
 use lib.Dec.{leb, eqb}
 use Rattle.fields.specs.declared.header.Header.{Header}
 use Rattle.fields.specs.declared.header.Header.the-variants.{Cut, Field}
-use Rattle.fields.specs.Decoded.{Decoded, refused, accepted, either}
+use Rattle.fields.specs.Decoded.{Decoded, refused, accepted}
 use Rattle.fields.specs.Header.{headerAt}
 use Rattle.catalogue.specs.Catalogue.{Catalogue}
 use Rattle.strategy.specs.Tree.{Tree, leaf, group, Forest, none, more}
@@ -32,22 +32,22 @@ isRepeated payload (p ∷ ps) = same payload (payloadOf p) || isRepeated payload
 -- "Condition: 12, .. 11, .. 13, .."
 unfoldable pub predicateField : (tags q : List ℕ) → (earlier : List Predicate) → (start end : ℕ) → MemberField
 predicateField tags q earlier start end =
-    either (leb predicateLimit (length earlier)) (field.Refused tooManyPredicates)
-    (either (validPayload tags (payloadAt q start end))
-    (either (isRepeated (payloadAt q start end) earlier) (field.Refused repeatedPayload) (field.Leaf start end))
+    cond (leb predicateLimit (length earlier)) (field.Refused tooManyPredicates)
+    (cond (validPayload tags (payloadAt q start end))
+    (cond (isRepeated (payloadAt q start end) earlier) (field.Refused repeatedPayload) (field.Leaf start end))
     (field.Refused invalidPayload))
 
 -- "Group: 10, deeper than 8; 9, empty"; `depth` groups enclose it
 unfoldable pub groupField : (depth tag start end : ℕ) → MemberField
 groupField depth tag start end =
-    either (leb depthLimit depth) (field.Refused tooDeep) (either (eqb start end) (field.Refused emptyGroup) (field.Group tag start end))
+    cond (leb depthLimit depth) (field.Refused tooDeep) (cond (eqb start end) (field.Refused emptyGroup) (field.Group tag start end))
 
 -- "At each field: 7, .. 8, .."
 unfoldable pub memberField : (tags q : List ℕ) → (depth : ℕ) → (earlier : List Predicate) → Header → MemberField
 memberField tags q depth earlier Cut = field.Refused memberCut
 memberField tags q depth earlier (Field tag start end) =
-    either (eqb tag predicateTag) (predicateField tags q earlier start end)
-    (either (eqb tag conjunctionTag || eqb tag disjunctionTag) (groupField depth tag start end) (field.Refused unknownTag))
+    cond (eqb tag predicateTag) (predicateField tags q earlier start end)
+    (cond (eqb tag conjunctionTag || eqb tag disjunctionTag) (groupField depth tag start end) (field.Refused unknownTag))
 
 -- what a reading gives: a refusal, or a value, the predicates read and the place after them
 pub data Read (A : Type 0) : Type 0 where
@@ -96,7 +96,7 @@ unfoldable mutual
 -- "The question is one field of these"; "At the end: 14, bytes left over"
 abbrev pub wholeQuery : List ℕ → Read (Tree ℕ) → Decoded Query
 wholeQuery q (stopped e) = refused e
-wholeQuery q (read t ps next) = either (eqb next (length q)) (accepted (record { tree = t; predicates = ps })) (refused bytesAfterQuery)
+wholeQuery q (read t ps next) = cond (eqb next (length q)) (accepted (record { tree = t; predicates = ps })) (refused bytesAfterQuery)
 
 -- a question against a catalogue whose columns have these tags
 unfoldable pub decodeTagged : (tags q : List ℕ) → Decoded Query

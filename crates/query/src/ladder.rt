@@ -13,13 +13,6 @@ impl Ladder {
     pub const TABLE: usize = Group::DEPTH_LIMIT * Predicate::LIMIT;
 }
 
-fn narrow(x: usize) -> u8
-    requires { ⌜ x ≤ predicateLimit ⌝ }
-    ensures { λ r. ⌜ r ≡ x ⌝ }
-{
-    x as u8
-}
-
 // Closes the group of the predicates from a up to m: one rung more for each of them.
 pub fn close_group(
     masks: &mut [u64],
@@ -34,7 +27,7 @@ pub fn close_group(
     requires { ⌜ Under a m 1 (now heights) ⌝ }
     ensures { λ _. ⌜ ClosedTo a m tag (now (masks .entry)) (now (sorts .entry)) (now (heights .entry)) (now (masks .exit)) (now (sorts .exit)) (now (heights .exit)) ⌝ }
 {
-    let mask = sets::run_of(narrow(a), narrow(m));
+    let mask = sets::run_of(fields::number::narrow(a), fields::number::narrow(m));
     let mut c = a;
     while c < m {
         let h = heights[c];

@@ -68,13 +68,6 @@ pub fn fill_plan(
     plan_records(tags, starts, &table, n, plan);
 }
 
-fn narrow(x: usize) -> u8
-    requires { ⌜ x < 256 ⌝ }
-    ensures { λ r. ⌜ r ≡ x ⌝ }
-{
-    x as u8
-}
-
 // The answer of predicate c at a row.
 pub fn answer_of(
     fold: &[u8],
@@ -88,9 +81,9 @@ pub fn answer_of(
     ensures { λ r. ⌜ AnswerIs (now (catalogue .entry)) (now (question .entry)) (accessAt (now (plan .entry)) c) row r ⌝ }
 {
     let i = Plan::WIDTH * c;
-    let tag = narrow(plan[i]);
+    let tag = fields::number::narrow(plan[i]);
     let start = plan[i + 1];
-    let kind = narrow(plan[i + 2]);
+    let kind = fields::number::narrow(plan[i + 2]);
     let from = plan[i + 3];
     let to = from + plan[i + 4];
     predicate::outcome::outcome_at(fold, catalogue, tag, start, kind, &question[from..to], row)

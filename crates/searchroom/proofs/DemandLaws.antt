@@ -2,14 +2,14 @@
 use Prim.Native.Nat.{ℕ, zero, suc, _+_, _-_, _*_, _≤_, _<_}
 use native.Mathlib.Omega.{arith}
 use mathlib.Core.Path.{_≡_, refl, ap}
-use mathlib.Core.Bool.{Bool, true, false}
+use mathlib.Core.Bool.{Bool, true, false, _&&_, cond}
 use mathlib.Core.Logic.{_⊎_, inl, inr}
 use mathlib.Core.List.{List, [], _++_}
 use lib.ListN.{length, getD}
 use lib.Dec.{eqb, leb}
 use Rattle.fields.specs.declared.header.Header.{Header}
 use Rattle.fields.specs.declared.header.Header.the-variants.{Cut, Field}
-use Rattle.fields.specs.Decoded.{Decoded, refused, accepted, either, both}
+use Rattle.fields.specs.Decoded.{Decoded, refused, accepted}
 use Rattle.fields.specs.Numbers.{numberAt}
 use Rattle.fields.specs.Header.{headerSize, headerAt}
 use Rattle.catalogue.specs.declared.column.ColumnField.{ColumnField}
@@ -61,8 +61,8 @@ column-sound b rows Cut = omega arith
 column-sound b rows (Field tag start end) =
     go (eqb tag numberTag) (eqb (end - start) (numberSize * rows)) (eqb tag textTag) (eqb (end - start) (slotSize * rows)) (validSlots b start rows)
   where
-    go : (x y z w v : Bool) → ColumnSound (either x (either y (column.Numbers start end) (column.Refused notColumn))
-        (either z (either w (either v (column.Texts start end) (column.Refused badSlot)) (column.Refused notColumn)) (column.Refused notColumn)))
+    go : (x y z w v : Bool) → ColumnSound (cond x (cond y (column.Numbers start end) (column.Refused notColumn))
+        (cond z (cond w (cond v (column.Texts start end) (column.Refused badSlot)) (column.Refused notColumn)) (column.Refused notColumn)))
     go true true z w v = tt
     go true false z w v = omega arith
     go false y true true true = tt
@@ -74,7 +74,7 @@ columns-limited : (b : List ℕ) (rows n at : ℕ) → Columns n (columnsAt b ro
 unfolding columnsAt
 columns-limited b rows zero at = go (eqb at (length b))
   where
-    go : (x : Bool) → Columns 0 (either x (accepted []) (refused bytesAfterColumns))
+    go : (x : Bool) → Columns 0 (cond x (accepted []) (refused bytesAfterColumns))
     go true = refl
     go false = omega arith
 columns-limited b rows (suc n) at =
@@ -99,14 +99,14 @@ catalogue-limited b = go (headerAt b 0 (length b))
     rows-limited rows n r l h (accepted cs) s = (r, omega arith, omega arith)
 
     counts : (rows n next : ℕ) (x y z : Bool) → leb rows rowLimit ≡ x → leb 1 n ≡ y → leb n columnLimit ≡ z
-        → Limited (firstThen b (either (both x (both y z)) (first.Counts rows n next) (first.Refused countsOutOfRange)))
+        → Limited (firstThen b (cond (x && (y && z)) (first.Counts rows n next) (first.Refused countsOutOfRange)))
     counts rows n next true true true r l h =
         rows-limited rows n (leb-le rows rowLimit r) (leb-le 1 n l) (leb-le n columnLimit h) (columnsAt b rows n next) (columns-limited b rows n next)
     counts rows n next true true false r l h = omega arith
     counts rows n next true false z r l h = omega arith
     counts rows n next false y z r l h = omega arith
 
-    tagged : (x : Bool) (f : First) → Limited (firstThen b f) → Limited (firstThen b (either x f (first.Refused notCatalogue)))
+    tagged : (x : Bool) (f : First) → Limited (firstThen b f) → Limited (firstThen b (cond x f (first.Refused notCatalogue)))
     tagged true f s = s
     tagged false f s = omega arith
 
@@ -115,7 +115,7 @@ catalogue-limited b = go (headerAt b 0 (length b))
     go (Field tag start end) =
         let rows = numberAt b start 2 in
         let n = getD b (start + 2) 0 in
-        tagged (both (eqb tag firstTag) (eqb (end - start) firstSize)) (countsAt rows n end)
+        tagged (eqb tag firstTag && eqb (end - start) firstSize) (countsAt rows n end)
         (counts rows n end (leb rows rowLimit) (leb 1 n) (leb n columnLimit) refl refl refl)
 
 -- EVERY QUERY: refused by 7 to 14, since the calls that bound a reading are always enough
@@ -184,7 +184,7 @@ query-sound C q =
     (member-sound (2 * length q + 1) (tagsOf C) q 0 (length q) 0 [])
   where
     end : (x : Bool) (t : Tree ℕ) (ps : List Predicate) → Sound (record { tree = t; predicates = ps })
-        → QuerySound (either x (accepted (record { tree = t; predicates = ps })) (refused bytesAfterQuery))
+        → QuerySound (cond x (accepted (record { tree = t; predicates = ps })) (refused bytesAfterQuery))
     end true t ps s = s
     end false t ps s = omega arith
 

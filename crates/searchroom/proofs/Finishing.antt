@@ -6,9 +6,9 @@ use mathlib.Core.Bool.{Bool, true, false}
 use mathlib.Core.List.{List, [], _∷_}
 use lib.ListN.{length, take, length-take}
 use borrow.Author.Tests.{eq-eqb, ne-eqb, lt-ltb, le-ltb}
-use Rattle.fields.specs.Numbers.{numberAt, bytesOf}
+use Rattle.fields.specs.Numbers.{numberAt, bytesOf, Bytes}
 use Rattle.bitmaps.specs.Sums.{digit, sumOf, countOf}
-use Rattle.bitmaps.specs.Bit.{bit, Bytes}
+use Rattle.bitmaps.specs.Bit.{bit}
 use Rattle.bitmaps.specs.BitLaws.{ones-bits}
 use Rattle.bitmaps.specs.Bitmap.{bytesFor, onesIn, putFront}
 use Rattle.bitmaps.specs.Table.{lineSize, linesOf}

@@ -1,10 +1,10 @@
 -- What the calls that only read give, from what was decoded.
 use Prim.Native.Nat.{ℕ}
 use mathlib.Core.Path.{_≡_}
-use mathlib.Core.Bool.{_&&_}
+use mathlib.Core.Bool.{_&&_, cond}
 use lib.ListN.{length}
 use lib.Dec.{ltb}
-use Rattle.fields.specs.Decoded.{Decoded, refused, accepted, either}
+use Rattle.fields.specs.Decoded.{Decoded, refused, accepted}
 use Rattle.catalogue.specs.Catalogue.{Catalogue}
 use Rattle.predicate.specs.declared.answer.Answer.{Answer as Outcome}
 use Rattle.predicate.specs.declared.answer.Answer.the-variants.{No, Yes}
@@ -35,7 +35,7 @@ outcomeNumber Yes = 1
 abbrev pub outcomeAnswer : Decoded Input → (row c : ℕ) → Answer
 outcomeAnswer (refused e) row c = Refused e
 outcomeAnswer (accepted i) row c =
-    either (ltb row (i .catalogue .rows) && ltb c (length (i .query .predicates)))
+    cond (ltb row (i .catalogue .rows) && ltb c (length (i .query .predicates)))
     (Accepted (outcomeNumber (outcome (i .catalogue) (predicateAt (i .query) c) row)) 0 0)
     (Refused noSuchPlace)
 

@@ -1,8 +1,8 @@
 -- How a run ends, from the tables of its own.
 use Prim.Native.Nat.{ℕ, _*_, _≤_}
+use mathlib.Core.Bool.{cond}
 use mathlib.Core.List.{List}
 use lib.ListN.{length, take}
-use Rattle.fields.specs.Decoded.{either}
 use Rattle.fields.specs.Numbers.{bytesOf}
 use Rattle.bitmaps.specs.Bitmap.{bytesFor, onesIn, putFront}
 use Rattle.bitmaps.specs.Table.{lineSize, linesOf}
@@ -22,7 +22,7 @@ lookedIn P n = onesIn (take (n * lineSize) P)
 -- the front of each line goes out, if the counter takes the looks
 unfoldable pub finished : (selected probes : List ℕ) → (n rows : ℕ) → (listed looks tally : List ℕ) → Ran
 finished S P n rows listed looks tally =
-    either (counterFits tally (lookedIn P n))
+    cond (counterFits tally (lookedIn P n))
     (ran (packed (Accepted (onesIn S) 0 (lookedIn P n)))
     (putFront (linesOf (bytesFor rows) S 1) listed)
     (putFront (linesOf (bytesFor rows) P n) looks)

@@ -1,10 +1,10 @@
 -- A whole run: the word and the three lent tables afterwards, for every input.
 use Prim.Native.Nat.{ℕ, _+_, _*_, _^_}
-use mathlib.Core.Bool.{Bool, _&&_}
+use mathlib.Core.Bool.{Bool, _&&_, cond}
 use mathlib.Core.List.{List}
 use lib.ListN.{length}
 use lib.Dec.{leb, ltb, eqb}
-use Rattle.fields.specs.Decoded.{Decoded, refused, accepted, either}
+use Rattle.fields.specs.Decoded.{Decoded, refused, accepted}
 use Rattle.fields.specs.Numbers.{numberAt, bytesOf}
 use Rattle.strategy.specs.Order.{isOrder}
 use Rattle.bitmaps.specs.Bitmap.{bytesFor, bitmap, bitmaps, onesIn, putFront}
@@ -72,9 +72,9 @@ accept i order listed looks tally =
 -- "Running: .. 15, .. 16, .. 17, .."
 unfoldable pub runOn : Input → (order listed looks tally : List ℕ) → Ran
 runOn i order listed looks tally =
-    either (isOrder (predicateCount i) order)
-    (either (tablesFit i listed looks)
-    (either (counterFits tally (lookCount i order)) (accept i order listed looks tally) (refuse counterRefused listed looks tally))
+    cond (isOrder (predicateCount i) order)
+    (cond (tablesFit i listed looks)
+    (cond (counterFits tally (lookCount i order)) (accept i order listed looks tally) (refuse counterRefused listed looks tally))
     (refuse tableTooShort listed looks tally))
     (refuse notOrder listed looks tally)
 

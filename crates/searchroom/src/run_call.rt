@@ -13,13 +13,6 @@ ghost use Rattle.searchroom.specs.Word.{packed, FitsWord};
 ghost use Rattle.searchroom.specs.Begun.{BegunWith};
 ghost use Rattle.searchroom.specs.Run.{ran, runOf};
 
-fn narrow(n: usize) -> u8
-    requires { ⌜ n ≤ predicateLimit ⌝ }
-    ensures { λ r. ⌜ r ≡ n ⌝ }
-{
-    n as u8
-}
-
 // The checks of the order and of the lent tables, then the rows into tables of the run's own, and its end.
 fn run_accepted(
     catalogue: &[u8],
@@ -40,7 +33,7 @@ fn run_accepted(
     requires { ⌜ BegunWith (now catalogue) (now question) (now tags) (now starts) n rows (tables (now places) (now masks) (now sorts) (now heights)) ⌝ }
     ensures { λ r. ⌜ (ran (packed r) (now (listed .exit)) (now (looks .exit)) (now (tally .exit)) ≡ runOf (now (catalogue .entry)) (now (question .entry)) (now (order .entry)) (now (listed .entry)) (now (looks .entry)) (now (tally .entry))) × FitsWord r ⌝ }
 {
-    let count = narrow(n);
+    let count = fields::number::narrow(n);
     if !sets::is_order(order, count) {
         return Answer::Refused(Refusal::NOT_ORDER);
     }
