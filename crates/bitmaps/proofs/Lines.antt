@@ -1,6 +1,6 @@
--- Copying: a part written byte by byte, and lines put one after the other at the front of a table.
-use Prim.Native.Nat.{ℕ, suc, _+_, _-_, _*_, _≤_, _<_}
-use native.Mathlib.Nat.{suc-mul, mul-le-mul-right}
+-- Copying and counting: a part written byte by byte, lines put one after the other at the front of a table, and their ones.
+use Prim.Native.Nat.{ℕ, suc, _+_, _-_, _*_, _^_, _≤_, _<_}
+use native.Mathlib.Nat.{suc-mul, mul-le-mul-left, mul-le-mul-right}
 use native.Mathlib.Numerals.{add-one}
 use native.Mathlib.Omega.{arith}
 use mathlib.Core.Path.{_≡_, sym, ap, ap₂, _∙_}
@@ -9,9 +9,10 @@ use lib.ListN.{length, take, drop, getD, set, length-append, length-take, length
 use borrow.Rule.Slice.PartMut.{putMid}
 use lib.Seq.{take-suc, drop-cons, set-at, length-take-le, take-at, drop-at, drop-drop, take-all}
 use Rattle.bitmaps.specs.Sums.{joined}
-use Rattle.bitmaps.specs.Bitmap.{putFront}
+use Rattle.bitmaps.specs.Bitmap.{onesIn, putFront}
 use Rattle.bitmaps.specs.Table.{lineSize, linesOf}
 use Rattle.bitmaps.specs.SumLaws.{joined-length}
+use Rattle.bitmaps.specs.OnesLaws.{ones-append}
 
 -- one byte more of a part: the first i bytes are those of `from`
 pub copy-byte : (from old to : List ℕ) (i : ℕ) → length from ≡ length old → i < length from
@@ -84,3 +85,23 @@ module _ (size n : ℕ) (from old to : List ℕ) (c line at : ℕ) (s : size ≤
 pub parts-length : (from to : List ℕ) (line at size : ℕ) → line + size ≤ length from → at + size ≤ length to
     → length (take (line + size - line) (drop line from)) ≡ length (take (at + size - at) (drop at to))
 parts-length from to line at size l m = simp (length-take, length-drop) (omega arith)
+
+-- counting: the ones of line c behind those of the lines before it
+module _ (size : ℕ) (from : List ℕ) (c line next : ℕ) (l : line ≡ c * lineSize) (e : next ≡ line + size) where
+  pub count-line : (sum x : ℕ) → sum ≡ onesIn (linesOf size from c) → x ≡ onesIn (take (next - line) (drop line from)) → sum + x ≡ onesIn (linesOf size from (c + 1))
+  unfolding linesOf joined
+  count-line sum x s k =
+      let z : next - line ≡ size = omega arith in
+      rw (s, k, z, l, add-one c) (sym (ones-append (linesOf size from c) (take size (drop (c * lineSize) from))))
+
+  pub part-short : length (take (next - line) (drop line from)) ≤ size
+  part-short = simp length-take (omega arith)
+
+  pub part-small : length from < 2 ^ 61 → length (take (next - line) (drop line from)) < 2 ^ 61
+  part-small h = simp (length-take, length-drop) (omega arith)
+
+pub lines-next : (c size : ℕ) → (c + 1) * size ≡ c * size + size
+lines-next c size = rw (add-one c) (suc-mul c size)
+
+pub lines-small : (size n : ℕ) → size ≤ lineSize → n * size ≤ n * lineSize
+lines-small size n h = mul-le-mul-left n h

@@ -13,16 +13,12 @@ use Rattle.strategy.specs.Bools.{which, ltb-yes, ltb-no, ltb-lt, ltb-le}
 use Rattle.sets.specs.Set.{member}
 use Rattle.sets.specs.SetLaws.{member-none, same-set}
 use Rattle.bitmaps.specs.Sums.{sumOf, joined, digit, countOf}
-use Rattle.bitmaps.specs.SumLaws.{sum-below, sum-same, count-same, joined-same, joined-length, joined-line, listed-length, listed-at}
+use Rattle.bitmaps.specs.SumLaws.{sum-below, sum-same, count-same, joined-length, joined-line, listed-length, listed-at}
 use Rattle.bitmaps.specs.Bitmap.{bytesFor, binary, bitmap, bitmaps, onesIn}
 use Rattle.bitmaps.specs.OnesLaws.{ones-joined}
 use Rattle.fields.specs.Numbers.{Bytes}
 use Rattle.bitmaps.specs.Bit.{bit}
 use Rattle.bitmaps.specs.BitLaws.{member-high, binary-lt, member-binary, bit-at, ones-bits}
-
--- the bytes for so many rows hold them, and no byte is without a row
-pub bytes-for : (rows : ℕ) → (rows ≤ bytesFor rows * 8) × (bytesFor rows * 8 < rows + 8)
-bytes-for rows = omega arith
 
 -- how many of the first `rows` hold, counted up to any bound beyond
 pub count-inside : (f : ℕ → Bool) (rows m : ℕ) → rows ≤ m → countOf (λ e. ltb e rows && f e) m ≡ countOf f rows
@@ -114,10 +110,6 @@ module _ (f : ℕ → ℕ → Bool) (n rows : ℕ) where
   pub bitmaps-ones : onesIn (bitmaps f n rows) ≡ sumOf (λ c. countOf (f c) rows) n
   unfolding bitmaps
   bitmaps-ones = ones-joined (λ c. bitmap (f c) rows) n ∙ sum-same (λ c. onesIn (bitmap (f c) rows)) (λ c. countOf (f c) rows) n (λ c l. bitmap-ones (f c) rows)
-
-pub bitmaps-same : (f g : ℕ → ℕ → Bool) (n rows : ℕ) → ((c e : ℕ) → c < n → e < rows → f c e ≡ g c e) → bitmaps f n rows ≡ bitmaps g n rows
-unfolding bitmaps
-bitmaps-same f g n rows s = joined-same (λ c. bitmap (f c) rows) (λ c. bitmap (g c) rows) n (λ c l. bitmap-same (f c) (g c) rows (λ e k. s c e l k))
 
 -- one row of bits is a table of one
 pub bitmaps-one : (f : ℕ → Bool) (rows : ℕ) → bitmaps (λ c. f) 1 rows ≡ bitmap f rows

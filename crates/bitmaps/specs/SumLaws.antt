@@ -21,12 +21,6 @@ unfolding sumOf
 sum-split g m zero = rw (add-zero m) (sym (add-zero (sumOf g m)))
 sum-split g m (suc n) = rw (add-suc m n, sum-split g m n) (add-assoc (sumOf g m) (sumOf (λ i. g (m + i)) n) (g (m + n)))
 
--- lines of m terms each
-pub sum-lines : (g : ℕ → ℕ) (n m : ℕ) → sumOf g (n * m) ≡ sumOf (λ c. sumOf (λ e. g (c * m + e)) m) n
-unfolding sumOf
-sum-lines g zero m = let z : zero * m ≡ 0 = omega arith in rw z
-sum-lines g (suc n) m = rw (suc-mul n m, sum-split g (n * m) m, sum-lines g n m)
-
 pub sum-zero : (g : ℕ → ℕ) (n : ℕ) → ((i : ℕ) → i < n → g i ≡ 0) → sumOf g n ≡ 0
 unfolding sumOf
 sum-zero g zero z = refl

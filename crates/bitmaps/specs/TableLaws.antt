@@ -2,22 +2,21 @@
 use Prim.Native.Nat.{ℕ, suc, _+_, _*_, _/_, _%_, _≤_, _<_}
 use native.Mathlib.Numerals.{add-one}
 use native.Mathlib.Omega.{arith}
-use mathlib.Core.Path.{_≡_, refl, sym, ap, ap₂, _∙_, subst}
+use mathlib.Core.Path.{_≡_, refl, ap, ap₂, _∙_, subst}
 use mathlib.Core.Bool.{Bool, true, false, _&&_, _||_}
 use mathlib.Core.Logic.{_⊎_, inl, inr}
 use mathlib.Core.List.{List}
-use lib.ListN.{length, getD, take, drop, replicate, length-replicate, getD-replicate, length-drop, List·getD-eq-default}
-use lib.Seq.{getD-take, getD-drop, length-take-le}
+use lib.ListN.{getD, take, drop, replicate, length-replicate, getD-replicate, length-drop, List·getD-eq-default}
+use lib.Seq.{getD-drop}
 use lib.Dec.{eqb, ltb}
-use Rattle.strategy.specs.Bools.{which, iff-eq, and-parts, eqb-self, eqb-eq, ltb-yes, ltb-no, ltb-lt, ltb-le}
+use Rattle.strategy.specs.Bools.{which, iff-eq, and-parts, eqb-self, eqb-eq, ltb-yes, ltb-lt, ltb-le}
 use Rattle.sets.specs.Set.{member}
 use Rattle.sets.specs.SetLaws.{member-none}
-use Rattle.bitmaps.specs.Sums.{sumOf, digit, countOf}
-use Rattle.bitmaps.specs.SumLaws.{sum-below, sum-same, sum-zero, sum-lines, count-same, joined-same}
-use Rattle.bitmaps.specs.Bitmap.{bytesFor, bitmap, bitmaps, onesIn}
+use Rattle.bitmaps.specs.SumLaws.{joined-same}
+use Rattle.bitmaps.specs.Bitmap.{bytesFor, bitmap, bitmaps}
 use Rattle.bitmaps.specs.Bit.{bit, Marked}
-use Rattle.bitmaps.specs.BitLaws.{or-false, below-more, ones-bits}
-use Rattle.bitmaps.specs.BitmapLaws.{count-inside, bits-bitmap, bitmaps-one}
+use Rattle.bitmaps.specs.BitLaws.{or-false, below-more}
+use Rattle.bitmaps.specs.BitmapLaws.{bits-bitmap, bitmaps-one}
 use Rattle.bitmaps.specs.Table.{lineSize, lineBits, linesOf, Holds, within}
 
 zeros : (n i : ℕ) → _≡_ {A = ℕ} (getD (replicate n 0) i 0) 0
@@ -75,14 +74,6 @@ holds-probe f probed c row k h m = holds-same (λ d e l j. join (f d e) (probed 
     join false true false false = refl
     join false false q b = refl
 
--- nothing is held before the first row
-pub holds-start : (f : ℕ → ℕ → Bool) (n lines : ℕ) → Holds (within f n 0) lines (replicate (lines * lineSize) 0)
-holds-start f n lines = holds-same (λ c e l k. go c e (ltb c n)) (holds-none lines)
-  where
-    go : (c e : ℕ) (b : Bool) → false ≡ (b && (ltb e 0 && f c e))
-    go c e true = sym (ap (λ (b : Bool). b && f c e) (ltb-no e 0 (omega arith)))
-    go c e false = refl
-
 -- one row more
 within-row : (f : ℕ → ℕ → Bool) (n row c e : ℕ) → (within f n row c e || ((ltb c n && f c row) && eqb e row)) ≡ within f n (row + 1) c e
 within-row f n row c e = rw (add-one row) (go (ltb c n))
@@ -116,20 +107,6 @@ module _ (f : ℕ → Bool) (row : ℕ) (t : List ℕ) (h : Holds (within (λ c.
       holds-row (λ c. f) 1 row 1 t′ (λ c. eqb c 0) (λ c l. selected c l y)
       (holds-mark 0 row k h (subst (λ (p : ℕ). Marked t p t′) z m))
 
--- the first n lines are a table of n lines
-pub holds-front : (f : ℕ → ℕ → Bool) (n lines : ℕ) (t : List ℕ) → n ≤ lines → Holds f lines t → Holds f n (take (n * lineSize) t)
-unfolding bit
-holds-front f n lines t l h = record {
-  size = length-take-le (n * lineSize) t (omega (arith, h .size));
-  bytes = λ i. go i (which (ltb i (n * lineSize)));
-  bits = λ c e m k. ap (λ (x : ℕ). member x ((c * lineBits + e) % 8)) (getD-take (n * lineSize) t ((c * lineBits + e) / 8) 0 (omega arith)) ∙ h .bits c e (omega arith) k;
-}
-  where
-    go : (i : ℕ) → (ltb i (n * lineSize) ≡ true) ⊎ (ltb i (n * lineSize) ≡ false) → getD (take (n * lineSize) t) i 0 < 256
-    go i (inl y) = rw (getD-take (n * lineSize) t i 0 (ltb-lt i (n * lineSize) y)) (h .bytes i)
-    go i (inr y) =
-        rw (List·getD-eq-default (take (n * lineSize) t) 0 {n = i} (omega (arith, ltb-le i (n * lineSize) y, length-take-le (n * lineSize) t (omega (arith, h .size))))) (omega arith)
-
 line-bit : (t : List ℕ) (c e : ℕ) → bit (drop (c * lineSize) t) e ≡ bit t (c * lineBits + e)
 unfolding bit
 line-bit t c e =
@@ -153,28 +130,7 @@ module _ (f : ℕ → ℕ → Bool) (n rows lines : ℕ) (t : List ℕ) (fits : 
   unfolding linesOf bitmaps
   holds-bitmaps = joined-same (λ c. take (bytesFor rows) (drop (c * lineSize) t)) (λ c. bitmap (f c) rows) n holds-line
 
-  ones-line : (c : ℕ) → c < n → countOf (λ e. bit t (c * lineBits + e)) lineBits ≡ countOf (f c) rows
-  ones-line c l =
-      count-same (λ e. bit t (c * lineBits + e)) (λ e. ltb e rows && f c e) lineBits (λ e k. in-line c e l k) ∙ count-inside (f c) rows lineBits short
-
-  no-ones : (c : ℕ) → n ≤ c → c < lines → countOf (λ e. bit t (c * lineBits + e)) lineBits ≡ 0
-  no-ones c l m =
-      sum-zero (λ e. digit (bit t (c * lineBits + e))) lineBits
-      (λ e k. ap digit (h .bits c e m k ∙ ap (λ (b : Bool). b && (ltb e rows && f c e)) (ltb-no c n l)))
-
-  -- the ones of the whole table
-  pub holds-ones : onesIn t ≡ sumOf (λ c. countOf (f c) rows) n
-  holds-ones =
-      let e : length t * 8 ≡ lines * lineBits = omega (arith, h .size) in
-      ones-bits t (h .bytes) ∙ ap (countOf (bit t)) e ∙ sum-lines (λ k. digit (bit t k)) lines lineBits
-      ∙ sum-below (λ c. countOf (λ e. bit t (c * lineBits + e)) lineBits) n lines fits no-ones
-      ∙ sum-same (λ c. countOf (λ e. bit t (c * lineBits + e)) lineBits) (λ c. countOf (f c) rows) n ones-line
-
 -- a table of one line
 module _ (f : ℕ → Bool) (rows : ℕ) (t : List ℕ) (short : rows ≤ lineBits) (h : Holds (within (λ c. f) 1 rows) 1 t) where
   pub holds-bitmap : linesOf (bytesFor rows) t 1 ≡ bitmap f rows
   holds-bitmap = holds-bitmaps (λ c. f) 1 rows 1 t (omega arith) short h ∙ bitmaps-one f rows
-
-  pub holds-ones-one : onesIn t ≡ countOf f rows
-  unfolding sumOf
-  holds-ones-one = omega (arith, holds-ones (λ c. f) 1 rows 1 t (omega arith) short h)

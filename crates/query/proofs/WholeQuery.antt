@@ -5,7 +5,7 @@ use mathlib.Core.Path.{_≡_, refl, ap}
 use mathlib.Core.Bool.{Bool, true, false, _&&_, cond}
 use mathlib.Core.Logic.{_⊎_, inl, inr}
 use mathlib.Core.List.{List, [], _∷_, _++_}
-use lib.ListN.{length, getD}
+use lib.ListN.{length}
 use lib.Dec.{ltb, leb, eqb}
 use borrow.Author.Tests.{eq-eqb, ne-eqb, leb-true, ltb-true}
 use Rattle.strategy.specs.Bools.{same?}
@@ -19,13 +19,11 @@ use Rattle.predicate.proofs.PayloadLaws.{valid-payload}
 use Rattle.query.specs.declared.reader.Progress.the-variants as progress
 use Rattle.query.specs.declared.whole.Reading.the-variants.{Refused, Accepted}
 use Rattle.query.specs.Format.{bytesAfterQuery}
-use Rattle.query.specs.Query.{Query}
 use Rattle.query.specs.Decode.{payloadOf, Read, stopped, read, member, wholeQuery, decodeTagged}
 use Rattle.query.specs.Table.{recordAt, predicateIn, listed}
 use Rattle.query.specs.Ladder.{Tables}
 use Rattle.query.specs.Reader.{Told, MemberRead}
-use Rattle.query.specs.Handed.{TablesSized, Recorded, Tabled, Handed}
-use Rattle.query.proofs.Records.{listed-at}
+use Rattle.query.specs.Handed.{TablesSized, Recorded, Handed}
 use Rattle.query.proofs.Readings.{Fits, Each, SoundTree, member-sound}
 
 -- a valid payload's kind is at most 133
@@ -112,8 +110,3 @@ module _ (tags q : List ℕ) (T T1 : Tables) where
               sized = s;
             },
           )
-
--- predicate c of the query is the one that its record shows
-pub tabled-predicate : (tags q : List ℕ) (Q : Query) (n : ℕ) (T : Tables) → Tabled tags q Q n T → (c : ℕ) (other : Predicate) → c < n
-    → getD (Q .predicates) c other ≡ predicateIn q (recordAt q (T .places) c)
-tabled-predicate tags q Q n T t c other l = rw (← (t .shown)) (listed-at q (T .places) n c other l)

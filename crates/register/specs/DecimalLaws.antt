@@ -47,8 +47,3 @@ digits-few (suc k) (suc s) (suc x) l =
 -- an eight-byte number has no more digits than there is room for
 pub digits-length : (x : ℕ) → x < 2 ^ 64 → length (digitsOf x) ≤ numberRoom
 digits-length x l = digits-few numberRoom (suc x) x (omega arith)
-
-pub decimal-length : (x : ℕ) → x < 2 ^ 64 → length (decimal x) ≤ numberRoom
-unfolding decimal
-decimal-length zero l = omega arith
-decimal-length (suc x) l = digits-length (suc x) l

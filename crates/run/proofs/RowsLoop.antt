@@ -14,9 +14,8 @@ use Rattle.strategy.specs.Tree.{eval}
 use Rattle.strategy.specs.TraceLaws.{trace-among}
 use Rattle.strategy.specs.OrderLaws.{order-law}
 use Rattle.bitmaps.specs.Bit.{Marked}
-use Rattle.bitmaps.specs.BitmapLaws.{bitmap-ones, bitmaps-ones}
 use Rattle.bitmaps.specs.Table.{Holds, within}
-use Rattle.bitmaps.specs.TableLaws.{holds-same, holds-row, holds-passed, holds-selected, holds-bitmap, holds-bitmaps, holds-ones, holds-ones-one}
+use Rattle.bitmaps.specs.TableLaws.{holds-same, holds-row, holds-passed, holds-selected, holds-bitmap, holds-bitmaps}
 use Rattle.query.specs.Format.{predicateLimit}
 use Rattle.query.specs.Query.{Query}
 use Rattle.run.specs.Run.{assignmentAt, isSelected, traceAt, isProbed}
@@ -78,11 +77,8 @@ module _ {F b q order P M K H : List ℕ} {n : ℕ} {C : Catalogue} {Q : Query} 
   rows-done {row} {S} {T} e L = record {
     selected-bits = selected;
     selected-bitmap = holds-bitmap (isSelected C Q) (C .rows) S (R .short) selected;
-    selected-ones = holds-ones-one (isSelected C Q) (C .rows) S (R .short) selected ∙ sym (bitmap-ones (isSelected C Q) (C .rows));
     probes-bits = probed;
     probes-bitmaps = holds-bitmaps (isProbed C Q order) n (C .rows) predicateLimit T (R .few) (R .short) probed;
-    probes-ones =
-        holds-ones (isProbed C Q order) n (C .rows) predicateLimit T (R .few) (R .short) probed ∙ sym (bitmaps-ones (isProbed C Q order) n (C .rows));
   }
     where
       selected : Holds (within (λ c. isSelected C Q) 1 (C .rows)) 1 S

@@ -5,7 +5,7 @@ use mathlib.Core.Bool.{Bool, false, _&&_, _||_}
 use mathlib.Core.List.{List}
 use lib.Dec.{eqb}
 use Rattle.catalogue.specs.Catalogue.{Catalogue}
-use Rattle.bitmaps.specs.Bitmap.{bytesFor, bitmap, bitmaps, onesIn}
+use Rattle.bitmaps.specs.Bitmap.{bytesFor, bitmap, bitmaps}
 use Rattle.bitmaps.specs.Table.{linesOf, Holds, within}
 use Rattle.query.specs.Format.{predicateLimit}
 use Rattle.query.specs.Query.{Query}
@@ -30,14 +30,12 @@ RowWorked F b q order P M S H n row answer T T′ =
 abbrev pub Empty : (lines : ℕ) → (table : List ℕ) → Type 0
 Empty lines T = Holds (λ c e. false) lines T
 
--- a run's own tables: every bit, the bitmaps of document 01 at the front of the lines, and their ones
+-- a run's own tables: every bit, and the bitmaps of document 01 at the front of the lines
 pub record Worked (C : Catalogue) (Q : Query) (order : List ℕ) (n : ℕ) (selected probes : List ℕ) : Type 0 where
   pub selected-bits : Holds (within (λ c. isSelected C Q) 1 (C .rows)) 1 selected
   pub selected-bitmap : linesOf (bytesFor (C .rows)) selected 1 ≡ bitmap (isSelected C Q) (C .rows)
-  pub selected-ones : onesIn selected ≡ onesIn (bitmap (isSelected C Q) (C .rows))
   pub probes-bits : Holds (within (isProbed C Q order) n (C .rows)) predicateLimit probes
   pub probes-bitmaps : linesOf (bytesFor (C .rows)) probes n ≡ bitmaps (isProbed C Q order) n (C .rows)
-  pub probes-ones : onesIn probes ≡ onesIn (bitmaps (isProbed C Q order) n (C .rows))
 
 abbrev pub RowsWorked : (fold b q order plan masks sorts heights : List ℕ) → (n rows : ℕ) → (selected probes : List ℕ) → Type 0
 RowsWorked F b q order P M S H n rows selected probes =

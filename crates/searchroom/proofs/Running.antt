@@ -5,21 +5,19 @@ use native.Mathlib.Omega.{arith}
 use mathlib.Core.Path.{_≡_, sym, ap, _∙_}
 use mathlib.Core.Bool.{Bool, true, false}
 use mathlib.Core.List.{List}
-use lib.ListN.{length, take}
+use lib.ListN.{length}
 use borrow.Author.Tests.{le-leb, lt-leb}
 use Rattle.fields.specs.Decoded.{refused, accepted}
 use Rattle.catalogue.specs.Catalogue.{Catalogue}
 use Rattle.catalogue.specs.declared.layout.Layout.{Layout}
 use Rattle.strategy.specs.Order.{isOrder}
-use Rattle.bitmaps.specs.Bitmap.{bytesFor, bitmaps, onesIn}
-use Rattle.bitmaps.specs.BitmapLaws.{bitmaps-ones}
-use Rattle.bitmaps.specs.Table.{lineSize, lineBits, within}
+use Rattle.bitmaps.specs.Bitmap.{bytesFor}
+use Rattle.bitmaps.specs.Table.{lineSize, lineBits}
 use Rattle.query.specs.Format.{predicateLimit}
-use Rattle.bitmaps.specs.TableLaws.{holds-front, holds-ones}
 use Rattle.query.specs.Query.{Query}
 use Rattle.query.specs.Table.{recordAt}
 use Rattle.query.specs.Ladder.{Tables}
-use Rattle.run.specs.Run.{predicateAt, isProbed}
+use Rattle.run.specs.Run.{predicateAt}
 use Rattle.run.specs.Plan.{planSize, accessAt, HaveColumns, Planned}
 use Rattle.run.specs.Ready.{Accessed, Ready, RowsReady}
 use Rattle.run.specs.Worked.{Worked, RowsWorked}
@@ -34,7 +32,7 @@ use Rattle.searchroom.specs.Refusals.{notOrder, tableTooShort}
 use Rattle.searchroom.specs.Input.{decodeInput}
 use Rattle.searchroom.specs.Begun.{Begun, BegunWith}
 use Rattle.searchroom.specs.Run.{refuse, selection, probes, runOn, runOf}
-use Rattle.searchroom.specs.Finish.{HasRoom, lookedIn, finished}
+use Rattle.searchroom.specs.Finish.{HasRoom, finished}
 
 pub run-refused : (b q order listed looks tally : List ℕ) (k : ℕ) → (decodeInput b q ≡ refused k) × (k < 256)
     → (refuse k listed looks tally ≡ runOf b q order listed looks tally) × FitsWord (Refused k)
@@ -72,22 +70,13 @@ module _ (b q order listed looks tally : List ℕ) (l : Layout) (n : ℕ) (T : T
 
     -- the rows are worked, and the end of the run is the definition's
     module _ (S P : List ℕ) (W : Worked (B .input .catalogue) (B .input .query) order n S P) (few : rows ≤ lineBits) where
-      looked-is : lookedIn P n ≡ onesIn (bitmaps (isProbed (B .input .catalogue) (B .input .query) order) n (B .input .catalogue .rows))
-      looked-is =
-          holds-ones f n (B .input .catalogue .rows) n (take (n * lineSize) P) (omega arith) (omega (arith, rows-are))
-          (holds-front (within f n (B .input .catalogue .rows)) n predicateLimit P (B .tabled .few) (W .probes-bits))
-          ∙ sym (bitmaps-ones f n (B .input .catalogue .rows))
-        where
-          f : ℕ → ℕ → Bool
-          f = isProbed (B .input .catalogue) (B .input .query) order
-
       pub run-finished : size ≤ length listed → n * size ≤ length looks → finished S P n rows listed looks tally ≡ runOf b q order listed looks tally
       unfolding runOn finished selection probes
       run-finished g h =
           let e : size ≡ bytesFor (B .input .catalogue .rows) = s ∙ ap bytesFor rows-are in
           let y : bytesFor (B .input .catalogue .rows) ≤ length listed = rw (← e) g in
           let z : n * bytesFor (B .input .catalogue .rows) ≤ length looks = rw (← e) h in
-          rw (rows-are, looked-is, W .selected-ones, W .selected-bitmap, W .probes-bitmaps)
+          rw (rows-are, W .selected-bitmap, W .probes-bitmaps)
           (rw (B .tabled .count, o, le-leb (bytesFor (B .input .catalogue .rows)) (length listed) y, le-leb (n * bytesFor (B .input .catalogue .rows)) (length looks) z) at on-input)
 
 pub order-is : (k n : ℕ) (order : List ℕ) (x v : Bool) → k ≡ n → x ≡ isOrder k order → x ≡ v → isOrder n order ≡ v

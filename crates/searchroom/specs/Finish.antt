@@ -2,10 +2,10 @@
 use Prim.Native.Nat.{ℕ, _*_, _≤_}
 use mathlib.Core.Bool.{cond}
 use mathlib.Core.List.{List}
-use lib.ListN.{length, take}
+use lib.ListN.{length}
 use Rattle.fields.specs.Numbers.{bytesOf}
 use Rattle.bitmaps.specs.Bitmap.{bytesFor, onesIn, putFront}
-use Rattle.bitmaps.specs.Table.{lineSize, linesOf}
+use Rattle.bitmaps.specs.Table.{linesOf}
 use Rattle.searchroom.specs.declared.word.Answer.the-variants.{Accepted}
 use Rattle.searchroom.specs.Word.{packed}
 use Rattle.searchroom.specs.Refusals.{counterRefused}
@@ -15,16 +15,13 @@ use Rattle.searchroom.specs.Run.{Ran, ran, refuse, counterSize, counterA
 abbrev pub HasRoom : (n rows : ℕ) → (listed looks : List ℕ) → Type 0
 HasRoom n rows listed looks = (bytesFor rows ≤ length listed) × (n * bytesFor rows ≤ length looks)
 
--- the ones of the first n lines
-abbrev pub lookedIn : (probes : List ℕ) → (n : ℕ) → ℕ
-lookedIn P n = onesIn (take (n * lineSize) P)
-
--- the front of each line goes out, if the counter takes the looks
-unfoldable pub finished : (selected probes : List ℕ) → (n rows : ℕ) → (listed looks tally : List ℕ) → Ran
-finished S P n rows listed looks tally =
-    cond (counterFits tally (lookedIn P n))
-    (ran (packed (Accepted (onesIn S) 0 (lookedIn P n)))
-    (putFront (linesOf (bytesFor rows) S 1) listed)
-    (putFront (linesOf (bytesFor rows) P n) looks)
-    (bytesOf counterSize (counterAfter tally (lookedIn P n))))
+-- the two tables go out, if the counter takes the looks
+abbrev pub ended : (selection probes listed looks tally : List ℕ) → Ran
+ended S P listed looks tally =
+    cond (counterFits tally (onesIn P))
+    (ran (packed (Accepted (onesIn S) 0 (onesIn P))) (putFront S listed) (putFront P looks) (bytesOf counterSize (counterAfter tally (onesIn P))))
     (refuse counterRefused listed looks tally)
+
+-- they are the front of each line of the run's own
+unfoldable pub finished : (selected probes : List ℕ) → (n rows : ℕ) → (listed looks tally : List ℕ) → Ran
+finished S P n rows listed looks tally = ended (linesOf (bytesFor rows) S 1) (linesOf (bytesFor rows) P n) listed looks tally

@@ -1,7 +1,6 @@
 // How a run ends: its own tables counted, the counter tested, and only then the lent tables written.
 use crate::refusal::Refusal;
 use crate::word::Answer;
-use bitmaps::copy::Line;
 ghost use mathlib.Core.Path.{_≡_};
 ghost use Prim.Native.Nat.{_*_, _≤_};
 ghost use lib.ListN.{length};
@@ -45,14 +44,13 @@ pub fn finish(
     if tally.len() != Counter::SIZE {
         return Answer::Refused(Refusal::COUNTER_REFUSED);
     }
-    let found = bitmaps::ones::count_ones(selected);
-    let lines = n * Line::SIZE;
-    let looked = bitmaps::ones::count_ones(&probes[..lines]);
+    let size = bitmap_size(rows);
+    let found = bitmaps::ones::count_lines(selected, 1, size);
+    let looked = bitmaps::ones::count_lines(probes, n, size);
     let before = fields::counter::eight_bytes(tally);
     if Counter::LIMIT - before < looked {
         return Answer::Refused(Refusal::COUNTER_REFUSED);
     }
-    let size = bitmap_size(rows);
     bitmaps::copy::copy_lines(selected, listed, 1, size);
     bitmaps::copy::copy_lines(probes, looks, n, size);
     fields::counter::put_eight_bytes(tally, before + looked);

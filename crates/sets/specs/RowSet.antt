@@ -5,19 +5,19 @@ use mathlib.Core.Path.{_≡_, sym, ap, _∙_}
 use mathlib.Core.Bool.{Bool, true, false, _||_}
 use mathlib.Core.List.{List, [], _∷_, _++_}
 use lib.Dec.{eqb}
-use lib.ListN.{length, getD, drop}
+use lib.ListN.{length, getD}
 use lib.Pow.{pow-mono, pow-pos}
 use Rattle.strategy.specs.Bools.{ltb-yes}
 use Rattle.strategy.specs.Assignment.{Assignment, elem}
 use Rattle.strategy.specs.Strategy.{State, predicates}
-use Rattle.strategy.specs.Trace.{due, trace}
+use Rattle.strategy.specs.Trace.{trace}
 use Rattle.strategy.specs.TraceLaws.{elem-last}
 use Rattle.strategy.specs.Order.{Order}
 use Rattle.strategy.specs.Tree.{Tree, eval, size, Numbered, NonEmpty}
 use Rattle.strategy.specs.Climb.{enclosing, climb}
 use Rattle.strategy.specs.Live.{probed}
 use Rattle.strategy.specs.Walk.{walk-start}
-use Rattle.strategy.specs.RowLaws.{Loop, loop-start, loop-end, loop-due, loop-pass, loop-probe, loop-last}
+use Rattle.strategy.specs.RowLaws.{Loop, loop-start, loop-end, loop-pass, loop-probe, loop-last}
 use Rattle.sets.specs.Set.{member, belowSet, setWithout, setWith, oneSet}
 use Rattle.sets.specs.SetLaws.{member-none, member-below, member-with}
 use Rattle.sets.specs.RunLaws.{minus-lt}
@@ -52,9 +52,6 @@ module _ (t : Tree ℕ) (a : Assignment) (order : List ℕ) (i live looked : ℕ
   row-end h = loop-end t a order i (member live) (R .made) h (R .loop)
 
   module _ (n : Numbered t 0) (lt : i < length order) where
-    pub row-due : member live (getD order i 0) ≡ due (eval t) (getD order i 0) (drop (i + 1) order) a
-    row-due = loop-due t n a order i (member live) (R .made) lt (R .loop)
-
     pub row-pass : member live (getD order i 0) ≡ false → Row t a order (i + 1) live looked
     row-pass h = record {
       made = R .made;

@@ -153,7 +153,3 @@ order-law n order = (to, from)
 
         size : length order ≡ n
         size = sym (count-of n order (O .inside)) ∙ sym (sum-occurrences n order) ∙ sum-ones n (λ c. occurrences c order) each-one
-
-pub order-length : (n : ℕ) (order : List ℕ) → isOrder n order ≡ true → length order ≡ n
-unfolding isOrder
-order-length n order h = eqb-eq (length order) n (and-parts (eqb (length order) n) (allBelow n (λ c. eqb (occurrences c order) 1)) h .0)

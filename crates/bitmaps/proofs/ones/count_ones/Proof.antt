@@ -37,7 +37,7 @@ loop-again : tie.Need-loop-again Inv-loop μ-loop
 loop-again c = (search needs, search needs, omega (arith, ones-next (c .before .before .before .before .before .args .table .now) (c .before .before .before .loop .i) (omega arith)))
 
 returns : tie.Need-returns Inv-loop μ-loop
-returns c = omega (arith, ones-end (c .before .before .before .args .table .now) (c .before .loop .i) (omega arith))
+returns c = (omega (arith, ones-end (c .before .before .before .args .table .now) (c .before .loop .i) (omega arith)), omega arith)
 
 pub count-ones-spec : {M : Type 1} → statement M
 count-ones-spec =

@@ -1,6 +1,6 @@
 -- `finish` meets its contract: refused before anything is written, or every lent table as the end of a run says.
 use native.Mathlib.Omega.{arith}
-use Rattle.searchroom.proofs.Finishing.{counts-fit, front-length, room-for, counter-size-wrong, counter-passed, counter-taken}
+use Rattle.searchroom.proofs.Finishing.{lines-few, room-for, counter-size-wrong, counter-passed, counter-taken}
 use borrow.Author.Needs.{needs}
 use Rattle.searchroom.proofs.finish.finish.Statement.{statement}
 use Rattle.searchroom.proofs.finish.finish.Tie as tie
@@ -8,17 +8,14 @@ use Rattle.searchroom.proofs.finish.finish.Tie as tie
 returns : tie.Need-returns
 returns c = (counter-size-wrong _ _ _ _ _ _ _ (c .if1 .taken), omega arith)
 
-count-ones-requires : tie.Need-count-ones-requires
-count-ones-requires c κs = search needs
+bitmap-size-requires : tie.Need-bitmap-size-requires
+bitmap-size-requires c κs = search needs
 
-mul-lines : tie.Need-mul-lines
-mul-lines c = search needs
+count-lines-requires : tie.Need-count-lines-requires
+count-lines-requires c κs = search needs
 
-slice-aggregate-count-ones : tie.Need-slice-aggregate-count-ones
-slice-aggregate-count-ones c = front-length (c .before .before .before .before .before .before .before .before .args .probes .now) (c .before .before .before .before .before .before .before .before .args .n) (omega arith) (omega arith)
-
-count-ones-requires-2 : tie.Need-count-ones-requires-2
-count-ones-requires-2 c κs = let z = front-length (c .before .before .before .before .before .before .before .before .args .probes .now) (c .before .before .before .before .before .before .before .before .args .n) (omega arith) (omega arith) in omega (arith, z)
+count-lines-requires-2 : tie.Need-count-lines-requires-2
+count-lines-requires-2 c κs = search needs
 
 eight-bytes-requires : tie.Need-eight-bytes-requires
 eight-bytes-requires c κs = search needs
@@ -30,16 +27,13 @@ same-length : tie.Need-same-length
 same-length c = search needs
 
 returns-2 : tie.Need-returns-2
-returns-2 c = (counter-passed _ _ _ _ _ _ _ (c .before .before .before .before .before .before .if1 .left) _ _ (c .before .eight-bytes .ensures) (c .before .before .before .count-ones2 .ensures) (c .if2 .taken), omega arith)
-
-bitmap-size-requires : tie.Need-bitmap-size-requires
-bitmap-size-requires c κs = search needs
+returns-2 c = (counter-passed _ _ _ _ _ _ _ _ (c .before .before .before .before .before .bitmap-size .ensures) (c .before .before .before .before .before .before .if1 .left) _ _ (c .before .eight-bytes .ensures) (c .before .before .before .count-lines2 .ensures .0) (c .if2 .taken), omega arith)
 
 copy-lines-requires : tie.Need-copy-lines-requires
 copy-lines-requires c κs = search needs
 
 copy-lines-requires-2 : tie.Need-copy-lines-requires-2
-copy-lines-requires-2 c κs = (omega arith, omega arith, room-for (c .before .before .before .before .before .before .before .before .before .before .before .before .before .before .before .before .before .before .args .n) (c .before .before .before .before .before .bitmap-size .result) (c .before .before .before .before .before .before .before .before .before .before .before .before .before .before .before .before .before .before .args .rows) (c .before .before .before .before .before .before .before .before .before .before .before .before .before .before .before .before .before .before .args .looks .now) (c .before .before .before .before .before .bitmap-size .ensures) (c .before .before .before .before .before .before .before .before .before .before .before .before .before .before .before .before .before .before .pre .1 .1))
+copy-lines-requires-2 c κs = (omega arith, omega arith, room-for (c .before .before .before .before .before .before .before .before .before .before .before .before .before .before .before .before .before .args .n) (c .before .before .before .before .before .before .before .before .before .before .bitmap-size .result) (c .before .before .before .before .before .before .before .before .before .before .before .before .before .before .before .before .before .args .rows) (c .before .before .before .before .before .before .before .before .before .before .before .before .before .before .before .before .before .args .looks .now) (c .before .before .before .before .before .before .before .before .before .before .bitmap-size .ensures) (c .before .before .before .before .before .before .before .before .before .before .before .before .before .before .before .before .before .pre .1 .1))
 
 add-put-eight-bytes : tie.Need-add-put-eight-bytes
 add-put-eight-bytes c = search needs
@@ -57,22 +51,20 @@ same-length-4 : tie.Need-same-length-4
 same-length-4 c = search needs
 
 returns-3 : tie.Need-returns-3
-returns-3 c = let z = counts-fit (c .before .before .before .before .before .before .before .before .before .before .before .before .before .before .before .before .before .before .before .before .before .before .before .before .before .args .selected .now) (c .before .before .before .before .before .before .before .before .before .before .before .before .before .before .before .before .before .before .before .before .before .before .before .before .before .args .probes .now) (c .before .before .before .before .before .before .before .before .before .before .before .before .before .before .before .before .before .before .before .before .before .before .before .before .before .args .n) (λ i. c .before .before .before .before .before .before .before .before .before .before .before .before .before .before .before .before .before .before .before .before .before .before .before .before .shared-slice-known .given i .fits) (λ i. c .before .before .before .before .before .before .before .before .before .before .before .before .before .before .before .before .before .before .before .before .before .before .before .shared-slice-known2 .given i .fits) (omega arith) (omega arith) (omega arith) in (counter-taken _ _ _ _ _ _ _ (c .before .before .before .before .before .before .before .before .before .before .before .before .before .before .before .before .before .before .before .if1 .left) _ _ (c .before .before .before .before .before .before .before .before .before .before .before .before .before .before .eight-bytes .ensures) (c .before .before .before .before .before .before .before .before .before .before .before .before .before .before .before .before .count-ones2 .ensures) (omega arith) (omega arith) _ _ _ _ _ (c .before .before .before .before .before .before .before .before .before .before .before .before .before .before .before .before .before .before .count-ones .ensures) (c .before .before .before .before .before .before .before .before .before .before .before .before .bitmap-size .ensures) (c .before .before .before .before .before .before .before .before .before .before .copy-lines .ensures) (c .before .before .before .before .before .before .copy-lines2 .ensures) (c .before .before .put-eight-bytes .ensures), omega (arith, z, c .before .before .before .before .before .before .before .before .before .before .before .before .before .before .before .before .before .before .count-ones .ensures, c .before .before .before .before .before .before .before .before .before .before .before .before .before .before .before .before .count-ones2 .ensures))
+returns-3 c = (counter-taken _ _ _ _ _ _ _ _ (c .before .before .before .before .before .before .before .before .before .before .before .before .before .before .before .before .before .bitmap-size .ensures) (c .before .before .before .before .before .before .before .before .before .before .before .before .before .before .before .before .before .before .if1 .left) _ _ (c .before .before .before .before .before .before .before .before .before .before .before .before .before .eight-bytes .ensures) (c .before .before .before .before .before .before .before .before .before .before .before .before .before .before .before .count-lines2 .ensures .0) (omega arith) (omega arith) _ _ _ _ (c .before .before .before .before .before .before .before .before .before .before .before .before .before .before .before .before .count-lines .ensures .0) (c .before .before .before .before .before .before .before .before .before .before .copy-lines .ensures) (c .before .before .before .before .before .before .copy-lines2 .ensures) (c .before .before .put-eight-bytes .ensures), omega (arith, c .before .before .before .before .before .before .before .before .before .before .before .before .before .before .before .before .count-lines .ensures .1, c .before .before .before .before .before .before .before .before .before .before .before .before .before .before .before .count-lines2 .ensures .1, lines-few (c .before .before .before .before .before .before .before .before .before .before .before .before .before .before .before .before .before .before .before .before .before .before .before .before .args .n) (c .before .before .before .before .before .before .before .before .before .before .before .before .before .before .before .before .before .bitmap-size .result) (omega arith) (omega arith)))
 
 pub finish-spec : {M : Type 1} → statement M
 finish-spec =
     tie.close
     (tie.spec
     returns
-    count-ones-requires
-    mul-lines
-    slice-aggregate-count-ones
-    count-ones-requires-2
+    bitmap-size-requires
+    count-lines-requires
+    count-lines-requires-2
     eight-bytes-requires
     sub-if2
     same-length
     returns-2
-    bitmap-size-requires
     copy-lines-requires
     copy-lines-requires-2
     add-put-eight-bytes

@@ -1,0 +1,73 @@
+-- `count_lines` meets its contract. Invariant: the sum is the ones of the lines passed.
+use Prim.Native.Nat.{_+_, _-_, _*_, _≤_}
+use native.Mathlib.Omega.{arith}
+use mathlib.Core.Path.{_≡_, refl}
+use Rattle.bitmaps.specs.Sums.{joined}
+use Rattle.bitmaps.specs.Bitmap.{onesIn}
+use Rattle.bitmaps.specs.Table.{lineSize, linesOf}
+use Rattle.bitmaps.proofs.Lines.{line-fits, count-line, part-short, part-small, lines-next, lines-small}
+use borrow.Author.Needs.{needs}
+use Rattle.bitmaps.proofs.ones.count_lines.Statement.{statement}
+use Rattle.bitmaps.proofs.ones.count_lines.Tie as tie
+
+abbrev Inv-loop : tie.InvT-loop
+Inv-loop table n size sum₀ c₀ line₀ sum c line = (c ≤ n) × (line ≡ c * lineSize) × (sum ≡ onesIn (linesOf size table c)) × (sum ≤ 8 * (c * size))
+
+abbrev μ-loop : tie.MeasureT-loop
+μ-loop table n size sum₀ c₀ line₀ sum c line = n - c
+
+loop-holds : tie.Need-loop-holds Inv-loop μ-loop
+unfolding linesOf joined onesIn
+loop-holds c = (omega arith, omega arith, refl, omega arith)
+
+add-next : tie.Need-add-next Inv-loop μ-loop
+add-next c = omega (arith, line-fits lineSize (c .before .before .before .args .n) (c .before .loop .c) (omega arith))
+
+sub-count-ones : tie.Need-sub-count-ones Inv-loop μ-loop
+sub-count-ones c = search needs
+
+part-count-ones-start : tie.Need-part-count-ones-start Inv-loop μ-loop
+part-count-ones-start c = search needs
+
+part-count-ones-end : tie.Need-part-count-ones-end Inv-loop μ-loop
+part-count-ones-end c = omega (arith, line-fits lineSize (c .before .before .before .args .n) (c .before .loop .c) (omega arith))
+
+count-ones-requires : tie.Need-count-ones-requires Inv-loop μ-loop
+count-ones-requires c κs = part-small (c .before .before .before .before .args .size) (c .before .before .before .before .args .table .now) (c .before .before .loop .c) (c .before .before .loop .line) (c .before .before .loop .line + c .before .before .before .before .args .size) (c .before .before .loop .inv .1) refl (c .before .before .before .before .pre .2)
+
+add-sum : tie.Need-add-sum Inv-loop μ-loop
+add-sum c = omega (arith, part-short (c .before .before .before .before .before .args .size) (c .before .before .before .before .before .args .table .now) (c .before .before .before .loop .c) (c .before .before .before .loop .line) (c .before .before .before .loop .line + c .before .before .before .before .before .args .size) (c .before .before .before .loop .inv .1) refl, lines-next (c .before .before .before .loop .c) (c .before .before .before .before .before .args .size), line-fits (c .before .before .before .before .before .args .size) (c .before .before .before .before .before .args .n) (c .before .before .before .loop .c) (omega arith), lines-small (c .before .before .before .before .before .args .size) (c .before .before .before .before .before .args .n) (c .before .before .before .before .before .pre .0))
+
+add-c : tie.Need-add-c Inv-loop μ-loop
+add-c c = search needs
+
+add-line : tie.Need-add-line Inv-loop μ-loop
+add-line c = search needs
+
+loop-less : tie.Need-loop-less Inv-loop μ-loop
+loop-less c = search needs
+
+loop-again : tie.Need-loop-again Inv-loop μ-loop
+loop-again c = (omega arith, omega arith, count-line (c .before .before .before .before .before .args .size) (c .before .before .before .before .before .args .table .now) (c .before .before .before .loop .c) (c .before .before .before .loop .line) (c .before .before .before .loop .line + c .before .before .before .before .before .args .size) (c .before .before .before .loop .inv .1) refl _ _ (c .before .before .before .loop .inv .2) (c .count-ones .ensures .0), omega (arith, part-short (c .before .before .before .before .before .args .size) (c .before .before .before .before .before .args .table .now) (c .before .before .before .loop .c) (c .before .before .before .loop .line) (c .before .before .before .loop .line + c .before .before .before .before .before .args .size) (c .before .before .before .loop .inv .1) refl, lines-next (c .before .before .before .loop .c) (c .before .before .before .before .before .args .size)))
+
+returns : tie.Need-returns Inv-loop μ-loop
+returns c = let e : c .before .loop .c ≡ c .before .before .before .args .n = omega arith in rw (← e) (c .before .loop .inv .2, c .before .loop .inv .3)
+
+pub count-lines-spec : {M : Type 1} → statement M
+count-lines-spec =
+    tie.close
+    (tie.spec
+    Inv-loop
+    μ-loop
+    loop-holds
+    add-next
+    sub-count-ones
+    part-count-ones-start
+    part-count-ones-end
+    count-ones-requires
+    add-sum
+    add-c
+    add-line
+    loop-less
+    loop-again
+    returns)
