@@ -38,7 +38,7 @@ fn record_of(q: &[u8], start: usize, end: usize) -> Predicate
 }
 
 // The record of predicate c.
-fn record_at(q: &[u8], places: &[usize], c: usize) -> Predicate
+pub fn record_at(q: &[u8], places: &[usize], c: usize) -> Predicate
     requires { ⌜ HasRecord (now q) (now places) c ⌝ }
     ensures { λ r. ⌜ r ≡ recordAt (now (q .entry)) (now (places .entry)) c ⌝ }
 {

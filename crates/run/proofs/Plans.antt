@@ -18,7 +18,7 @@ use Rattle.predicate.specs.Outcome.{HasRange, OutcomeIs}
 use Rattle.strategy.specs.Bools.{same?}
 use Rattle.query.specs.declared.table.Predicate.{Predicate}
 use Rattle.query.specs.Format.{predicateLimit}
-use Rattle.run.specs.Plan.{Access, accessWidth, planSize, accessAt, accessOf, PutAccess, Planned}
+use Rattle.run.specs.Plan.{Access, accessWidth, planSize, accessAt, accessOf, HasColumn, PutAccess, Planned}
 use Rattle.run.specs.Ready.{HasOutcome, AnswerIs, TruthIs}
 
 -- the five stores of an access
@@ -116,6 +116,14 @@ planned-more tags starts R P P′ n p h c l = go (same? c n)
     go : (c ≡ n) ⊎ (c ≡ n → ⊥) → accessAt P′ c ≡ accessOf tags starts (R c)
     go (inl e) = rw (e, p .here)
     go (inr e) = p .elsewhere c e ∙ h c (omega (arith, e))
+
+-- a record that was read is the predicate's own
+module _ (tags starts : List ℕ) (r r′ : Predicate) (e : r ≡ r′) where
+  pub record-column : HasColumn tags starts r′ → HasColumn tags starts r
+  record-column h = rw e h
+
+  pub record-put : (P P′ : List ℕ) (c : ℕ) → PutAccess c (accessOf tags starts r) P P′ → accessAt P′ c ≡ accessOf tags starts r′
+  record-put P P′ c p = rw (← e) (p .here)
 
 -- how far the loop over the predicates is: the list has the accesses of the first `count` of n
 pub record Stage (tags starts : List ℕ) (R : ℕ → Predicate) (n : ℕ) : Type 0 where

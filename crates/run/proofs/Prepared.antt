@@ -62,9 +62,9 @@ module _ (b q tags : List ℕ) (l : Layout) (C : Catalogue) (Q : Query) (n : ℕ
         ap (λ ps. getD ps c (record { column = 0; kind = 0; operand = []; place = 0 })) (sym (read .shown))
         ∙ listed-at q (T .places) n c (record { column = 0; kind = 0; operand = []; place = 0 }) k
 
-  -- the plan shows each predicate
-  pub planned-accessed : (P : List ℕ) → Planned (l .tags) (l .starts) (recordAt q (T .places)) P n → (c : ℕ) → c < n → Accessed b q C (predicateAt Q c) (accessAt P c)
-  planned-accessed P p c k = rw (p c k, predicate-is c k) (planned c k)
+  -- a predicate that is planned is shown
+  pub planned-accessed : (P : List ℕ) (c : ℕ) → c < n → accessAt P c ≡ accessOf (l .tags) (l .starts) (recordAt q (T .places) c) → Accessed b q C (predicateAt Q c) (accessAt P c)
+  planned-accessed P c k e = rw (e, predicate-is c k) (planned c k)
 
   -- A RUN IS READY
   pub ready : (F order P : List ℕ) → Folds F → isOrder n order ≡ true → length P ≡ planSize → Planned (l .tags) (l .starts) (recordAt q (T .places)) P n
@@ -76,7 +76,7 @@ module _ (b q tags : List ℕ) (l : Layout) (C : Catalogue) (Q : Query) (n : ℕ
     few = read .few;
     ordered = o;
     plan-size = s;
-    accessed = planned-accessed P p;
+    accessed = λ c k. planned-accessed P c k (p c k);
     ladders-size = read .sized .ladders;
     low = read .low;
     ladders = read .ladders;

@@ -7,7 +7,7 @@ ghost use lib.ListN.{length};
 ghost use Rattle.predicate.specs.Outcome.{Folds};
 ghost use Rattle.query.specs.Format.{predicateLimit};
 ghost use Rattle.query.specs.Places.{Located};
-ghost use Rattle.query.specs.Table.{recordAt, recordIn};
+ghost use Rattle.query.specs.Table.{recordAt, HasRecord, recordIn};
 ghost use Rattle.run.specs.Plan.{planSize, accessAt, accessOf, HasColumn, HaveColumns, PutAccess, Planned};
 ghost use Rattle.run.specs.Ready.{HasOutcome, AnswerIs, TruthIs};
 
@@ -31,6 +31,22 @@ fn put_access(tags: &[u8], starts: &[usize], r: Predicate, c: usize, plan: &mut 
     plan[i + 2] = fields::number::widen(r.kind);
     plan[i + 3] = r.place;
     plan[i + 4] = r.len;
+}
+
+// Plans predicate c alone, whose field is at its place in the query.
+pub fn plan_predicate(
+    tags: &[u8],
+    starts: &[usize],
+    q: &[u8],
+    places: &[usize],
+    c: usize,
+    plan: &mut [usize],
+)
+    requires { ⌜ HasRecord (now q) (now places) c × (length (now plan) ≡ planSize) × HasColumn (now tags) (now starts) (recordAt (now q) (now places) c) ⌝ }
+    ensures { λ _. ⌜ accessAt (now (plan .exit)) c ≡ accessOf (now (tags .entry)) (now (starts .entry)) (recordAt (now (q .entry)) (now (places .entry)) c) ⌝ }
+{
+    let r = query::table::record_at(q, places, c);
+    put_access(tags, starts, r, c, plan);
 }
 
 // Plans the first n predicates of the table, over columns with these tags and starts.

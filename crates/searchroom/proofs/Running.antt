@@ -18,7 +18,7 @@ use Rattle.query.specs.Query.{Query}
 use Rattle.query.specs.Table.{recordAt}
 use Rattle.query.specs.Ladder.{Tables}
 use Rattle.run.specs.Run.{predicateAt}
-use Rattle.run.specs.Plan.{planSize, accessAt, HaveColumns, Planned}
+use Rattle.run.specs.Plan.{planSize, accessAt, accessOf, HaveColumns, Planned}
 use Rattle.run.specs.Ready.{Accessed, Ready, RowsReady}
 use Rattle.run.specs.Worked.{Worked, RowsWorked}
 use Rattle.run.proofs.Prepared.{have-columns, planned-accessed, ready}
@@ -99,9 +99,9 @@ module _ (b q tags starts : List ℕ) (n rows : ℕ) (T : Tables) (G : BegunWith
   pub begun-columns : HaveColumns tags starts (recordAt q (T .places)) n
   begun-columns = rw (G .2, G .3) (have-columns b q (tagsOf C) (G .0) C Q n T (G .1 .laid) (tags-length (C .columns)) (G .1 .tabled) (G .1 .laid .6) (G .1 .laid .7))
 
-  pub begun-accessed : (P : List ℕ) → Planned tags starts (recordAt q (T .places)) P n → (c : ℕ) → c < n → Accessed b q C (predicateAt Q c) (accessAt P c)
-  begun-accessed P p c k =
-      planned-accessed b q (tagsOf C) (G .0) C Q n T (G .1 .laid) (tags-length (C .columns)) (G .1 .tabled) P (rw (G .2, G .3) at p) c k
+  pub begun-accessed : (P : List ℕ) (c : ℕ) → c < n → accessAt P c ≡ accessOf tags starts (recordAt q (T .places) c) → Accessed b q C (predicateAt Q c) (accessAt P c)
+  begun-accessed P c k e =
+      planned-accessed b q (tagsOf C) (G .0) C Q n T (G .1 .laid) (tags-length (C .columns)) (G .1 .tabled) P c k (rw (G .2, G .3) at e)
 
   module _ (F order P : List ℕ) (k : ℕ) (same : k ≡ n) (folds : Folds F) (o : isOrder n order ≡ true) (size : length P ≡ planSize)
       (planned : Planned tags starts (recordAt q (T .places)) P n) where

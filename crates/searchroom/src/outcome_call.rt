@@ -40,7 +40,14 @@ fn outcome_accepted(
         return Answer::Refused(Refusal::NO_SUCH_PLACE);
     }
     let mut plan = [0usize; Plan::TABLE];
-    run::plan::fill_plan(tags, starts, question, places, n, &mut plan);
+    run::plan::plan_predicate(
+        tags,
+        starts,
+        question,
+        places,
+        condition as usize,
+        &mut plan,
+    );
     let fold = predicate::fold::fold_table();
     let answer = run::plan::answer_of(
         &fold,
