@@ -21,6 +21,8 @@ pub struct Number;
 
 impl Number {
     pub const SIZE: usize = 4;
+
+    pub const BLANK: u32 = 4294967295;
 }
 
 pub struct Text;

@@ -5,17 +5,10 @@ ghost use mathlib.Core.Path.{_≡_};
 ghost use Rattle.predicate.specs.Meaning.{inRange, numberTest};
 ghost use Rattle.predicate.specs.Outcome.{HasRange};
 
-pub struct Blank;
-
-impl Blank {
-    // The number that means blank.
-    pub const NUMBER: u32 = 4294967295;
-}
-
 pub fn in_range(low: u32, high: u32, n: u32) -> bool
     ensures { λ r. ⌜ r ≡ inRange low high n ⌝ }
 {
-    if n == Blank::NUMBER {
+    if n == Number::BLANK {
         return false;
     }
     low <= n && n <= high
@@ -32,7 +25,7 @@ pub fn number_test(kind: u8, operand: &[u8], n: u32) -> bool
         return in_range(low, high, n);
     }
     if kind == Kind::NUMBER_BLANK {
-        return n == Blank::NUMBER;
+        return n == Number::BLANK;
     }
     false
 }

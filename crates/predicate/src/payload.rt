@@ -1,6 +1,5 @@
 // The check of one condition's payload: column byte, kind byte, operand.
 use crate::kind::Kind;
-use crate::number::Blank;
 use catalogue::format::Column;
 use catalogue::format::Number;
 use catalogue::format::Text;
@@ -34,7 +33,7 @@ fn range_fits(operand: &[u8]) -> bool
     }
     let low = fields::number::four_bytes(operand, 0);
     let high = fields::number::four_bytes(operand, Number::SIZE);
-    low <= high && high < Blank::NUMBER
+    low <= high && high < Number::BLANK
 }
 
 // Whether an operand has the length and the range that its kind asks.
