@@ -8,7 +8,8 @@ use lib.ListN.{length, getD, take, drop, length-drop}
 use lib.Seq.{take-all}
 use lib.Dec.{ltb, leb}
 use borrow.Author.Tests.{lt-ltb, le-leb, le-ltb, lt-leb, eq-eqb, ltb-true, leb-true, eqb-true}
-use Rattle.catalogue.specs.Catalogue.{Catalogue, Column, numbers}
+use Rattle.catalogue.specs.Catalogue.{Catalogue, Column, numbers, texts}
+use Rattle.catalogue.specs.Layout.{Shows}
 use Rattle.predicate.specs.Kinds.{plainKind}
 use Rattle.predicate.specs.Outcome.{HasRange}
 use Rattle.predicate.specs.Payload.{tagOf, tagsIn, tagsOf, payloadHead, columnByte, kindByte, operandOf, kindFits, rangeFits, operandFits, validPayload, predicateOf, Fits}
@@ -79,6 +80,15 @@ unfolding tagsIn
 tags-at [] k other h = absurd (omega arith)
 tags-at (c ∷ cs) zero other h = refl
 tags-at (c ∷ cs) (suc k) other h = tags-at cs k other (omega arith)
+
+-- a column that the bytes show has its tag there
+pub shown-tag : (b : List ℕ) (rows tag start : ℕ) (c : Column) → Shows b rows tag start c → tag ≡ tagOf c
+shown-tag b rows tag start (numbers ns) s = s .0
+shown-tag b rows tag start (texts ts) s = s .0
+
+pub tag-small : (c : Column) → tagOf c < 256
+tag-small (numbers ns) = omega arith
+tag-small (texts ts) = omega arith
 
 pub valid-fits : (c : Catalogue) (place : ℕ) (payload : List ℕ) → validPayload (tagsOf c) payload ≡ true → Fits c (predicateOf place payload)
 valid-fits c place payload h =

@@ -8,11 +8,11 @@ use lib.ListN.{length, getD}
 use Rattle.fields.specs.Decoded.{accepted}
 use Rattle.catalogue.specs.declared.layout.Layout.{Layout}
 use Rattle.catalogue.specs.Format.{columnLimit}
-use Rattle.catalogue.specs.Catalogue.{Catalogue, Column, numbers, texts}
+use Rattle.catalogue.specs.Catalogue.{Catalogue, numbers}
 use Rattle.catalogue.specs.Layout.{Shows, LaidOut}
 use Rattle.catalogue.proofs.Columns.{column-shown}
 use Rattle.predicate.specs.Outcome.{Folds}
-use Rattle.predicate.proofs.PayloadLaws.{valid-payload}
+use Rattle.predicate.proofs.PayloadLaws.{valid-payload, shown-tag, tag-small}
 use Rattle.strategy.specs.Order.{isOrder}
 use Rattle.query.specs.declared.table.Predicate.{Predicate}
 use Rattle.query.specs.Query.{Query}
@@ -24,10 +24,6 @@ use Rattle.query.proofs.Records.{listed-at}
 use Rattle.run.specs.Run.{predicateAt}
 use Rattle.run.specs.Plan.{planSize, accessAt, accessOf, HaveColumns, Planned}
 use Rattle.run.specs.Ready.{Accessed, Ready}
-
-shown-tag : (b : List ℕ) (rows tag start : ℕ) (col : Column) → Shows b rows tag start col → tag < 256
-shown-tag b rows tag start (numbers ns) s = omega (arith, s .0)
-shown-tag b rows tag start (texts ts) s = omega (arith, s .0)
 
 -- the tags are those of the columns that the query was read against
 module _ (b q tags : List ℕ) (l : Layout) (C : Catalogue) (Q : Query) (n : ℕ) (T : Tables)
@@ -49,7 +45,7 @@ module _ (b q tags : List ℕ) (l : Layout) (C : Catalogue) (Q : Query) (n : ℕ
     planned : Accessed b q C (predicateIn q r) (accessOf (l .tags) (l .starts) r)
     planned = record {
       shown = shown;
-      tag-byte = shown-tag b (C .rows) (getD (l .tags) (r .column) 0) (getD (l .starts) (r .column) 0) (getD (C .columns) (r .column) (numbers [])) shown;
+      tag-byte = omega (arith, shown-tag b (C .rows) (getD (l .tags) (r .column) 0) (getD (l .starts) (r .column) 0) (getD (C .columns) (r .column) (numbers [])) shown, tag-small (getD (C .columns) (r .column) (numbers [])));
       kind = refl;
       kind-byte = read .each c k .kind;
       operand = refl;

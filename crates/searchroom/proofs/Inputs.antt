@@ -6,13 +6,13 @@ use mathlib.Core.List.{List, []}
 use lib.ListN.{length, getD, take, length-take}
 use lib.Seq.{ext-getD, getD-take}
 use Rattle.fields.specs.Decoded.{Decoded, refused, accepted}
-use Rattle.catalogue.specs.Catalogue.{Column, numbers, texts, Catalogue}
+use Rattle.catalogue.specs.Catalogue.{numbers, Catalogue}
 use Rattle.catalogue.specs.declared.layout.Layout.{Layout}
-use Rattle.catalogue.specs.Layout.{Shows, LaidOut}
+use Rattle.catalogue.specs.Layout.{LaidOut}
 use Rattle.catalogue.specs.Decode.{decodeCatalogue}
 use Rattle.catalogue.proofs.Columns.{column-shown}
-use Rattle.predicate.specs.Payload.{tagOf, tagsOf}
-use Rattle.predicate.proofs.PayloadLaws.{tags-length, tags-at}
+use Rattle.predicate.specs.Payload.{tagsOf}
+use Rattle.predicate.proofs.PayloadLaws.{tags-length, tags-at, shown-tag}
 use Rattle.query.specs.declared.whole.Reading.{Reading}
 use Rattle.query.specs.declared.whole.Reading.the-variants as reading
 use Rattle.query.specs.Query.{Query}
@@ -21,10 +21,6 @@ use Rattle.query.specs.Decode.{decodeTagged, decodeQuery}
 use Rattle.query.specs.Handed.{Handed}
 use Rattle.searchroom.specs.Input.{withQuery, thenQuestion, decodeInput}
 use Rattle.searchroom.specs.Begun.{Begun}
-
-shown-tag : (b : List ℕ) (rows tag start : ℕ) (c : Column) → Shows b rows tag start c → tag ≡ tagOf c
-shown-tag b rows tag start (numbers ns) s = s .0
-shown-tag b rows tag start (texts ts) s = s .0
 
 -- the first tags of the layout are those of the catalogue's columns
 laid-tags : (b : List ℕ) (l : Layout) (C : Catalogue) → LaidOut b l (accepted C) → take (l .columns) (l .tags) ≡ tagsOf C
