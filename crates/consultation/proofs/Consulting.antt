@@ -28,7 +28,7 @@ pub laid-few : (b : List ℕ) (l : Layout) (d : Decoded Catalogue) → LaidOut b
 laid-few b l (refused e) h = omega arith
 laid-few b l (accepted c) h = omega arith
 
-pub has-room : (rows n a b o : ℕ) → rows ≤ rowLimit → n ≤ predicateLimit → a ≡ listedSize → b ≡ looksSize → longest ≤ o
+pub has-room : (rows n a b o : ℕ) → rows ≤ rowLimit → n ≤ predicateLimit → listedSize ≤ a → looksSize ≤ b → longest ≤ o
     → (bytesFor rows ≤ a) × (n * bytesFor rows ≤ b) × (roomFor rows n ≤ o)
 has-room rows n a b o h l e f g = (omega arith, omega (arith, mul-le-mul-right (bytesFor rows) l), omega arith)
 

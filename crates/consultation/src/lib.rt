@@ -32,11 +32,12 @@ pub fn write_consultation(catalogue: &[u8], question: &[u8], order: &[u8], out: 
         &mut tally,
     );
     let layout = catalogue::layout::lay_out(catalogue);
+    let rows = layout.rows;
     register::text::write_register(
         searchroom::word::number_in(word),
         searchroom::word::first_in(word),
         searchroom::word::third_in(word),
-        layout.rows,
+        rows,
         order.len(),
         &listed,
         &looks,
