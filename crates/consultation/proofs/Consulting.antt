@@ -1,5 +1,5 @@
 -- The register of a run, with as many conditions as the order has bytes, fits the output and is the definition's.
-use Prim.Native.Nat.{ℕ, zero, suc, _*_, _/_, _%_, _^_, _≤_}
+use Prim.Native.Nat.{ℕ, zero, suc, _*_, _≤_}
 use native.Mathlib.Nat.{mul-le-mul-right}
 use native.Mathlib.Omega.{arith}
 use mathlib.Core.Path.{_≡_, sym, ap, ap₂, _∙_}
@@ -14,6 +14,7 @@ use Rattle.catalogue.specs.declared.layout.Layout.{Layout}
 use Rattle.catalogue.specs.Layout.{LaidOut}
 use Rattle.query.specs.Format.{predicateLimit}
 use Rattle.bitmaps.specs.Bitmap.{bytesFor}
+use Rattle.searchroom.specs.Word.{numberIn, firstIn, thirdIn}
 use Rattle.searchroom.specs.Input.{Input}
 use Rattle.searchroom.specs.Run.{Ran, ran, rowCount, predicateCount, foundCount, lookCount, counterSize}
 use Rattle.searchroom.specs.Demands.{Lent, Reads, Kept, FirstBroken, badForm, badOrder, badTables, badTally}
@@ -21,26 +22,25 @@ use Rattle.searchroom.proofs.DemandLaws.{reads-input, broken-input}
 use Rattle.searchroom.proofs.DemandRuns.{Cases, run-cases, kept-gives, broken-gives, broken-number}
 use Rattle.register.specs.Register as register
 use Rattle.register.specs.Writing.{roomFor}
-use Rattle.consultation.specs.Consultation.{listedSize, looksSize, consultationRun, registerAfter, consultationOf, longest}
+use Rattle.consultation.specs.Consultation.{listedSize, looksSize, consultationRun, registerOfRun, registerAfter, consultationOf, longest}
 
 pub laid-few : (b : List ℕ) (l : Layout) (d : Decoded Catalogue) → LaidOut b l d → l .rows ≤ rowLimit
 laid-few b l (refused e) h = omega arith
 laid-few b l (accepted c) h = omega arith
 
-pub has-room : (rows n a b o : ℕ) → rows ≤ rowLimit → n ≤ predicateLimit → a ≡ listedSize → b ≡ looksSize → longest ≤ o
+pub has-room : (rows n a b o : ℕ) → rows ≤ rowLimit → n ≤ predicateLimit → listedSize ≤ a → looksSize ≤ b → longest ≤ o
     → (bytesFor rows ≤ a) × (n * bytesFor rows ≤ b) × (roomFor rows n ≤ o)
 has-room rows n a b o h l e f g = (omega arith, omega (arith, mul-le-mul-right (bytesFor rows) l), omega arith)
 
 -- a number other than 0 in the word: the register of a refusal, whatever stands beside it
-refused-text : (w rows n e : ℕ) (listed looks : List ℕ) → w % 2 ^ 8 ≡ e → 1 ≤ e → register.registerOf w rows n listed looks ≡ register.refused e
-refused-text w rows n zero listed looks z l = absurd (omega arith)
-refused-text w rows n (suc e) listed looks z l = ap (λ (k : ℕ). register.registerWith k (w / 2 ^ 8 % 2 ^ 16) (w / 2 ^ 40) rows n listed looks) z
+refused-text : (rows n e : ℕ) (r : Ran) → numberIn (r .word) ≡ e → 1 ≤ e → registerOfRun rows n r ≡ register.refused e
+refused-text rows n zero r z l = absurd (omega arith)
+refused-text rows n (suc e) r z l = rw z
 
 -- 0 in the word: the register of an accepted run, with the counts that the word holds
-accepted-text : (w rows n found look-count : ℕ) (listed looks : List ℕ) → w % 2 ^ 8 ≡ 0 → w / 2 ^ 8 % 2 ^ 16 ≡ found → w / 2 ^ 40 ≡ look-count
-    → register.registerOf w rows n listed looks ≡ register.accepted found look-count rows n listed looks
-accepted-text w rows n found look-count listed looks e f g =
-    ap (λ (k : ℕ). register.registerWith k (w / 2 ^ 8 % 2 ^ 16) (w / 2 ^ 40) rows n listed looks) e ∙ ap₂ (λ (j k : ℕ). register.accepted j k rows n listed looks) f g
+accepted-text : (rows n found look-count : ℕ) (r : Ran) → numberIn (r .word) ≡ 0 → firstIn (r .word) ≡ found → thirdIn (r .word) ≡ look-count
+    → registerOfRun rows n r ≡ register.accepted found look-count rows n (r .listed) (r .looks)
+accepted-text rows n found look-count r e f g = rw (e, f, g)
 
 module _ (b q order : List ℕ) where
   abbrev lent : Lent
@@ -50,7 +50,7 @@ module _ (b q order : List ℕ) where
   after = consultationRun b q order
 
   abbrev written : (rows n : ℕ) → List ℕ
-  written rows n = register.registerOf (after .word) rows n (after .listed) (after .looks)
+  written rows n = registerOfRun rows n after
 
   read-text : (i : Input) → Reads b q i → consultationOf b q order ≡ written (rowCount i) (predicateCount i)
   read-text i r = ap (λ (d : Decoded Input). registerAfter d after) (reads-input b q i r)
@@ -60,13 +60,13 @@ module _ (b q order : List ℕ) where
       → consultationOf b q order ≡ register.accepted (foundCount i) (lookCount i order) (rowCount i) (predicateCount i) (after .listed) (after .looks)
   kept-text i k =
       let g = kept-gives lent i k in
-      read-text i (k .forms) ∙ accepted-text (after .word) (rowCount i) (predicateCount i) (foundCount i) (lookCount i order) (after .listed) (after .looks) (g .1) (g .2) (g .4)
+      read-text i (k .forms) ∙ accepted-text (rowCount i) (predicateCount i) (foundCount i) (lookCount i order) after (g .1) (g .2) (g .4)
 
   pub broken-text : (e : ℕ) → FirstBroken lent e → consultationOf b q order ≡ register.refused e
   broken-text e x = go x
     where
       read : (i : Input) → Reads b q i → consultationOf b q order ≡ register.refused e
-      read i s = read-text i s ∙ refused-text (after .word) (rowCount i) (predicateCount i) e (after .listed) (after .looks) (broken-gives lent e x .1) (broken-number lent e x .0)
+      read i s = read-text i s ∙ refused-text (rowCount i) (predicateCount i) e after (broken-gives lent e x .1) (broken-number lent e x .0)
 
       go : FirstBroken lent e → consultationOf b q order ≡ register.refused e
       go (badForm f) = ap (λ (d : Decoded Input). registerAfter d after) (broken-input b q e f)
@@ -85,12 +85,12 @@ module _ (b q order : List ℕ) where
         go : Cases lent → written rows (length order) ≡ consultationOf b q order
         go (inl x) = ap₂ written (same-rows (x .0) (x .1 .forms)) (x .1 .order .0) ∙ sym (read-text (x .0) (x .1 .forms))
         go (inr x) =
-            refused-text (after .word) rows (length order) (x .0) (after .listed) (after .looks) (broken-gives lent (x .0) (x .1) .1) (broken-number lent (x .0) (x .1) .0)
+            refused-text rows (length order) (x .0) after (broken-gives lent (x .0) (x .1) .1) (broken-number lent (x .0) (x .1) .0)
             ∙ sym (broken-text (x .0) (x .1))
 
     pub consulted : (listed looks tally out new : List ℕ) (w n : ℕ) → ran w listed looks tally ≡ after
-        → register.Printed (register.registerOf w rows (length order) listed looks) out n new → register.Printed (consultationOf b q order) out n new
+        → register.Printed (registerOfRun rows (length order) (ran w listed looks tally)) out n new → register.Printed (consultationOf b q order) out n new
     consulted listed looks tally out new w n e h =
-        let same : register.registerOf w rows (length order) listed looks ≡ consultationOf b q order =
-        ap (λ (R : Ran). register.registerOf (R .word) rows (length order) (R .listed) (R .looks)) e ∙ written-is in
+        let same : registerOfRun rows (length order) (ran w listed looks tally) ≡ consultationOf b q order =
+        ap (registerOfRun rows (length order)) e ∙ written-is in
         rw same at h

@@ -6,6 +6,7 @@ use Rattle.fields.specs.Decoded.{Decoded, refused, accepted}
 use Rattle.catalogue.specs.Format.{rowLimit}
 use Rattle.query.specs.Format.{predicateLimit}
 use Rattle.bitmaps.specs.Bitmap.{bytesFor}
+use Rattle.searchroom.specs.Word.{numberIn, firstIn, thirdIn}
 use Rattle.searchroom.specs.Input.{Input, decodeInput}
 use Rattle.searchroom.specs.Run.{Ran, rowCount, predicateCount, counterSize, runOf}
 use Rattle.register.specs.Register as register
@@ -26,11 +27,15 @@ looksSize = predicateLimit * listedSize
 abbrev pub consultationRun : (catalogue question order : List ℕ) → Ran
 consultationRun b q order = runOf b q order (replicate listedSize 0) (replicate looksSize 0) (replicate counterSize 0)
 
+-- the register of a run: its number, its two counts, which are the first and the third result of its word, and its tables
+abbrev pub registerOfRun : (rows n : ℕ) → Ran → List ℕ
+registerOfRun rows n r = register.registerOf (numberIn (r .word)) (firstIn (r .word)) (thirdIn (r .word)) rows n (r .listed) (r .looks)
+
 -- "A refusal prints the first line and `refused r`, r its number."; an accepted run's register shows the listed among the catalogue's entries and
 -- a line for each of the question's conditions
 abbrev pub registerAfter : Decoded Input → Ran → List ℕ
 registerAfter (refused e) r = register.refused e
-registerAfter (accepted i) r = register.registerOf (r .word) (rowCount i) (predicateCount i) (r .listed) (r .looks)
+registerAfter (accepted i) r = registerOfRun (rowCount i) (predicateCount i) r
 
 -- the text for three files that can be read
 abbrev pub consultationOf : (catalogue question order : List ℕ) → List ℕ

@@ -33,7 +33,16 @@ pub fn write_consultation(catalogue: &[u8], question: &[u8], order: &[u8], out: 
     );
     let layout = catalogue::layout::lay_out(catalogue);
     let rows = layout.rows;
-    register::text::write_register(word, rows, order.len(), &listed, &looks, out)
+    register::text::write_register(
+        searchroom::word::number_in(word),
+        searchroom::word::first_in(word),
+        searchroom::word::third_in(word),
+        rows,
+        order.len(),
+        &listed,
+        &looks,
+        out,
+    )
 }
 
 // The register where a file cannot be read.
@@ -41,6 +50,5 @@ pub fn write_unreadable(out: &mut [u8]) -> usize
     requires { ⌜ longest ≤ length (now out) ⌝ }
     ensures { λ r. ⌜ Printed (refused unreadable) (now (out .entry)) r (now (out .exit)) ⌝ }
 {
-    let none = [0u8; 0];
-    register::text::write_register(Refusal::UNREADABLE, 0, 0, &none, &none, out)
+    register::text::write_refused(Refusal::UNREADABLE, out)
 }

@@ -1,5 +1,5 @@
 -- The text of document 01's register: "A parish of three entries".
-use Prim.Native.Nat.{ℕ, zero, suc, _*_, _/_, _%_, _^_}
+use Prim.Native.Nat.{ℕ, zero, suc, _*_}
 use mathlib.Core.Path.{_≡_}
 use mathlib.Core.Bool.{Bool, true, false}
 use mathlib.Core.List.{List, [], _∷_, _++_}
@@ -65,14 +65,10 @@ accepted found look-count rows n listed looks =
 unfoldable pub refused : (number : ℕ) → List ℕ
 refused number = header ++ line refusedLabel number
 
--- "Accepted is 0"
-abbrev pub registerWith : (number found look-count rows n : ℕ) (listed looks : List ℕ) → List ℕ
-registerWith zero found look-count rows n listed looks = accepted found look-count rows n listed looks
-registerWith (suc e) found look-count rows n listed looks = refused (suc e)
-
--- the register of a run, from its packed word (bits 0 to 7 the number, 8 to 23 the found count, 40 to 63 the look count) and the tables it wrote
-abbrev pub registerOf : (word rows n : ℕ) (listed looks : List ℕ) → List ℕ
-registerOf word rows n listed looks = registerWith (word % 2 ^ 8) (word / 2 ^ 8 % 2 ^ 16) (word / 2 ^ 40) rows n listed looks
+-- the register of a run, from its number and its two counts and the tables it wrote; "Accepted is 0"
+abbrev pub registerOf : (number found look-count rows n : ℕ) (listed looks : List ℕ) → List ℕ
+registerOf zero found look-count rows n listed looks = accepted found look-count rows n listed looks
+registerOf (suc e) found look-count rows n listed looks = refused (suc e)
 
 -- a text at the front of an output, which keeps its further bytes, and the text's length
 abbrev pub Printed : (text old : List ℕ) (size : ℕ) (new : List ℕ) → Type 0

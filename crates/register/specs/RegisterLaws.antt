@@ -13,7 +13,7 @@ use Rattle.bitmaps.specs.Bitmap.{bytesFor, onesIn}
 use Rattle.bitmaps.specs.Bit.{bit}
 use Rattle.register.specs.Decimal.{digitsOf, decimal}
 use Rattle.register.specs.DecimalLaws.{digits-more, digits-none, decimal-zero, decimal-more}
-use Rattle.register.specs.Register.{header, foundLabel, looksLabel, conditionLabel, refusedLabel, line, entryIf, entries, looksOf, space, conditionLine, conditions, accepted, refused, registerWith, registerOf, Printed}
+use Rattle.register.specs.Register.{header, foundLabel, looksLabel, conditionLabel, refusedLabel, line, entryIf, entries, looksOf, space, conditionLine, conditions, accepted, refused, registerOf, Printed}
 use Rattle.register.specs.Writing.{putAt, Wrote}
 
 length-more : (at : ℕ) (p q : List ℕ) → at + length p + length q ≡ at + length (p ++ q)
@@ -137,39 +137,34 @@ condition-row size c row end r count looks old new e f w =
     let z : row + size - row ≡ size = omega arith in
     rw (f, z, e) at w
 
+-- written from the first byte on
+at-front : (r : ℕ) (text old new : List ℕ) → Wrote 0 text old r new → Printed text old r new
+at-front r text old new w = (w .0 ∙ ap (λ (k : ℕ). text ++ drop k old) (zero-add (length text)), w .1 ∙ zero-add (length text))
+
 -- the whole, piece by piece
 pub accepted-end : (found look-count rows n size a b c d r : ℕ) (listed looks old o₁ o₂ o₃ o₄ new : List ℕ) → size ≡ bytesFor rows → d ≤ length old
     → Wrote 0 header old a o₁ → Wrote a (line foundLabel found) o₁ b o₂ → Wrote b (entries listed rows) o₂ c o₃ → Wrote c (line looksLabel look-count) o₃ d o₄
-    → Wrote d (conditions looks size n) o₄ r new → Wrote 0 (accepted found look-count rows n listed looks) old r new
+    → Wrote d (conditions looks size n) o₄ r new → Printed (accepted found look-count rows n listed looks) old r new
 unfolding accepted
 accepted-end found look-count rows n size a b c d r listed looks old o₁ o₂ o₃ o₄ new e l u₁ u₂ u₃ u₄ u₅ =
     let w₂ = wrote-then 0 a b header (line foundLabel found) old o₁ o₂ (omega (arith, u₂ .1, u₃ .1, u₄ .1)) u₁ u₂ in
     let w₃ = wrote-then 0 b c (header ++ line foundLabel found) (entries listed rows) old o₂ o₃ (omega (arith, u₃ .1, u₄ .1)) w₂ u₃ in
     let w₄ = wrote-then 0 c d (header ++ line foundLabel found ++ entries listed rows) (line looksLabel look-count) old o₃ o₄ (omega (arith, u₄ .1)) w₃ u₄ in
-    wrote-then 0 d r (header ++ line foundLabel found ++ entries listed rows ++ line looksLabel look-count) (conditions looks (bytesFor rows) n) old o₄ new l w₄
-    (rw e at u₅)
+    at-front r (accepted found look-count rows n listed looks) old new
+    (wrote-then 0 d r (header ++ line foundLabel found ++ entries listed rows ++ line looksLabel look-count) (conditions looks (bytesFor rows) n) old o₄ new l w₄
+    (rw e at u₅))
 
 pub refused-end : (number a r : ℕ) (old o new : List ℕ) → a ≤ length old → Wrote 0 header old a o → Wrote a (line refusedLabel number) o r new
-    → Wrote 0 (refused number) old r new
+    → Printed (refused number) old r new
 unfolding refused
-refused-end number a r old o new l u v = wrote-then 0 a r header (line refusedLabel number) old o new l u v
+refused-end number a r old o new l u v = at-front r (refused number) old new (wrote-then 0 a r header (line refusedLabel number) old o new l u v)
 
--- written from the first byte on
-at-front : (r : ℕ) (text old new : List ℕ) → Wrote 0 text old r new → Printed text old r new
-at-front r text old new w = (w .0 ∙ ap (λ (k : ℕ). text ++ drop k old) (zero-add (length text)), w .1 ∙ zero-add (length text))
+-- a number other than 0: the register of a refusal, whatever stands beside it
+pub register-refused : (number found look-count rows n : ℕ) (listed looks : List ℕ) → (number ≡ 0 → ⊥)
+    → registerOf number found look-count rows n listed looks ≡ refused number
+register-refused zero found look-count rows n listed looks ne = absurd (ne refl)
+register-refused (suc e) found look-count rows n listed looks ne = refl
 
-module _ (word rows n r : ℕ) (listed looks old new : List ℕ) where
-  pub register-refused : (number : ℕ) → number ≡ word % 256 → (number ≡ 0 → ⊥) → Wrote 0 (refused number) old r new
-      → Printed (registerOf word rows n listed looks) old r new
-  register-refused number e ne w = at-front r (registerOf word rows n listed looks) old new (wrote-same 0 r (refused number) (registerOf word rows n listed looks) old new (go (word % 256) (number) e ne) w)
-    where
-      go : (k number : ℕ) → number ≡ k → (number ≡ 0 → ⊥) → refused number ≡ registerWith k (word / 2 ^ 8 % 2 ^ 16) (word / 2 ^ 40) rows n listed looks
-      go zero number e ne = absurd (ne e)
-      go (suc k) number e ne = ap refused e
-
-  pub register-accepted : word % 256 ≡ 0 → Wrote 0 (accepted (word / 256 % 65536) (word / 1099511627776) rows n listed looks) old r new
-      → Printed (registerOf word rows n listed looks) old r new
-  register-accepted e w =
-      at-front r (registerOf word rows n listed looks) old new
-      (wrote-same 0 r (accepted (word / 256 % 65536) (word / 1099511627776) rows n listed looks) (registerOf word rows n listed looks) old new
-      (ap (λ (k : ℕ). registerWith k (word / 2 ^ 8 % 2 ^ 16) (word / 2 ^ 40) rows n listed looks) (sym e)) w)
+pub register-accepted : (number found look-count rows n : ℕ) (listed looks : List ℕ) → number ≡ 0
+    → registerOf number found look-count rows n listed looks ≡ accepted found look-count rows n listed looks
+register-accepted number found look-count rows n listed looks e = ap (λ (k : ℕ). registerOf k found look-count rows n listed looks) e

@@ -4,7 +4,7 @@ ghost use Prim.Native.Nat.{_+_, _*_, _/_, _^_, _≤_, _<_};
 ghost use lib.ListN.{length};
 ghost use Rattle.bitmaps.specs.Bitmap.{bytesFor};
 ghost use Rattle.bitmaps.specs.Bit.{bit};
-ghost use Rattle.register.specs.Register.{entryIf, entries, conditionLine, conditions, accepted, refused, registerOf, Printed};
+ghost use Rattle.register.specs.Register.{header, entryIf, entries, conditionLine, conditions, accepted, refused, registerOf, Printed};
 ghost use Rattle.register.specs.Writing.{entryRoom, conditionRoom, refusedRoom, roomFor, Wrote};
 
 fn is_listed(listed: &[u8], row: usize) -> bool
@@ -63,7 +63,14 @@ fn put_conditions(out: &mut [u8], at: usize, looks: &[u8], size: usize, n: usize
     end
 }
 
-fn put_accepted(
+fn put_header(out: &mut [u8]) -> usize
+    requires { ⌜ length header ≤ length (now out) ⌝ }
+    ensures { λ r. ⌜ Wrote 0 header (now (out .entry)) r (now (out .exit)) ⌝ }
+{
+    crate::piece::put(out, 0, b"consultation register\n")
+}
+
+fn write_accepted(
     found: u64,
     looked: u64,
     rows: usize,
@@ -73,26 +80,29 @@ fn put_accepted(
     out: &mut [u8],
 ) -> usize
     requires { ⌜ (bytesFor rows ≤ length (now listed)) × (n * bytesFor rows ≤ length (now looks)) × (roomFor rows n ≤ length (now out)) ⌝ }
-    ensures { λ r. ⌜ Wrote 0 (accepted found looked rows n (now (listed .entry)) (now (looks .entry))) (now (out .entry)) r (now (out .exit)) ⌝ }
+    ensures { λ r. ⌜ Printed (accepted found looked rows n (now (listed .entry)) (now (looks .entry))) (now (out .entry)) r (now (out .exit)) ⌝ }
 {
-    let found_line = crate::piece::put(out, 0, b"consultation register\n");
+    let found_line = put_header(out);
     let entry_lines = crate::piece::put_line(out, found_line, b"found ", found);
     let looks_line = put_entries(out, entry_lines, listed, rows);
     let condition_lines = crate::piece::put_line(out, looks_line, b"looks ", looked);
     put_conditions(out, condition_lines, looks, (rows + 7) / 8, n)
 }
 
-fn put_refused(number: u64, out: &mut [u8]) -> usize
+// The register of a refusal, to the front of the output; its length.
+pub fn write_refused(number: u64, out: &mut [u8]) -> usize
     requires { ⌜ refusedRoom ≤ length (now out) ⌝ }
-    ensures { λ r. ⌜ Wrote 0 (refused number) (now (out .entry)) r (now (out .exit)) ⌝ }
+    ensures { λ r. ⌜ Printed (refused number) (now (out .entry)) r (now (out .exit)) ⌝ }
 {
-    let next = crate::piece::put(out, 0, b"consultation register\n");
+    let next = put_header(out);
     crate::piece::put_line(out, next, b"refused ", number)
 }
 
-// The register of a run that gave `word` and wrote the two tables, to the front of the output; its length.
+// The register of a run that gave this number and these counts and wrote the two tables, to the front of the output; its length.
 pub fn write_register(
-    word: u64,
+    number: u64,
+    found: u64,
+    looked: u64,
     rows: usize,
     n: usize,
     listed: &[u8],
@@ -100,19 +110,10 @@ pub fn write_register(
     out: &mut [u8],
 ) -> usize
     requires { ⌜ (bytesFor rows ≤ length (now listed)) × (n * bytesFor rows ≤ length (now looks)) × (roomFor rows n ≤ length (now out)) ⌝ }
-    ensures { λ r. ⌜ Printed (registerOf word rows n (now (listed .entry)) (now (looks .entry))) (now (out .entry)) r (now (out .exit)) ⌝ }
+    ensures { λ r. ⌜ Printed (registerOf number found looked rows n (now (listed .entry)) (now (looks .entry))) (now (out .entry)) r (now (out .exit)) ⌝ }
 {
-    let number = word % 256;
     if number != 0 {
-        return put_refused(number, out);
+        return write_refused(number, out);
     }
-    put_accepted(
-        word / 256 % 65536,
-        word / 1099511627776,
-        rows,
-        n,
-        listed,
-        looks,
-        out,
-    )
+    write_accepted(found, looked, rows, n, listed, looks, out)
 }

@@ -1,5 +1,5 @@
 -- "An operation's results travel to it packed in one eight-byte number."
-use Prim.Native.Nat.{ℕ, _+_, _*_, _^_, _<_}
+use Prim.Native.Nat.{ℕ, _+_, _*_, _/_, _%_, _^_, _<_}
 use Rattle.searchroom.specs.declared.word.Answer.{Answer}
 use Rattle.searchroom.specs.declared.word.Answer.the-variants.{Refused, Accepted}
 
@@ -27,3 +27,13 @@ packed a = numberOf a + 2 ^ 8 * firstOf a + 2 ^ 24 * secondOf a + 2 ^ 40 * third
 -- each result has room
 abbrev pub FitsWord : Answer → Type 0
 FitsWord a = (numberOf a < 2 ^ 8) × (firstOf a < 2 ^ 16) × (secondOf a < 2 ^ 16) × (thirdOf a < 2 ^ 24)
+
+-- the results in a word, by the same bits
+abbrev pub numberIn : (word : ℕ) → ℕ
+numberIn w = w % 2 ^ 8
+
+abbrev pub firstIn : (word : ℕ) → ℕ
+firstIn w = w / 2 ^ 8 % 2 ^ 16
+
+abbrev pub thirdIn : (word : ℕ) → ℕ
+thirdIn w = w / 2 ^ 40

@@ -1,9 +1,9 @@
 -- `write_consultation` meets its contract: the run is the definition's, and so is the register of it.
 use native.Mathlib.Omega.{arith}
-use borrow.Author.Needs.{needs}
 use mathlib.Core.Path.{refl}
 use Rattle.consultation.proofs.Consulting.{laid-few, has-room, consulted}
 use Rattle.catalogue.specs.Decode.{decodeCatalogue}
+use borrow.Author.Needs.{needs}
 use Rattle.consultation.proofs.write_consultation.Statement.{statement}
 use Rattle.consultation.proofs.write_consultation.Tie as tie
 
@@ -22,6 +22,15 @@ searchroom-run-requires c κs = search needs
 lay-out-requires : tie.Need-lay-out-requires
 lay-out-requires c κs = search needs
 
+number-in-requires : tie.Need-number-in-requires
+number-in-requires c κs = search needs
+
+first-in-requires : tie.Need-first-in-requires
+first-in-requires c κs = search needs
+
+third-in-requires : tie.Need-third-in-requires
+third-in-requires c κs = search needs
+
 slice-aggregate-write-register : tie.Need-slice-aggregate-write-register
 slice-aggregate-write-register c = search needs
 
@@ -29,13 +38,13 @@ slice-aggregate-write-register-2 : tie.Need-slice-aggregate-write-register-2
 slice-aggregate-write-register-2 c = search needs
 
 write-register-requires : tie.Need-write-register-requires
-write-register-requires c κs = has-room _ _ _ _ _ (omega (arith, laid-few _ _ (decodeCatalogue (c .before .before .before .before .before .before .before .before .before .before .before .before .before .before .before .args .catalogue .now)) (c .before .before .before .lay-out .ensures))) (omega arith) (omega arith) (omega arith) (omega arith)
+write-register-requires c κs = has-room _ _ _ _ _ (omega (arith, laid-few _ _ (decodeCatalogue (c .before .before .before .before .before .before .before .before .before .before .before .before .before .before .before .before .before .before .args .catalogue .now)) (c .before .before .before .before .before .before .lay-out .ensures))) (omega arith) (omega arith) (omega arith) (omega arith)
 
 same-length : tie.Need-same-length
 same-length c = search needs
 
 returns : tie.Need-returns
-returns c = let a = c .before .before .before .before .before .before .before .before .before .before .before .before .before .before .before .before .before .before .args in consulted (a .catalogue .now) (a .question .now) (a .order .now) _ _ (c .before .before .before .before .before .before .lay-out .ensures) refl _ _ _ _ _ _ _ (c .before .before .before .before .before .before .before .before .before .before .searchroom-run .ensures) (c .before .before .write-register .ensures)
+returns c = let a = c .before .before .before .before .before .before .before .before .before .before .before .before .before .before .before .before .before .before .before .before .before .args in consulted (a .catalogue .now) (a .question .now) (a .order .now) _ _ (c .before .before .before .before .before .before .before .before .before .lay-out .ensures) refl _ _ _ _ _ _ _ (c .before .before .before .before .before .before .before .before .before .before .before .before .before .searchroom-run .ensures) (rw (c .before .before .before .before .before .before .before .before .number-in .ensures, c .before .before .before .before .before .before .before .first-in .ensures, c .before .before .before .before .before .before .third-in .ensures) at (c .before .before .write-register .ensures))
 
 pub write-consultation-spec : {M : Type 1} → statement M
 write-consultation-spec =
@@ -46,6 +55,9 @@ write-consultation-spec =
     slice-aggregate-searchroom-run-3
     searchroom-run-requires
     lay-out-requires
+    number-in-requires
+    first-in-requires
+    third-in-requires
     slice-aggregate-write-register
     slice-aggregate-write-register-2
     write-register-requires

@@ -7,8 +7,8 @@ use Rattle.searchroom.proofs.word.pack.Tie as tie
 enum-known-answer : tie.Need-enum-known-answer
 enum-known-answer c = search needs
 
-widen-requires : tie.Need-widen-requires
-widen-requires c κs = search needs
+widen64-requires : tie.Need-widen64-requires
+widen64-requires c κs = search needs
 
 enum-known-answer-2 : tie.Need-enum-known-answer-2
 enum-known-answer-2 c = search needs
@@ -29,7 +29,7 @@ add-result-2 : tie.Need-add-result-2
 add-result-2 c = let o = rw (c .before .answer2 .given .1) at (c .before .before .before .pre) in omega (arith, o)
 
 returns : tie.Need-returns
-returns c = rw (c .before .before .answer .given .1) (omega (arith, c .widen .ensures))
+returns c = rw (c .before .before .answer .given .1) (omega (arith, c .widen64 .ensures))
 
 returns-2 : tie.Need-returns-2
 returns-2 c = rw (c .before .answer2 .given .1) (omega arith)
@@ -39,7 +39,7 @@ pack-spec =
     tie.close
     (tie.spec
     enum-known-answer
-    widen-requires
+    widen64-requires
     enum-known-answer-2
     mul-result
     mul-result-2

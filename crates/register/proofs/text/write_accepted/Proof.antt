@@ -1,0 +1,52 @@
+-- `write_accepted` meets its contract: the five parts, one behind the other.
+use native.Mathlib.Omega.{arith}
+use borrow.Author.Needs.{needs}
+use mathlib.Core.Path.{refl}
+use Rattle.register.specs.RegisterLaws.{accepted-end}
+use Rattle.register.proofs.text.write_accepted.Statement.{statement}
+use Rattle.register.proofs.text.write_accepted.Tie as tie
+
+put-header-requires : tie.Need-put-header-requires
+put-header-requires c κs = search needs
+
+slice-aggregate-put-line : tie.Need-slice-aggregate-put-line
+slice-aggregate-put-line c = search needs
+
+put-line-requires : tie.Need-put-line-requires
+put-line-requires c κs = search needs
+
+put-entries-requires : tie.Need-put-entries-requires
+put-entries-requires c κs = search needs
+
+slice-aggregate-put-line-2 : tie.Need-slice-aggregate-put-line-2
+slice-aggregate-put-line-2 c = search needs
+
+put-line-requires-2 : tie.Need-put-line-requires-2
+put-line-requires-2 c κs = search needs
+
+add-put-conditions : tie.Need-add-put-conditions
+add-put-conditions c = search needs
+
+put-conditions-requires : tie.Need-put-conditions-requires
+put-conditions-requires c κs = search needs
+
+same-length : tie.Need-same-length
+same-length c = search needs
+
+returns : tie.Need-returns
+returns c = accepted-end _ _ _ _ _ _ _ _ _ _ _ _ _ _ _ _ _ _ refl (omega arith) (c .before .before .before .before .before .before .before .before .before .before .before .before .before .before .before .before .before .before .before .before .put-header .ensures) (c .before .before .before .before .before .before .before .before .before .before .before .before .before .before .before .put-line .ensures .0) (c .before .before .before .before .before .before .before .before .before .before .before .put-entries .ensures .0) (c .before .before .before .before .before .before .put-line2 .ensures .0) (c .before .before .put-conditions .ensures .0)
+
+pub write-accepted-spec : {M : Type 1} → statement M
+write-accepted-spec =
+    tie.close
+    (tie.spec
+    put-header-requires
+    slice-aggregate-put-line
+    put-line-requires
+    put-entries-requires
+    slice-aggregate-put-line-2
+    put-line-requires-2
+    add-put-conditions
+    put-conditions-requires
+    same-length
+    returns)
