@@ -2,3 +2,4 @@
 pub mod copy;
 pub mod mark;
 pub mod ones;
+pub mod size;

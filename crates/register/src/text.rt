@@ -86,7 +86,13 @@ fn write_accepted(
     let entry_lines = crate::piece::put_line(out, found_line, b"found ", found);
     let looks_line = put_entries(out, entry_lines, listed, rows);
     let condition_lines = crate::piece::put_line(out, looks_line, b"looks ", looked);
-    put_conditions(out, condition_lines, looks, (rows + 7) / 8, n)
+    put_conditions(
+        out,
+        condition_lines,
+        looks,
+        bitmaps::size::bytes_for(rows),
+        n,
+    )
 }
 
 // The register of a refusal, to the front of the output; its length.

@@ -6,7 +6,6 @@ ghost use Prim.Native.Nat.{_*_, _≤_};
 ghost use lib.ListN.{length};
 ghost use Rattle.catalogue.specs.Format.{rowLimit};
 ghost use Rattle.query.specs.Format.{predicateLimit};
-ghost use Rattle.bitmaps.specs.Bitmap.{bytesFor};
 ghost use Rattle.bitmaps.specs.Table.{lineSize};
 ghost use Rattle.searchroom.specs.Word.{packed, FitsWord};
 ghost use Rattle.searchroom.specs.Run.{ran};
@@ -18,14 +17,6 @@ impl Counter {
     pub const SIZE: usize = 8;
 
     pub const LIMIT: u64 = 0xffff_ffff_ffff_ffff;
-}
-
-// Document 01's ceiling(E / 8).
-pub fn bitmap_size(rows: usize) -> usize
-    requires { ⌜ rows ≤ rowLimit ⌝ }
-    ensures { λ r. ⌜ r ≡ bytesFor rows ⌝ }
-{
-    (rows + 7) / 8
 }
 
 pub fn finish(
@@ -44,7 +35,7 @@ pub fn finish(
     if tally.len() != Counter::SIZE {
         return Answer::Refused(Refusal::COUNTER_REFUSED);
     }
-    let size = bitmap_size(rows);
+    let size = bitmaps::size::bytes_for(rows);
     let found = bitmaps::ones::count_lines(selected, 1, size);
     let looked = bitmaps::ones::count_lines(probes, n, size);
     let before = fields::counter::eight_bytes(tally);

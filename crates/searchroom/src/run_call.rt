@@ -37,7 +37,7 @@ fn run_accepted(
     if !sets::is_order(order, count) {
         return Answer::Refused(Refusal::NOT_ORDER);
     }
-    let size = crate::finish::bitmap_size(rows);
+    let size = bitmaps::size::bytes_for(rows);
     if listed.len() < size {
         return Answer::Refused(Refusal::TABLE_TOO_SHORT);
     }

@@ -1,8 +1,7 @@
 -- `write_accepted` meets its contract: the five parts, one behind the other.
 use native.Mathlib.Omega.{arith}
-use borrow.Author.Needs.{needs}
-use mathlib.Core.Path.{refl}
 use Rattle.register.specs.RegisterLaws.{accepted-end}
+use borrow.Author.Needs.{needs}
 use Rattle.register.proofs.text.write_accepted.Statement.{statement}
 use Rattle.register.proofs.text.write_accepted.Tie as tie
 
@@ -24,17 +23,17 @@ slice-aggregate-put-line-2 c = search needs
 put-line-requires-2 : tie.Need-put-line-requires-2
 put-line-requires-2 c κs = search needs
 
-add-put-conditions : tie.Need-add-put-conditions
-add-put-conditions c = search needs
+bytes-for-requires : tie.Need-bytes-for-requires
+bytes-for-requires c κs = search needs
 
 put-conditions-requires : tie.Need-put-conditions-requires
-put-conditions-requires c κs = search needs
+put-conditions-requires c κs = (omega arith, rw (c .bytes-for .ensures) (c .before .before .before .before .before .before .before .before .before .before .before .before .before .before .before .before .before .before .before .before .before .before .before .pre .1), omega arith)
 
 same-length : tie.Need-same-length
 same-length c = search needs
 
 returns : tie.Need-returns
-returns c = accepted-end _ _ _ _ _ _ _ _ _ _ _ _ _ _ _ _ _ _ refl (omega arith) (c .before .before .before .before .before .before .before .before .before .before .before .before .before .before .before .before .before .before .before .before .put-header .ensures) (c .before .before .before .before .before .before .before .before .before .before .before .before .before .before .before .put-line .ensures .0) (c .before .before .before .before .before .before .before .before .before .before .before .put-entries .ensures .0) (c .before .before .before .before .before .before .put-line2 .ensures .0) (c .before .before .put-conditions .ensures .0)
+returns c = accepted-end _ _ _ _ _ _ _ _ _ _ _ _ _ _ _ _ _ _ (c .before .before .before .bytes-for .ensures) (omega arith) (c .before .before .before .before .before .before .before .before .before .before .before .before .before .before .before .before .before .before .before .before .before .put-header .ensures) (c .before .before .before .before .before .before .before .before .before .before .before .before .before .before .before .before .put-line .ensures .0) (c .before .before .before .before .before .before .before .before .before .before .before .before .put-entries .ensures .0) (c .before .before .before .before .before .before .before .put-line2 .ensures .0) (c .before .before .put-conditions .ensures .0)
 
 pub write-accepted-spec : {M : Type 1} → statement M
 write-accepted-spec =
@@ -46,7 +45,7 @@ write-accepted-spec =
     put-entries-requires
     slice-aggregate-put-line-2
     put-line-requires-2
-    add-put-conditions
+    bytes-for-requires
     put-conditions-requires
     same-length
     returns)
