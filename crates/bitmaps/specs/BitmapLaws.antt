@@ -7,7 +7,7 @@ use mathlib.Core.Bool.{Bool, true, false, _&&_}
 use mathlib.Core.Logic.{_⊎_, inl, inr}
 use mathlib.Core.List.{List}
 use lib.ListN.{length, getD, take, drop, List·getD-eq-default}
-use lib.Seq.{ext-getD, getD-take, length-take-le, take-all}
+use lib.Seq.{ext-getD, getD-take, length-take-le}
 use lib.Dec.{ltb}
 use Rattle.strategy.specs.Bools.{which, ltb-yes, ltb-no, ltb-lt, ltb-le}
 use Rattle.sets.specs.Set.{member}
@@ -86,16 +86,6 @@ module _ (f : ℕ → Bool) (rows : ℕ) where
       ones-bits (bitmap f rows) bitmap-bytes
       ∙ count-same (bit (bitmap f rows)) (λ e. ltb e rows && f e) (length (bitmap f rows) * 8) (λ e l. bitmap-bit e)
       ∙ count-inside f rows (length (bitmap f rows) * 8) (omega (arith, bitmap-length))
-
--- a bitmap depends on its rows alone
-pub bitmap-same : (f g : ℕ → Bool) (rows : ℕ) → ((e : ℕ) → e < rows → f e ≡ g e) → bitmap f rows ≡ bitmap g rows
-bitmap-same f g rows s =
-    sym (take-all (bytesFor rows) (bitmap f rows) (omega (arith, bitmap-length f rows)))
-    ∙ bits-bitmap g rows (bitmap f rows) (omega (arith, bitmap-length f rows)) (bitmap-bytes f rows) (λ e l. bitmap-bit f rows e ∙ go e (which (ltb e rows)))
-  where
-    go : (e : ℕ) → (ltb e rows ≡ true) ⊎ (ltb e rows ≡ false) → (ltb e rows && f e) ≡ (ltb e rows && g e)
-    go e (inl y) = ap (λ (b : Bool). ltb e rows && b) (s e (ltb-lt e rows y))
-    go e (inr y) = rw y
 
 module _ (f : ℕ → ℕ → Bool) (n rows : ℕ) where
   pub bitmaps-length : length (bitmaps f n rows) ≡ n * bytesFor rows

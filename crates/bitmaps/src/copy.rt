@@ -5,13 +5,13 @@ ghost use lib.ListN.{length};
 ghost use Rattle.bitmaps.specs.Bitmap.{putFront};
 ghost use Rattle.bitmaps.specs.Table.{lineSize, linesOf};
 
-// A line of a run's own tables, one bit for each row.
+// A line of a run's own tables: a bit for each row that a catalogue may have (catalogue's Row::LIMIT).
 pub struct Line;
 
 impl Line {
     pub const SIZE: usize = 256;
 
-    pub const BITS: usize = 2048;
+    pub const BITS: usize = 8 * Line::SIZE;
 }
 
 fn copy_part(from: &[u8], to: &mut [u8])

@@ -1,7 +1,7 @@
 // One consultation: a run with the tally at zero, and its register.
 use bitmaps::copy::Line;
+use fields::counter::Counter;
 use query::table::Predicate;
-use searchroom::finish::Counter;
 ghost use Prim.Native.Nat.{_≤_};
 ghost use lib.ListN.{length};
 ghost use Rattle.query.specs.Format.{predicateLimit};
@@ -31,6 +31,7 @@ pub fn write_consultation(catalogue: &[u8], question: &[u8], order: &[u8], out: 
         &mut looks,
         &mut tally,
     );
+    // The word of a run has no number of entries; a refused catalogue has none.
     let layout = catalogue::layout::lay_out(catalogue);
     let rows = layout.rows;
     register::text::write_register(

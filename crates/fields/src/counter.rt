@@ -3,6 +3,14 @@ ghost use mathlib.Core.Path.{_≡_};
 ghost use lib.ListN.{length};
 ghost use Rattle.fields.specs.Numbers.{numberAt, bytesOf};
 
+pub struct Counter;
+
+impl Counter {
+    pub const SIZE: usize = 8;
+
+    pub const LIMIT: u64 = 0xffff_ffff_ffff_ffff;
+}
+
 // The number of the counter's eight bytes.
 pub fn eight_bytes(b: &[u8]) -> u64
     requires { ⌜ length (now b) ≡ 8 ⌝ }

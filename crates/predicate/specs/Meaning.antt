@@ -113,7 +113,8 @@ turned kind a = cond (ltb kind oppositeFrom) a (opposite a)
 unfoldable pub outcomeOf : Column → (kind : ℕ) (operand : List ℕ) (row : ℕ) → Answer
 outcomeOf c kind o row = turned kind (plainOf c (plainKind kind) o row)
 
--- a condition of a query: "column, kind, operand's place (from the question's first byte)", with the operand itself
+-- a condition of a query: "column, kind, operand's place (from the question's first byte)", with the operand itself. The place is for
+-- the table of records; no meaning reads it.
 pub record Predicate : Type 0 where
   pub column : ℕ
   pub kind : ℕ

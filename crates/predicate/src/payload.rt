@@ -12,7 +12,7 @@ impl Payload {
     // The bytes before the operand.
     pub const HEAD: usize = 2;
     // The bytes of a range's operand, two numbers.
-    pub const RANGE_SIZE: usize = 8;
+    pub const RANGE_SIZE: usize = 2 * Number::SIZE;
 }
 
 // Whether a kind below the opposites exists and is of a column with this tag.

@@ -19,9 +19,9 @@ use Rattle.query.specs.declared.member.MemberField.the-variants.{Refused
 use Rattle.query.specs.Format.{conjunctionTag, disjunctionTag, predicateTag, predicateLimit, depthLimit, memberCut, emptyGroup, invalidPayload, repeatedPayload, tooDeep, tooManyPredicates, unknownTag}
 use Rattle.query.specs.Decode.{payloadAt, isRepeated, predicateField, groupField, memberField}
 use Rattle.query.specs.Places.{fieldEnd}
-use Rattle.query.specs.Table.{listed}
+use Rattle.query.specs.Table.{predicatesAt}
 use Rattle.query.specs.Sound.{SoundField}
-use Rattle.query.proofs.Records.{listed-length}
+use Rattle.query.proofs.Records.{predicates-length}
 
 pub header-inside : (b : List ℕ) (at end : ℕ) → Inside at end (headerAt b at end)
 unfolding headerAt
@@ -125,34 +125,34 @@ module _ (depth tag start end : ℕ) where
   group-members l n = rw (lt-leb _ _ l, ne-eqb _ _ n)
 
 module _ (tags q T : List ℕ) (n start end : ℕ) where
-  pub predicate-many : predicateLimit ≤ n → Refused tooManyPredicates ≡ predicateField tags q (listed q T n) start end
+  pub predicate-many : predicateLimit ≤ n → Refused tooManyPredicates ≡ predicateField tags q (predicatesAt q T n) start end
   unfolding predicateField
-  predicate-many l = rw (listed-length q T n, le-leb _ _ l)
+  predicate-many l = rw (predicates-length q T n, le-leb _ _ l)
 
   module _ (few : n < predicateLimit) (v : Bool) (v-is : v ≡ validPayload tags (take (end - start) (drop start q))) where
-    pub predicate-invalid : v ≡ false → Refused invalidPayload ≡ predicateField tags q (listed q T n) start end
+    pub predicate-invalid : v ≡ false → Refused invalidPayload ≡ predicateField tags q (predicatesAt q T n) start end
     unfolding predicateField payloadAt
-    predicate-invalid e = rw (listed-length q T n, lt-leb _ _ few, ← v-is, e)
+    predicate-invalid e = rw (predicates-length q T n, lt-leb _ _ few, ← v-is, e)
 
-    module _ (valid : v ≡ true) (r : Bool) (r-is : r ≡ isRepeated (take (end - start) (drop start q)) (listed q T n)) where
-      pub predicate-repeated : r ≡ true → Refused repeatedPayload ≡ predicateField tags q (listed q T n) start end
+    module _ (valid : v ≡ true) (r : Bool) (r-is : r ≡ isRepeated (take (end - start) (drop start q)) (predicatesAt q T n)) where
+      pub predicate-repeated : r ≡ true → Refused repeatedPayload ≡ predicateField tags q (predicatesAt q T n) start end
       unfolding predicateField payloadAt
-      predicate-repeated e = rw (listed-length q T n, lt-leb _ _ few, ← v-is, valid, ← r-is, e)
+      predicate-repeated e = rw (predicates-length q T n, lt-leb _ _ few, ← v-is, valid, ← r-is, e)
 
-      pub predicate-leaf : r ≡ false → Leaf start end ≡ predicateField tags q (listed q T n) start end
+      pub predicate-leaf : r ≡ false → Leaf start end ≡ predicateField tags q (predicatesAt q T n) start end
       unfolding predicateField payloadAt
-      predicate-leaf e = rw (listed-length q T n, lt-leb _ _ few, ← v-is, valid, ← r-is, e)
+      predicate-leaf e = rw (predicates-length q T n, lt-leb _ _ few, ← v-is, valid, ← r-is, e)
 
 module _ (tags q T : List ℕ) (at end depth n : ℕ) where
   abbrev Is : MemberField → Type 0
-  Is r = (r ≡ memberField tags q depth (listed q T n) (headerAt q at end)) × SoundField tags q at end depth n r
+  Is r = (r ≡ memberField tags q depth (predicatesAt q T n) (headerAt q at end)) × SoundField tags q at end depth n r
 
   module _ (h : Header) (h-is : h ≡ headerAt q at end) where
-    field-is : (r : MemberField) → r ≡ memberField tags q depth (listed q T n) h → Is r
+    field-is : (r : MemberField) → r ≡ memberField tags q depth (predicatesAt q T n) h → Is r
     field-is r e =
-        let i : r ≡ memberField tags q depth (listed q T n) (headerAt q at end) = e ∙ ap (memberField tags q depth (listed q T n)) h-is in
-        let s : SoundField tags q at end depth n (memberField tags q depth (listed q T n) (headerAt q at end)) =
-        rw (listed-length q T n) at (field-sound tags q at end depth (listed q T n)) in
+        let i : r ≡ memberField tags q depth (predicatesAt q T n) (headerAt q at end) = e ∙ ap (memberField tags q depth (predicatesAt q T n)) h-is in
+        let s : SoundField tags q at end depth n (memberField tags q depth (predicatesAt q T n) (headerAt q at end)) =
+        rw (predicates-length q T n) at (field-sound tags q at end depth (predicatesAt q T n)) in
         (i, rw i s)
 
     pub field-cut : h ≡ Cut → Is (Refused memberCut)
@@ -160,7 +160,7 @@ module _ (tags q T : List ℕ) (at end depth n : ℕ) where
     field-cut e = field-is (Refused memberCut) (rw e)
 
     module _ (tag start stop : ℕ) (is-field : h ≡ Field tag start stop) where
-      pub field-predicate : (r : MemberField) → tag ≡ predicateTag → r ≡ predicateField tags q (listed q T n) start stop → Is r
+      pub field-predicate : (r : MemberField) → tag ≡ predicateTag → r ≡ predicateField tags q (predicatesAt q T n) start stop → Is r
       unfolding memberField
       field-predicate r e i = field-is r (rw (is-field, eq-eqb _ _ e) i)
 

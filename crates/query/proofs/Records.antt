@@ -1,11 +1,11 @@
 -- The predicates listed by their places, a place put, and the predicate of a payload.
-use Prim.Native.Nat.{ℕ, zero, suc, _+_, _-_, _*_, _≤_, _<_}
+use Prim.Native.Nat.{ℕ, zero, suc, _+_, _-_, _≤_, _<_}
 use native.Mathlib.Numerals.{add-one}
 use native.Mathlib.Omega.{arith}
 use mathlib.Core.Path.{_≡_, refl, sym, ap, _∙_}
 use mathlib.Core.Logic.{_⊎_, inl, inr}
 use mathlib.Core.List.{List, [], _∷_, _++_}
-use lib.ListN.{length, getD, set, take, drop, length-set, length-append, length-take, length-drop, List·getD-append}
+use lib.ListN.{length, getD, set, take, drop, length-append, length-take, length-drop, List·getD-append}
 use lib.Seq.{getD-set-same, getD-set-other, getD-take, getD-drop, getD-at, drop-drop, take-nil}
 use Rattle.fields.specs.Header.{headerSize}
 use Rattle.strategy.specs.Bools.{same?}
@@ -13,31 +13,31 @@ use Rattle.predicate.specs.Meaning.{Predicate}
 use Rattle.predicate.specs.Payload.{payloadHead, predicateOf}
 use Rattle.query.specs.Decode.{payloadAt}
 use Rattle.query.specs.Places.{fieldEnd, Placed}
-use Rattle.query.specs.Table.{recordAt, recordOf, predicateIn, listed}
+use Rattle.query.specs.Table.{recordAt, recordOf, predicateIn, predicatesAt}
 
 -- the predicates listed
 
-pub listed-length : (q P : List ℕ) (n : ℕ) → length (listed q P n) ≡ n
-unfolding listed
-listed-length q P zero = refl
-listed-length q P (suc n) = rw length-append (omega (arith, listed-length q P n))
+pub predicates-length : (q P : List ℕ) (n : ℕ) → length (predicatesAt q P n) ≡ n
+unfolding predicatesAt
+predicates-length q P zero = refl
+predicates-length q P (suc n) = rw length-append (omega (arith, predicates-length q P n))
 
-pub listed-at : (q P : List ℕ) (n c : ℕ) (other : Predicate) → c < n → getD (listed q P n) c other ≡ predicateIn q (recordAt q P c)
-unfolding listed
-listed-at q P zero c other l = absurd (omega arith)
-listed-at q P (suc n) c other l =
-    let size : length (listed q P n) ≡ n = listed-length q P n in
-    let go : (c ≡ n) ⊎ (c ≡ n → ⊥) → getD (listed q P n ++ (predicateIn q (recordAt q P n) ∷ [])) c other ≡ predicateIn q (recordAt q P c)
+pub predicates-at : (q P : List ℕ) (n c : ℕ) (other : Predicate) → c < n → getD (predicatesAt q P n) c other ≡ predicateIn q (recordAt q P c)
+unfolding predicatesAt
+predicates-at q P zero c other l = absurd (omega arith)
+predicates-at q P (suc n) c other l =
+    let size : length (predicatesAt q P n) ≡ n = predicates-length q P n in
+    let go : (c ≡ n) ⊎ (c ≡ n → ⊥) → getD (predicatesAt q P n ++ (predicateIn q (recordAt q P n) ∷ [])) c other ≡ predicateIn q (recordAt q P c)
     = elim [
-      | inl e ↦ rw e (getD-at (listed q P n) (predicateIn q (recordAt q P n)) [] other n size)
-      | inr e ↦ List·getD-append (listed q P n) (predicateIn q (recordAt q P n) ∷ []) other c (omega arith) ∙ listed-at q P n c other (omega arith)
+      | inl e ↦ rw e (getD-at (predicatesAt q P n) (predicateIn q (recordAt q P n)) [] other n size)
+      | inr e ↦ List·getD-append (predicatesAt q P n) (predicateIn q (recordAt q P n) ∷ []) other c (omega arith) ∙ predicates-at q P n c other (omega arith)
     ] in
     go (same? c n)
 
-listed-same : (q P P′ : List ℕ) (n : ℕ) → ((c : ℕ) → c < n → getD P′ c 0 ≡ getD P c 0) → listed q P′ n ≡ listed q P n
-unfolding listed
-listed-same q P P′ zero h = refl
-listed-same q P P′ (suc n) h = rw (h n (omega arith), listed-same q P P′ n (λ c l. h c (omega arith)))
+predicates-same : (q P P′ : List ℕ) (n : ℕ) → ((c : ℕ) → c < n → getD P′ c 0 ≡ getD P c 0) → predicatesAt q P′ n ≡ predicatesAt q P n
+unfolding predicatesAt
+predicates-same q P P′ zero h = refl
+predicates-same q P P′ (suc n) h = rw (h n (omega arith), predicates-same q P P′ n (λ c l. h c (omega arith)))
 
 -- the place of one predicate more
 module _ (q P : List ℕ) (n at : ℕ) (room : n < length P) where
@@ -47,9 +47,9 @@ module _ (q P : List ℕ) (n at : ℕ) (room : n < length P) where
   before : (c : ℕ) → c < n → getD (set P n at) c 0 ≡ getD P c 0
   before c l = getD-set-other P n c at 0 (λ e. omega arith)
 
-  pub listed-put : listed q (set P n at) (n + 1) ≡ listed q P n ++ (predicateIn q (recordOf q (at + headerSize) (fieldEnd q at)) ∷ [])
-  unfolding listed
-  listed-put = rw (add-one n, here, listed-same q P (set P n at) n before)
+  pub predicates-put : predicatesAt q (set P n at) (n + 1) ≡ predicatesAt q P n ++ (predicateIn q (recordOf q (at + headerSize) (fieldEnd q at)) ∷ [])
+  unfolding predicatesAt
+  predicates-put = rw (add-one n, here, predicates-same q P (set P n at) n before)
 
   pub placed-put : ((c : ℕ) → c < n → Placed q P c) → at + headerSize + payloadHead ≤ fieldEnd q at → fieldEnd q at ≤ length q → (c : ℕ) → c < n + 1 → Placed q (set P n at) c
   placed-put h a b c k = go (same? c n)

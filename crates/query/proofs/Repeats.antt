@@ -6,8 +6,8 @@ use mathlib.Core.Path.{_≡_, refl, sym, ap, ap₂, _∙_}
 use mathlib.Core.Bool.{Bool, true, false, _&&_, _||_, and-false, or-false, or-assoc}
 use mathlib.Core.Logic.{_⊎_, inl, inr}
 use mathlib.Core.List.{List, [], _∷_, _++_}
-use lib.ListN.{length, getD, take, drop, length-drop, drop-of-length-le}
-use lib.Seq.{drop-cons, take-all}
+use lib.ListN.{length, getD, take, drop, drop-of-length-le}
+use lib.Seq.{drop-cons}
 use lib.Dec.{eqb}
 use borrow.Author.Tests.{eq-eqb, ne-eqb}
 use Rattle.strategy.specs.Bools.{same?, or-left, or-right}
@@ -15,7 +15,7 @@ use Rattle.predicate.specs.Meaning.{Predicate, same}
 use Rattle.predicate.specs.Payload.{payloadHead}
 use Rattle.query.specs.Decode.{payloadAt, payloadOf, isRepeated}
 use Rattle.query.specs.Places.{startAt, endAt, Placed}
-use Rattle.query.specs.Table.{recordAt, predicateIn, listed}
+use Rattle.query.specs.Table.{recordAt, predicateIn, predicatesAt}
 use Rattle.query.proofs.Records.{payload-byte, payload-length, record-shows}
 
 -- bytes of two lengths are not the same
@@ -101,22 +101,22 @@ repeated-last payload (o ∷ ps) p =
 abbrev pub Unlike : (payload q places : List ℕ) → (c n : ℕ) → Type 0
 Unlike payload q P c n = (d : ℕ) → c ≤ d → d < n → same payload (payloadOf (predicateIn q (recordAt q P d))) ≡ false
 
-pub repeated-none : (payload q P : List ℕ) (n : ℕ) → Unlike payload q P 0 n → isRepeated payload (listed q P n) ≡ false
-unfolding isRepeated listed
+pub repeated-none : (payload q P : List ℕ) (n : ℕ) → Unlike payload q P 0 n → isRepeated payload (predicatesAt q P n) ≡ false
+unfolding isRepeated predicatesAt
 repeated-none payload q P zero h = refl
 repeated-none payload q P (suc n) h =
-    repeated-last payload (listed q P n) (predicateIn q (recordAt q P n))
+    repeated-last payload (predicatesAt q P n) (predicateIn q (recordAt q P n))
     ∙ rw (repeated-none payload q P n (λ d i j. h d i (omega arith)), h n (omega arith) (omega arith))
 
 module _ (payload q P : List ℕ) (r : Bool) (c : ℕ) (r-is : r ≡ same payload (payloadOf (predicateIn q (recordAt q P c)))) where
-  pub repeated-at : (n : ℕ) → c < n → r ≡ true → true ≡ isRepeated payload (listed q P n)
-  unfolding listed
+  pub repeated-at : (n : ℕ) → c < n → r ≡ true → true ≡ isRepeated payload (predicatesAt q P n)
+  unfolding predicatesAt
   repeated-at zero l e = absurd (omega arith)
-  repeated-at (suc n) l e = sym (repeated-last payload (listed q P n) (predicateIn q (recordAt q P n)) ∙ go (λ k. repeated-at n k e) (same? c n))
+  repeated-at (suc n) l e = sym (repeated-last payload (predicatesAt q P n) (predicateIn q (recordAt q P n)) ∙ go (λ k. repeated-at n k e) (same? c n))
     where
-      go : (c < n → true ≡ isRepeated payload (listed q P n)) → (c ≡ n) ⊎ (c ≡ n → ⊥)
-          → (isRepeated payload (listed q P n) || same payload (payloadOf (predicateIn q (recordAt q P n)))) ≡ true
-      go h (inl z) = or-right (isRepeated payload (listed q P n)) (rw (← z) (sym r-is ∙ e))
+      go : (c < n → true ≡ isRepeated payload (predicatesAt q P n)) → (c ≡ n) ⊎ (c ≡ n → ⊥)
+          → (isRepeated payload (predicatesAt q P n) || same payload (payloadOf (predicateIn q (recordAt q P n)))) ≡ true
+      go h (inl z) = or-right (isRepeated payload (predicatesAt q P n)) (rw (← z) (sym r-is ∙ e))
       go h (inr z) = or-left (same payload (payloadOf (predicateIn q (recordAt q P n)))) (sym (h (omega arith)))
 
   pub unlike-more : (n left next : ℕ) → left ≤ c + 1 → c ≤ next → Unlike payload q P left n → r ≡ false → Unlike payload q P next n

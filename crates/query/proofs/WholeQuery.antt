@@ -20,7 +20,7 @@ use Rattle.query.specs.declared.reader.Progress.the-variants as progress
 use Rattle.query.specs.declared.whole.Reading.the-variants.{Refused, Accepted}
 use Rattle.query.specs.Format.{bytesAfterQuery}
 use Rattle.query.specs.Decode.{payloadOf, Read, stopped, read, member, wholeQuery, decodeTagged}
-use Rattle.query.specs.Table.{recordAt, predicateIn, listed}
+use Rattle.query.specs.Table.{recordAt, predicateIn, predicatesAt}
 use Rattle.query.specs.Ladder.{Tables}
 use Rattle.query.specs.Reader.{Told, MemberRead}
 use Rattle.query.specs.Handed.{TablesSized, Recorded, Handed}
@@ -45,13 +45,13 @@ each-last P [] p h = (tt, h .0)
 each-last P (o ∷ ps) p h = let r = each-last P ps p (h .1) in ((h .0, r .0), r .1)
 
 -- what holds of each predicate listed holds at each number
-each-listed : (P : Predicate → Type 0) (q S : List ℕ) (n : ℕ) → Each P (listed q S n) → (c : ℕ) → c < n → P (predicateIn q (recordAt q S c))
-unfolding listed
-each-listed P q S zero h c l = absurd (omega arith)
-each-listed P q S (suc n) h c l =
-    let s = each-last P (listed q S n) (predicateIn q (recordAt q S n)) h in
+each-at : (P : Predicate → Type 0) (q S : List ℕ) (n : ℕ) → Each P (predicatesAt q S n) → (c : ℕ) → c < n → P (predicateIn q (recordAt q S c))
+unfolding predicatesAt
+each-at P q S zero h c l = absurd (omega arith)
+each-at P q S (suc n) h c l =
+    let s = each-last P (predicatesAt q S n) (predicateIn q (recordAt q S n)) h in
     let go : (c ≡ n) ⊎ (c ≡ n → ⊥) → P (predicateIn q (recordAt q S c))
-    = elim [ inl e ↦ rw e (s .1) | inr e ↦ each-listed P q S n (s .0) c (omega arith) ] in
+    = elim [ inl e ↦ rw e (s .1) | inr e ↦ each-at P q S n (s .0) c (omega arith) ] in
     go (same? c n)
 
 recorded : (tags q S : List ℕ) (c : ℕ) → Fits tags q (predicateIn q (recordAt q S c)) → Recorded tags q S c
@@ -61,7 +61,7 @@ recorded tags q S c f =
 
 module _ (tags q : List ℕ) (T T1 : Tables) where
   told : (r : _) → MemberRead tags q 0 (length q) 0 0 r T T1 → Told q enclosing 0 (member (2 * length q + 1) tags q 0 (length q) 0 []) r T T1
-  unfolding listed
+  unfolding predicatesAt
   told r h = h .exact (2 * length q + 1) (omega arith)
 
   pub whole-refused : (e : ℕ) → MemberRead tags q 0 (length q) 0 0 (progress.Refused e) T T1 → Handed tags q (decodeTagged tags q) (Refused e) T1
@@ -82,7 +82,7 @@ module _ (tags q : List ℕ) (T T1 : Tables) where
 
   pub whole-accepted : (p m : ℕ) → MemberRead tags q 0 (length q) 0 0 (progress.Next p m) T T1 → p ≡ length q → TablesSized T1
       → Handed tags q (decodeTagged tags q) (Accepted m) T1
-  unfolding decodeTagged listed
+  unfolding decodeTagged predicatesAt
   whole-accepted p m h e s =
       go (member (2 * length q + 1) tags q 0 (length q) 0 []) (told (progress.Next p m) h) (member-sound (2 * length q + 1) tags q 0 (length q) 0 [])
     where
@@ -91,7 +91,7 @@ module _ (tags q : List ℕ) (T T1 : Tables) where
       go (read t ps next) d k =
           let z : next ≡ p = cc in
           let y : m ≡ length ps = (let w : m ≡ 0 + length ps = cc in omega arith) in
-          let l : listed q (T1 .places) (length ps) ≡ ps = (let w : 0 + length ps ≡ length ps = omega arith in rw w at (d .1)) in
+          let l : predicatesAt q (T1 .places) (length ps) ≡ ps = (let w : 0 + length ps ≡ length ps = omega arith in rw w at (d .1)) in
           let few = k .few (omega arith) in
           rw (z, eq-eqb _ _ e) (
             ap Accepted y,
@@ -104,7 +104,7 @@ module _ (tags q : List ℕ) (T T1 : Tables) where
               full = k .full;
               located = record { sized = s .places; few = omega arith; placed = λ c i. h .within .4 c (omega arith) };
               shown = l;
-              each = λ c i. recorded tags q (T1 .places) c (each-listed (Fits tags q) q (T1 .places) (length ps) (rw l (k .each)) c i);
+              each = λ c i. recorded tags q (T1 .places) c (each-at (Fits tags q) q (T1 .places) (length ps) (rw l (k .each)) c i);
               ladders = λ c i. d .2 .new c (omega arith, omega arith);
               low = λ c i. h .within .5 c (omega arith);
               sized = s;

@@ -1,5 +1,5 @@
 -- The numbers of the query's format: tags, limits, refusals.
-use Prim.Native.Nat.{ℕ}
+use Prim.Native.Nat.{ℕ, _-_}
 
 -- "Tag 65 is an all-of group, tag 79 an any-of group", "Tag 80 is a condition"
 abbrev pub conjunctionTag : ℕ
@@ -18,6 +18,10 @@ predicateLimit = 64
 -- "Groups may nest 8 deep, the outermost being 1"
 abbrev pub depthLimit : ℕ
 depthLimit = 8
+
+-- how many groups are around a place inside which so many more are allowed
+abbrev pub depthOf : (allowed : ℕ) → ℕ
+depthOf allowed = depthLimit - allowed
 
 -- refusals 7 to 14: "7, fewer than three bytes left in the enclosing payload or the length passes its end"
 abbrev pub memberCut : ℕ

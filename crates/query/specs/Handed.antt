@@ -1,5 +1,5 @@
 -- What a reading hands on: all that a caller needs of the engine's tables, and no fact about bytes.
-use Prim.Native.Nat.{ℕ, _+_, _≤_, _<_}
+use Prim.Native.Nat.{ℕ, _≤_, _<_}
 use mathlib.Core.Path.{_≡_}
 use mathlib.Core.Bool.{true}
 use mathlib.Core.List.{List}
@@ -15,7 +15,7 @@ use Rattle.query.specs.Format.{predicateLimit}
 use Rattle.query.specs.Query.{Query}
 use Rattle.query.specs.Decode.{payloadOf}
 use Rattle.query.specs.Places.{Located}
-use Rattle.query.specs.Table.{recordAt, predicateIn, listed}
+use Rattle.query.specs.Table.{recordAt, predicateIn, predicatesAt}
 use Rattle.query.specs.Ladder.{Tables, LaddersSized, ladder, Low}
 use Rattle.query.specs.Sound.{IsRefusal}
 
@@ -38,7 +38,7 @@ pub record Tabled (tags q : List ℕ) (Q : Query) (n : ℕ) (T : Tables) : Type 
   pub numbered : Numbered (Q .tree) 0
   pub full : NonEmpty (Q .tree)
   pub located : Located q (T .places) n
-  pub shown : listed q (T .places) n ≡ Q .predicates
+  pub shown : predicatesAt q (T .places) n ≡ Q .predicates
   pub each : (c : ℕ) → c < n → Recorded tags q (T .places) c
   pub ladders : (c : ℕ) → c < n → ladder T c ≡ rungs (enclosing (Q .tree) 0 c)
   pub low : Low n (T .heights)

@@ -12,7 +12,7 @@ use Rattle.query.specs.Decode.{settling}
 abbrev pub taggedRung : (tag mask : ℕ) → Rung
 taggedRung tag mask = record { absorbing = settling tag; mask = mask }
 
--- the reader's tables: the places of the predicates; the set and the tag of each rung; how many rungs each predicate has
+-- the reader's tables: where each predicate's field begins in the query; the set and the tag of each rung; how many rungs each predicate has
 pub record Tables : Type 0 where
   pub places : List ℕ
   pub masks : List ℕ
@@ -38,7 +38,7 @@ rungsFrom M S i (suc n) = taggedRung (getD S i 0) (getD M i 0) ∷ rungsFrom M S
 unfoldable pub ladder : Tables → (c : ℕ) → List Rung
 ladder T c = rungsFrom (T .masks) (T .sorts) (depthLimit * c) (getD (T .heights) c 0)
 
--- the first n ladders are no higher than their places
+-- the first n ladders have at most eight rungs
 abbrev pub Low : (n : ℕ) → (heights : List ℕ) → Type 0
 Low n H = (c : ℕ) → c < n → getD H c 0 ≤ depthLimit
 

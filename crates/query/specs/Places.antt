@@ -23,7 +23,7 @@ endAt q P c = fieldEnd q (getD P c 0)
 abbrev pub Placed : (q places : List ℕ) → (c : ℕ) → Type 0
 Placed q P c = (startAt P c + payloadHead ≤ endAt q P c) × (endAt q P c ≤ length q)
 
--- the places of n predicates
+-- the fields of the first n predicates begin at these places and lie in the query
 pub record Located (q places : List ℕ) (n : ℕ) : Type 0 where
   pub sized : length places ≡ predicateLimit
   pub few : n ≤ predicateLimit

@@ -38,6 +38,6 @@ abbrev pub predicateIn : (q : List ℕ) → PredicateRecord → Predicate
 predicateIn q r = record { column = r .column; kind = r .kind; operand = take (r .len) (drop (r .place) q); place = r .place }
 
 -- the first n predicates
-unfoldable pub listed : (q places : List ℕ) → (n : ℕ) → List Predicate
-listed q P zero = []
-listed q P (suc n) = listed q P n ++ (predicateIn q (recordAt q P n) ∷ [])
+unfoldable pub predicatesAt : (q places : List ℕ) → (n : ℕ) → List Predicate
+predicatesAt q P zero = []
+predicatesAt q P (suc n) = predicatesAt q P n ++ (predicateIn q (recordAt q P n) ∷ [])

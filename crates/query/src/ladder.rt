@@ -1,7 +1,6 @@
 // The groups around each predicate: a ladder of at most eight rungs, the innermost group first.
 use crate::format::Group;
 use crate::table::Predicate;
-ghost use mathlib.Core.Path.{_≡_};
 ghost use Prim.Native.Nat.{_≤_};
 ghost use Rattle.query.specs.Format.{predicateLimit};
 ghost use Rattle.query.specs.Ladder.{LaddersSized, Low, Under, ClosedTo};

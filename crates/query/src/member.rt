@@ -7,9 +7,10 @@ ghost use mathlib.Core.Path.{_≡_};
 ghost use Prim.Native.Nat.{_≤_};
 ghost use lib.ListN.{length};
 ghost use Rattle.fields.specs.Header.{headerAt};
+ghost use Rattle.query.specs.Format.{depthOf};
 ghost use Rattle.query.specs.Decode.{groupField, predicateField, memberField};
 ghost use Rattle.query.specs.Places.{Located};
-ghost use Rattle.query.specs.Table.{listed};
+ghost use Rattle.query.specs.Table.{predicatesAt};
 ghost use Rattle.query.specs.Sound.{SoundField};
 
 // What stands where a member is expected, every check of it done but those of its own members; the payload is the
@@ -20,10 +21,10 @@ pub enum MemberField {
     Group { tag: u8, start: usize, end: usize },
 }
 
-fn group_field(depth: usize, tag: u8, start: usize, end: usize) -> MemberField
-    ensures { λ r. ⌜ r ≡ groupField depth tag start end ⌝ }
+fn group_field(allowed: usize, tag: u8, start: usize, end: usize) -> MemberField
+    ensures { λ r. ⌜ r ≡ groupField (depthOf allowed) tag start end ⌝ }
 {
-    if Group::DEPTH_LIMIT <= depth {
+    if allowed == 0 {
         return MemberField::Refused(Refusal::TOO_DEEP);
     }
     if start == end {
@@ -32,7 +33,7 @@ fn group_field(depth: usize, tag: u8, start: usize, end: usize) -> MemberField
     MemberField::Group { tag, start, end }
 }
 
-// The predicates before it are those at the first n places.
+// The predicates before it are those whose fields begin at the first n places.
 fn predicate_field(
     tags: &[u8],
     q: &[u8],
@@ -42,7 +43,7 @@ fn predicate_field(
     places: &[usize],
 ) -> MemberField
     requires { ⌜ (start ≤ end) × (end ≤ length (now q)) × Located (now q) (now places) n ⌝ }
-    ensures { λ r. ⌜ r ≡ predicateField (now (tags .entry)) (now (q .entry)) (listed (now (q .entry)) (now (places .entry)) n) start end ⌝ }
+    ensures { λ r. ⌜ r ≡ predicateField (now (tags .entry)) (now (q .entry)) (predicatesAt (now (q .entry)) (now (places .entry)) n) start end ⌝ }
 {
     if Predicate::LIMIT <= n {
         return MemberField::Refused(Refusal::TOO_MANY_PREDICATES);
@@ -56,18 +57,18 @@ fn predicate_field(
     MemberField::Leaf { start, end }
 }
 
-// The member expected at a place inside an enclosing end, with depth groups around it.
+// The member expected at a place inside an enclosing end, with so many more groups allowed.
 pub fn read_field(
     tags: &[u8],
     q: &[u8],
     at: usize,
     end: usize,
-    depth: usize,
+    allowed: usize,
     n: usize,
     places: &[usize],
 ) -> MemberField
     requires { ⌜ (at ≤ end) × (end ≤ length (now q)) × Located (now q) (now places) n ⌝ }
-    ensures { λ r. ⌜ (r ≡ memberField (now (tags .entry)) (now (q .entry)) depth (listed (now (q .entry)) (now (places .entry)) n) (headerAt (now (q .entry)) at end)) × SoundField (now (tags .entry)) (now (q .entry)) at end depth n r ⌝ }
+    ensures { λ r. ⌜ (r ≡ memberField (now (tags .entry)) (now (q .entry)) (depthOf allowed) (predicatesAt (now (q .entry)) (now (places .entry)) n) (headerAt (now (q .entry)) at end)) × SoundField (now (tags .entry)) (now (q .entry)) at end (depthOf allowed) n r ⌝ }
 {
     match fields::header::read_header(q, at, end) {
         Header::Cut => MemberField::Refused(Refusal::MEMBER_CUT),
@@ -80,10 +81,10 @@ pub fn read_field(
                 return predicate_field(tags, q, start, stop, n, places);
             }
             if tag == Group::CONJUNCTION_TAG {
-                return group_field(depth, tag, start, stop);
+                return group_field(allowed, tag, start, stop);
             }
             if tag == Group::DISJUNCTION_TAG {
-                return group_field(depth, tag, start, stop);
+                return group_field(allowed, tag, start, stop);
             }
             MemberField::Refused(Refusal::UNKNOWN_TAG)
         }

@@ -1,5 +1,6 @@
 // The reader of a query: a group holds members, and a member may be a group again.
 use crate::member::MemberField;
+ghost use Rattle.query.specs.Format.{depthOf};
 ghost use Rattle.query.specs.Ladder.{tables};
 ghost use Rattle.query.specs.Reader.{Room, MemberRead, MembersRead};
 
@@ -9,23 +10,24 @@ pub enum Progress {
     Next { at: usize, n: usize },
 }
 
-// The member at a place inside an enclosing end, with n predicates before it and depth groups around it.
+// The member at a place inside an enclosing end, with n predicates before it and so many more groups allowed; places[c] is
+// where the field of predicate c begins.
 pub fn read_member(
     tags: &[u8],
     q: &[u8],
     at: usize,
     end: usize,
-    depth: usize,
+    allowed: usize,
     n: usize,
     places: &mut [usize],
     masks: &mut [u64],
     sorts: &mut [u8],
     heights: &mut [usize],
 ) -> Progress
-    requires { ⌜ Room at end depth n (now q) (tables (now places) (now masks) (now sorts) (now heights)) ⌝ }
-    ensures { λ r. ⌜ MemberRead (now (tags .entry)) (now (q .entry)) at end depth n r (tables (now (places .entry)) (now (masks .entry)) (now (sorts .entry)) (now (heights .entry))) (tables (now (places .exit)) (now (masks .exit)) (now (sorts .exit)) (now (heights .exit))) ⌝ }
+    requires { ⌜ Room at end allowed n (now q) (tables (now places) (now masks) (now sorts) (now heights)) ⌝ }
+    ensures { λ r. ⌜ MemberRead (now (tags .entry)) (now (q .entry)) at end (depthOf allowed) n r (tables (now (places .entry)) (now (masks .entry)) (now (sorts .entry)) (now (heights .entry))) (tables (now (places .exit)) (now (masks .exit)) (now (sorts .exit)) (now (heights .exit))) ⌝ }
 {
-    match crate::member::read_field(tags, q, at, end, depth, n, places) {
+    match crate::member::read_field(tags, q, at, end, allowed, n, places) {
         MemberField::Refused(e) => Progress::Refused(e),
         MemberField::Leaf {
             start: _,
@@ -45,7 +47,7 @@ pub fn read_member(
                 q,
                 start,
                 stop,
-                depth + 1,
+                allowed - 1,
                 n,
                 places,
                 masks,
@@ -68,20 +70,20 @@ fn read_group(
     q: &[u8],
     at: usize,
     end: usize,
-    depth: usize,
+    allowed: usize,
     n: usize,
     places: &mut [usize],
     masks: &mut [u64],
     sorts: &mut [u8],
     heights: &mut [usize],
 ) -> Progress
-    requires { ⌜ Room at end depth n (now q) (tables (now places) (now masks) (now sorts) (now heights)) ⌝ }
-    ensures { λ r. ⌜ MembersRead (now (tags .entry)) (now (q .entry)) at end depth n r (tables (now (places .entry)) (now (masks .entry)) (now (sorts .entry)) (now (heights .entry))) (tables (now (places .exit)) (now (masks .exit)) (now (sorts .exit)) (now (heights .exit))) ⌝ }
+    requires { ⌜ Room at end allowed n (now q) (tables (now places) (now masks) (now sorts) (now heights)) ⌝ }
+    ensures { λ r. ⌜ MembersRead (now (tags .entry)) (now (q .entry)) at end (depthOf allowed) n r (tables (now (places .entry)) (now (masks .entry)) (now (sorts .entry)) (now (heights .entry))) (tables (now (places .exit)) (now (masks .exit)) (now (sorts .exit)) (now (heights .exit))) ⌝ }
 {
     let mut p = at;
     let mut m = n;
     while p < end {
-        match read_member(tags, q, p, end, depth, m, places, masks, sorts, heights) {
+        match read_member(tags, q, p, end, allowed, m, places, masks, sorts, heights) {
             Progress::Refused(e) => {
                 return Progress::Refused(e);
             }

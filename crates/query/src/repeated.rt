@@ -8,7 +8,7 @@ ghost use Rattle.predicate.specs.Meaning.{same};
 ghost use Rattle.predicate.specs.Payload.{payloadHead};
 ghost use Rattle.query.specs.Decode.{payloadAt, isRepeated};
 ghost use Rattle.query.specs.Places.{fieldEnd, Located};
-ghost use Rattle.query.specs.Table.{listed};
+ghost use Rattle.query.specs.Table.{predicatesAt};
 
 fn same_bytes(a: &[u8], b: &[u8]) -> bool
     ensures { λ r. ⌜ r ≡ same (now (a .entry)) (now (b .entry)) ⌝ }
@@ -26,7 +26,8 @@ fn same_bytes(a: &[u8], b: &[u8]) -> bool
     true
 }
 
-// Column and kind as one number: one test tells most predicates apart.
+// Column and kind as one number, the column in the low byte, as the machine reads the two bytes: one test tells most
+// predicates apart.
 fn head(b: &[u8], at: usize) -> usize
     requires { ⌜ at + payloadHead ≤ length (now b) ⌝ }
     ensures { λ r. ⌜ r ≡ getD (now (b .entry)) at 0 + 256 * getD (now (b .entry)) (at + 1) 0 ⌝ }
@@ -43,14 +44,14 @@ fn is_payload_at(payload: &[u8], q: &[u8], at: usize) -> bool
     if head(payload, 0) != head(q, start) {
         return false;
     }
-    let end = start + fields::number::two_bytes(q, at + 1);
+    let end = crate::table::field_end(q, at);
     same_bytes(payload, &q[start..end])
 }
 
 // Whether one of the first n predicates has this payload.
 pub fn is_repeated(payload: &[u8], q: &[u8], places: &[usize], n: usize) -> bool
     requires { ⌜ (payloadHead ≤ length (now payload)) × Located (now q) (now places) n ⌝ }
-    ensures { λ r. ⌜ r ≡ isRepeated (now (payload .entry)) (listed (now (q .entry)) (now (places .entry)) n) ⌝ }
+    ensures { λ r. ⌜ r ≡ isRepeated (now (payload .entry)) (predicatesAt (now (q .entry)) (now (places .entry)) n) ⌝ }
 {
     let mut left = n;
     while 0 < left {

@@ -1,4 +1,5 @@
 // A whole query read into the reader's tables.
+use crate::format::Group;
 use crate::format::Refusal;
 use crate::reader::Progress;
 ghost use Rattle.query.specs.Decode.{decodeTagged};
@@ -10,7 +11,8 @@ pub enum Reading {
     Accepted { n: usize },
 }
 
-// Checks a query against a catalogue whose columns have these tags, and tells where its n predicates lie.
+// Checks a query against a catalogue whose columns have these tags, and tells where the fields of its n
+// predicates begin and which groups are around each.
 pub fn read_query(
     tags: &[u8],
     q: &[u8],
@@ -22,7 +24,18 @@ pub fn read_query(
     requires { ⌜ TablesSized (tables (now places) (now masks) (now sorts) (now heights)) ⌝ }
     ensures { λ r. ⌜ Handed (now (tags .entry)) (now (q .entry)) (decodeTagged (now (tags .entry)) (now (q .entry))) r (tables (now (places .exit)) (now (masks .exit)) (now (sorts .exit)) (now (heights .exit))) ⌝ }
 {
-    match crate::reader::read_member(tags, q, 0, q.len(), 0, 0, places, masks, sorts, heights) {
+    match crate::reader::read_member(
+        tags,
+        q,
+        0,
+        q.len(),
+        Group::DEPTH_LIMIT,
+        0,
+        places,
+        masks,
+        sorts,
+        heights,
+    ) {
         Progress::Refused(e) => Reading::Refused(e),
         Progress::Next { at, n } => {
             if at != q.len() {

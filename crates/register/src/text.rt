@@ -52,13 +52,13 @@ fn put_conditions(out: &mut [u8], at: usize, looks: &[u8], size: usize, n: usize
 {
     let mut end = at;
     let mut c: usize = 0;
-    let mut row: usize = 0;
+    let mut from: usize = 0;
     while c < n {
-        let next = row + size;
-        let count = bitmaps::ones::count_ones(&looks[row..next]);
+        let next = from + size;
+        let count = bitmaps::ones::count_ones(&looks[from..next]);
         end = put_condition(out, end, c, count);
         c += 1;
-        row = next;
+        from = next;
     }
     end
 }

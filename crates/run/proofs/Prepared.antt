@@ -20,7 +20,7 @@ use Rattle.query.specs.Decode.{payloadOf}
 use Rattle.query.specs.Table.{recordAt, predicateIn}
 use Rattle.query.specs.Ladder.{Tables, ladder}
 use Rattle.query.specs.Handed.{Tabled}
-use Rattle.query.proofs.Records.{listed-at}
+use Rattle.query.proofs.Records.{predicates-at}
 use Rattle.run.specs.Run.{predicateAt}
 use Rattle.run.specs.Plan.{planSize, accessAt, accessOf, HaveColumns, Planned}
 use Rattle.run.specs.Ready.{Accessed, Ready}
@@ -56,7 +56,7 @@ module _ (b q tags : List ℕ) (l : Layout) (C : Catalogue) (Q : Query) (n : ℕ
     predicate-is : predicateAt Q c ≡ predicateIn q r
     predicate-is =
         ap (λ ps. getD ps c (record { column = 0; kind = 0; operand = []; place = 0 })) (sym (read .shown))
-        ∙ listed-at q (T .places) n c (record { column = 0; kind = 0; operand = []; place = 0 }) k
+        ∙ predicates-at q (T .places) n c (record { column = 0; kind = 0; operand = []; place = 0 }) k
 
   -- a predicate that is planned is shown
   pub planned-accessed : (P : List ℕ) (c : ℕ) → c < n → accessAt P c ≡ accessOf (l .tags) (l .starts) (recordAt q (T .places) c) → Accessed b q C (predicateAt Q c) (accessAt P c)

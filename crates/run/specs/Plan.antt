@@ -3,7 +3,7 @@ use Prim.Native.Nat.{ℕ, _+_, _*_, _<_}
 use mathlib.Core.Path.{_≡_}
 use mathlib.Core.List.{List}
 use lib.ListN.{length, getD}
-use Rattle.query.specs.declared.table.Predicate.{Predicate}
+use Rattle.query.specs.declared.table.Predicate.{Predicate as PredicateRecord}
 use Rattle.query.specs.Format.{predicateLimit}
 
 -- where a predicate's outcome comes from: the column's tag and start in the catalogue, the operand's place and size in the query
@@ -31,14 +31,14 @@ accessAt P c = record {
 }
 
 -- the access of a predicate's record, by the tags and starts of the columns
-abbrev pub accessOf : (tags starts : List ℕ) → Predicate → Access
+abbrev pub accessOf : (tags starts : List ℕ) → PredicateRecord → Access
 accessOf tags starts r = record { tag = getD tags (r .column) 0; start = getD starts (r .column) 0; kind = r .kind; place = r .place; size = r .len }
 
 -- the column of a record is one of the tables'
-abbrev pub HasColumn : (tags starts : List ℕ) → Predicate → Type 0
+abbrev pub HasColumn : (tags starts : List ℕ) → PredicateRecord → Type 0
 HasColumn tags starts r = (r .column < length tags) × (r .column < length starts)
 
-abbrev pub HaveColumns : (tags starts : List ℕ) → (records : ℕ → Predicate) → (n : ℕ) → Type 0
+abbrev pub HaveColumns : (tags starts : List ℕ) → (records : ℕ → PredicateRecord) → (n : ℕ) → Type 0
 HaveColumns tags starts R n = (c : ℕ) → c < n → HasColumn tags starts (R c)
 
 -- `after` is `before` with the access of c replaced
@@ -47,5 +47,5 @@ pub record PutAccess (c : ℕ) (x : Access) (before after : List ℕ) : Type 0 w
   pub elsewhere : (d : ℕ) → (d ≡ c → ⊥) → accessAt after d ≡ accessAt before d
 
 -- the plan of the first n predicates, of which these are the records
-abbrev pub Planned : (tags starts : List ℕ) → (records : ℕ → Predicate) → (plan : List ℕ) → (n : ℕ) → Type 0
+abbrev pub Planned : (tags starts : List ℕ) → (records : ℕ → PredicateRecord) → (plan : List ℕ) → (n : ℕ) → Type 0
 Planned tags starts R plan n = (c : ℕ) → c < n → accessAt plan c ≡ accessOf tags starts (R c)

@@ -20,6 +20,7 @@ impl Plan {
     pub const TABLE: usize = Plan::WIDTH * Predicate::LIMIT;
 }
 
+// Writes down where the outcome of predicate c comes from.
 fn put_access(tags: &[u8], starts: &[usize], r: Predicate, c: usize, plan: &mut [usize])
     requires { ⌜ (c < predicateLimit) × (length (now plan) ≡ planSize) × HasColumn (now tags) (now starts) r ⌝ }
     ensures { λ _. ⌜ PutAccess c (accessOf (now (tags .entry)) (now (starts .entry)) r) (now (plan .entry)) (now (plan .exit)) ⌝ }
@@ -33,7 +34,7 @@ fn put_access(tags: &[u8], starts: &[usize], r: Predicate, c: usize, plan: &mut 
     plan[i + 4] = r.len;
 }
 
-// Plans predicate c alone, whose field is at its place in the query.
+// Plans predicate c alone, whose field begins at places[c] of the query.
 pub fn plan_predicate(
     tags: &[u8],
     starts: &[usize],
@@ -61,8 +62,8 @@ fn plan_records(tags: &[u8], starts: &[usize], table: &[Predicate], n: usize, pl
     }
 }
 
-// Plans the n predicates whose payloads lie at these places of the query: by the table of their records, which is this
-// function's own and lent to those that fill and read it.
+// Plans the n predicates whose fields begin at these places of the query, by the table of their records: it is this
+// function's own, lent to the one that fills it and to the one that reads it.
 pub fn fill_plan(
     tags: &[u8],
     starts: &[usize],
@@ -88,13 +89,13 @@ pub fn fill_plan(
 pub fn answer_of(
     fold: &[u8],
     catalogue: &[u8],
-    question: &[u8],
+    q: &[u8],
     plan: &[usize],
     c: usize,
     row: usize,
 ) -> Answer
-    requires { ⌜ Folds (now fold) × (c < predicateLimit) × (length (now plan) ≡ planSize) × HasOutcome (now catalogue) (now question) (accessAt (now plan) c) row ⌝ }
-    ensures { λ r. ⌜ AnswerIs (now (catalogue .entry)) (now (question .entry)) (accessAt (now (plan .entry)) c) row r ⌝ }
+    requires { ⌜ Folds (now fold) × (c < predicateLimit) × (length (now plan) ≡ planSize) × HasOutcome (now catalogue) (now q) (accessAt (now plan) c) row ⌝ }
+    ensures { λ r. ⌜ AnswerIs (now (catalogue .entry)) (now (q .entry)) (accessAt (now (plan .entry)) c) row r ⌝ }
 {
     let i = Plan::WIDTH * c;
     let tag = fields::number::narrow(plan[i]);
@@ -102,20 +103,20 @@ pub fn answer_of(
     let kind = fields::number::narrow(plan[i + 2]);
     let from = plan[i + 3];
     let to = from + plan[i + 4];
-    predicate::outcome::outcome_at(fold, catalogue, tag, start, kind, &question[from..to], row)
+    predicate::outcome::outcome_at(fold, catalogue, tag, start, kind, &q[from..to], row)
 }
 
 // The outcome of predicate c at a row: what a run takes its answer for.
 pub fn outcome_of(
     fold: &[u8],
     catalogue: &[u8],
-    question: &[u8],
+    q: &[u8],
     plan: &[usize],
     c: usize,
     row: usize,
 ) -> bool
-    requires { ⌜ Folds (now fold) × (c < predicateLimit) × (length (now plan) ≡ planSize) × HasOutcome (now catalogue) (now question) (accessAt (now plan) c) row ⌝ }
-    ensures { λ r. ⌜ TruthIs (now (catalogue .entry)) (now (question .entry)) (accessAt (now (plan .entry)) c) row r ⌝ }
+    requires { ⌜ Folds (now fold) × (c < predicateLimit) × (length (now plan) ≡ planSize) × HasOutcome (now catalogue) (now q) (accessAt (now plan) c) row ⌝ }
+    ensures { λ r. ⌜ TruthIs (now (catalogue .entry)) (now (q .entry)) (accessAt (now (plan .entry)) c) row r ⌝ }
 {
-    predicate::answer::truth_of(answer_of(fold, catalogue, question, plan, c, row))
+    predicate::answer::truth_of(answer_of(fold, catalogue, q, plan, c, row))
 }

@@ -14,6 +14,7 @@ pub struct Beginning {
     pub starts: [usize; Column::LIMIT],
 }
 
+// Lays out the catalogue and reads the question against it, into the tables of the readers.
 pub fn begin(
     catalogue: &[u8],
     question: &[u8],

@@ -1,6 +1,7 @@
-// How a run ends: its own tables counted, the counter tested, and only then the lent tables written.
+// How a run ends: what will go out is counted, the counter tested, and only then the lent tables written.
 use crate::refusal::Refusal;
 use crate::word::Answer;
+use fields::counter::Counter;
 ghost use mathlib.Core.Path.{_≡_};
 ghost use Prim.Native.Nat.{_*_, _≤_};
 ghost use lib.ListN.{length};
@@ -11,14 +12,7 @@ ghost use Rattle.searchroom.specs.Word.{packed, FitsWord};
 ghost use Rattle.searchroom.specs.Run.{ran};
 ghost use Rattle.searchroom.specs.Finish.{finished, HasRoom};
 
-pub struct Counter;
-
-impl Counter {
-    pub const SIZE: usize = 8;
-
-    pub const LIMIT: u64 = 0xffff_ffff_ffff_ffff;
-}
-
+// Ends a run whose own tables are these: refusal 17, or the results, the lent tables and the counter.
 pub fn finish(
     selected: &[u8],
     probes: &[u8],

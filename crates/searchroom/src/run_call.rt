@@ -6,8 +6,6 @@ use query::ladder::Ladder;
 use query::table::Predicate;
 use run::plan::Plan;
 ghost use mathlib.Core.Path.{_≡_};
-ghost use Prim.Native.Nat.{_≤_};
-ghost use Rattle.query.specs.Format.{predicateLimit};
 ghost use Rattle.query.specs.Ladder.{tables};
 ghost use Rattle.searchroom.specs.Word.{packed, FitsWord};
 ghost use Rattle.searchroom.specs.Begun.{BegunWith};

@@ -9,7 +9,7 @@ use Rattle.strategy.specs.Assignment.{Assignment, update, Among, Once, A
 abbrev pub Formula : Type 0
 Formula = Assignment → Bool
 
--- document 01: with the conditions earlier in the order at their true outcomes, some outcomes of the later ones make
+-- demand 2: with the conditions earlier in the order at their true outcomes, some outcomes of the later ones make
 -- this condition alone decide the tree. What is neither `c` nor later keeps its outcome in `a`.
 abbrev pub Due : Formula → ℕ → List ℕ → Assignment → Type 0
 Due f c later a = (q : Assignment) × AgreeOff later q a × (f (update q c true) ≡ f (update q c false) → ⊥)

@@ -1,19 +1,16 @@
 -- What a trace tells: its predicates are those that are due, its outcomes are true, and it determines the value.
-use Prim.Native.Nat.{ℕ, _≤_}
-use native.Mathlib.Omega.{arith}
+use Prim.Native.Nat.{ℕ}
 use mathlib.Core.Path.{_≡_, refl, sym, ap, _∙_, subst}
 use mathlib.Core.Bool.{Bool, true, false, _||_, or-false, or-assoc}
 use mathlib.Core.Logic.{_↔_, _⊎_, inl, inr}
 use mathlib.Core.List.{List, [], _∷_, _++_}
 use lib.Dec.{eqb}
-use lib.ListN.{length}
-use Rattle.strategy.specs.Assignment.{Assignment, Among, elem, Once, AgreeOn, keepIf}
-use Rattle.strategy.specs.AssignmentLaws.{off-more}
+use Rattle.strategy.specs.Assignment.{Assignment, Among, elem, Once, keepIf}
 use Rattle.strategy.specs.Strategy.{Formula, Due, State, predicates}
 use Rattle.strategy.specs.Trace.{due, trace}
 use Rattle.strategy.specs.DueLaws.{due-law}
 use Rattle.strategy.specs.Ours.{passedAsNo, ours, ReadsOnly}
-use Rattle.strategy.specs.OursLaws.{Same, due-eq, ours-trace, ours-right}
+use Rattle.strategy.specs.OursLaws.{ours-trace, ours-right}
 
 -- at each turn the predicate is in the trace, or it is not
 module _ (f : Formula) (a : Assignment) where
@@ -45,15 +42,6 @@ module _ (f : Formula) (a : Assignment) where
       go : (b : Bool) → Once (predicates (trace f a cs)) → Once (predicates (keepIf b (c, a c) (trace f a cs)))
       go true ih = (λ m. o .0 (trace-among cs c m), ih)
       go false ih = ih
-
-  pub trace-length : (order : List ℕ) → length (trace f a order) ≤ length order
-  unfolding trace
-  trace-length [] = omega arith
-  trace-length (c ∷ cs) = go (due f c cs a) (trace-length cs)
-    where
-      go : (b : Bool) → length (trace f a cs) ≤ length cs → length (keepIf b (c, a c) (trace f a cs)) ≤ length (c ∷ cs)
-      go true ih = omega arith
-      go false ih = omega arith
 
   -- DEMAND 2: a predicate is in the trace exactly if it is due at its turn
   pub trace-due : (before : List ℕ) (c : ℕ) (later : List ℕ) → Once (before ++ (c ∷ later))
@@ -93,17 +81,3 @@ trace-value f order o v a = ap (λ s. f (passedAsNo s)) (sym (ours-trace f order
 -- so two rows with one trace have one value
 pub trace-tells : (f : Formula) (order : List ℕ) → Once order → ReadsOnly f order → (a b : Assignment) → trace f a order ≡ trace f b order → f a ≡ f b
 trace-tells f order o v a b e = sym (trace-value f order o v a) ∙ ap (λ s. f (passedAsNo s)) e ∙ trace-value f order o v b
-
--- and two rows with the same outcomes in the order have one trace
-trace-same : (f : Formula) (a b : Assignment) (cs : List ℕ) → Once cs → Same f cs a b → AgreeOn cs a b → trace f a cs ≡ trace f b cs
-unfolding trace
-trace-same f a b [] o S g = refl
-trace-same f a b (c ∷ cs) o S g =
-    rw (due-eq f c cs (o .0) a b S, g c (inl refl), trace-same f a b cs (o .1) next (λ d m. g d (inr m)))
-  where
-    next : Same f cs a b
-    next q r h k e = S q r (off-more c cs q a h) (off-more c cs r b k)
-        (λ d. elim [ inl y ↦ rw y (h c (o .0) ∙ g c (inl refl) ∙ sym (k c (o .0))) | inr m ↦ e d m ])
-
-pub trace-agree : (f : Formula) (order : List ℕ) → Once order → ReadsOnly f order → (a b : Assignment) → AgreeOn order a b → trace f a order ≡ trace f b order
-trace-agree f order o v a b g = trace-same f a b order o (λ q r h k e. v q r e) g

@@ -4,8 +4,9 @@ use native.Mathlib.Omega.{arith}
 use Prim.Native.Nat.{ℕ, _+_, _-_, _*_, _<_}
 use mathlib.Core.Path.{refl}
 use denote.Ref.{now}
+use Rattle.query.specs.Format.{depthOf}
 use Rattle.query.specs.Ladder.{tables}
-use Rattle.query.proofs.Progress.{InGroup, in-group-none, in-group-end, in-group-refused, in-group-more, member-refused, member-leaf, leaf-within, member-group-refused, member-group, group-within}
+use Rattle.query.proofs.Progress.{deeper-by-one, InGroup, in-group-none, in-group-end, in-group-refused, in-group-more, member-refused, member-leaf, leaf-within, member-group-refused, member-group, group-within}
 use borrow.Fn.Kinds.{In}
 use borrow.Fn.PlainCycle.{Measures, is, falls, and}
 use Rattle.query.proofs.reader.read_group.Reads as read-group
@@ -50,10 +51,10 @@ member-claims t =
     (read-field-reads.Asked, read-field-reads.Learnt, read-group-below t, read-group.Post, close-group-reads.Asked, close-group-reads.Learnt)
 
 abbrev read-group-Inv-loop : read-group-lts.InvT-loop
-read-group-Inv-loop tags q at end depth n places₀ masks₀ sorts₀ heights₀ p₀ m₀ places masks sorts heights p m = InGroup tags q at end depth n p m (tables places₀ masks₀ sorts₀ heights₀) (tables places masks sorts heights)
+read-group-Inv-loop tags q at end allowed n places₀ masks₀ sorts₀ heights₀ p₀ m₀ places masks sorts heights p m = InGroup tags q at end allowed n p m (tables places₀ masks₀ sorts₀ heights₀) (tables places masks sorts heights)
 
 abbrev read-group-μ-loop : read-group-lts.MeasureT-loop
-read-group-μ-loop tags q at end depth n places₀ masks₀ sorts₀ heights₀ p₀ m₀ places masks sorts heights p m = end - p
+read-group-μ-loop tags q at end allowed n places₀ masks₀ sorts₀ heights₀ p₀ m₀ places masks sorts heights p m = end - p
 
 read-group-loop-holds : (t : ℕ) → read-group-lts.Need-loop-holds (group-claims t) (read-group-at t) read-group.Post read-group-Inv-loop read-group-μ-loop
 read-group-loop-holds t c = in-group-none _ _ _ _ _ _ _ (c .before .before .before .before .before .before .pre .1)
@@ -81,7 +82,7 @@ read-group-returns t c =
     let a = c .before .before .before .before .before .before .before .before .before .before .before .before .before .before .before .before .before .before .before .before .before .before .before .before .args in
     let l = c .before .before .before .before .before .before .before .before .before .before .before .before .before .before .before .before .before .loop in
     let m = c .before .before .before .before .before .before .before .before .before .before .before .read-member in
-    in-group-refused _ _ _ (a .end) (a .depth) _ (l .p) (l .m) (tables (now (a .places)) (now (a .masks)) (now (a .sorts)) (now (a .heights))) (tables (l .places) (l .masks) (l .sorts) (l .heights)) (l .inv) (tables (m .last .1 .1 .1 .1 .1 .1 .0) (m .last .1 .1 .1 .1 .1 .1 .1 .0) (m .last .1 .1 .1 .1 .1 .1 .1 .1 .0) (m .last .1 .1 .1 .1 .1 .1 .1 .1 .1 .0)) (omega arith) _ (rw (c .before .e .given .1) at (m .ensures))
+    in-group-refused _ _ _ (a .end) (a .allowed) _ (l .p) (l .m) (tables (now (a .places)) (now (a .masks)) (now (a .sorts)) (now (a .heights))) (tables (l .places) (l .masks) (l .sorts) (l .heights)) (l .inv) (tables (m .last .1 .1 .1 .1 .1 .1 .0) (m .last .1 .1 .1 .1 .1 .1 .1 .0) (m .last .1 .1 .1 .1 .1 .1 .1 .1 .0) (m .last .1 .1 .1 .1 .1 .1 .1 .1 .1 .0)) (omega arith) _ (rw (c .before .e .given .1) at (m .ensures))
 
 read-group-enum-known-next : (t : ℕ) → read-group-lts.Need-enum-known-next (group-claims t) (read-group-at t) read-group.Post read-group-Inv-loop read-group-μ-loop
 read-group-enum-known-next t c = search needs
@@ -98,7 +99,7 @@ read-group-loop-again t c =
     let m = c .before .before .before .before .before .before .before .before .before .before .before .read-member in
     let k = m .kept in
     let r = l .inv .room in
-    in-group-more _ _ _ (a .end) (a .depth) _ (l .p) (l .m) (tables (now (a .places)) (now (a .masks)) (now (a .sorts)) (now (a .heights))) (tables (l .places) (l .masks) (l .sorts) (l .heights)) (l .inv) (tables (m .last .1 .1 .1 .1 .1 .1 .0) (m .last .1 .1 .1 .1 .1 .1 .1 .0) (m .last .1 .1 .1 .1 .1 .1 .1 .1 .0) (m .last .1 .1 .1 .1 .1 .1 .1 .1 .1 .0)) (omega arith) _ _ (rw (c .before .next .given .1) at (m .ensures)) (omega arith)
+    in-group-more _ _ _ (a .end) (a .allowed) _ (l .p) (l .m) (tables (now (a .places)) (now (a .masks)) (now (a .sorts)) (now (a .heights))) (tables (l .places) (l .masks) (l .sorts) (l .heights)) (l .inv) (tables (m .last .1 .1 .1 .1 .1 .1 .0) (m .last .1 .1 .1 .1 .1 .1 .1 .0) (m .last .1 .1 .1 .1 .1 .1 .1 .1 .0) (m .last .1 .1 .1 .1 .1 .1 .1 .1 .1 .0)) (omega arith) _ _ (rw (c .before .next .given .1) at (m .ensures)) (omega arith)
     (record { masks-size = omega arith; sorts-size = omega arith; heights-size = omega arith })
 
 read-group-same-length-5 : (t : ℕ) → read-group-lts.Need-same-length-5 (group-claims t) (read-group-at t) read-group.Post read-group-Inv-loop read-group-μ-loop
@@ -117,7 +118,7 @@ read-group-returns-2 : (t : ℕ) → read-group-lts.Need-returns-2 (group-claims
 read-group-returns-2 t c =
     let a = c .before .before .before .before .before .before .before .before .args in
     let l = c .before .loop in
-    in-group-end _ _ _ (a .end) (a .depth) _ (l .p) (l .m) (tables (now (a .places)) (now (a .masks)) (now (a .sorts)) (now (a .heights))) (tables (l .places) (l .masks) (l .sorts) (l .heights)) (l .inv) (omega arith)
+    in-group-end _ _ _ (a .end) (a .allowed) _ (l .p) (l .m) (tables (now (a .places)) (now (a .masks)) (now (a .sorts)) (now (a .heights))) (tables (l .places) (l .masks) (l .sorts) (l .heights)) (l .inv) (omega arith)
 
 read-member-read-field-requires : (t : ℕ) → read-member-lts.Need-read-field-requires (member-claims t) (read-member-at t) read-member.Post
 read-member-read-field-requires t c κs = (c .before .before .before .before .before .before .before .pre .1 .order, c .before .before .before .before .before .before .before .pre .1 .inside, c .before .before .before .before .before .before .before .pre .1 .located)
@@ -156,8 +157,8 @@ read-member-add-t23 t c =
 read-member-enum-known-tag : (t : ℕ) → read-member-lts.Need-enum-known-tag (member-claims t) (read-member-at t) read-member.Post
 read-member-enum-known-tag t c = search needs
 
-read-member-add-read-group : (t : ℕ) → read-member-lts.Need-add-read-group (member-claims t) (read-member-at t) read-member.Post
-read-member-add-read-group t c =
+read-member-sub-read-group : (t : ℕ) → read-member-lts.Need-sub-read-group (member-claims t) (read-member-at t) read-member.Post
+read-member-sub-read-group t c =
     let w = rw (c .before .tag .given .1) at (c .before .before .before .read-field .ensures .1) in
     omega arith
 
@@ -177,9 +178,10 @@ read-member-close-group-requires : (t : ℕ) → read-member-lts.Need-close-grou
 read-member-close-group-requires t c κs =
     let g = c .before .before .before .before .before .before .before .before .before .before .before .before .before .before .read-group in
     let k = g .kept in
+    let d = c .before .before .before .before .before .before .before .before .before .before .before .before .before .before .before .before .before .before .before .before .before .before .before .before .before .before .before .before .before .before .pre .1 .deep in
     let p = c .before .before .before .before .before .before .before .before .before .before .before .before .before .before .before .before .before .before .before .before .before .before .before .before .before .before .before .before .before .before .pre .1 .ladders in
     let w = rw (c .before .before .before .before .next .given .1) at (g .ensures .within) in
-    ((w .2, w .3, record { masks-size = omega arith; sorts-size = omega arith; heights-size = omega arith }), (w .5, λ k i j. (let u = w .6 k i j in omega arith)))
+    ((w .2, w .3, record { masks-size = omega arith; sorts-size = omega arith; heights-size = omega arith }), (w .5, λ k i j. (let u = w .6 k i j in omega (arith, d))))
 
 read-member-same-length : (t : ℕ) → read-member-lts.Need-same-length (member-claims t) (read-member-at t) read-member.Post
 read-member-same-length t c = search needs
@@ -189,7 +191,7 @@ read-member-returns t c =
     let a = c .before .before .before .before .before .before .before .before .before .before .before .args in
     let f = c .before .before .before .read-field in record {
       within = rw (c .before .e .given .1) at (f .ensures .1);
-      exact = member-refused _ _ (a .at) (a .end) (a .depth) (a .n) (tables (now (a .places)) (now (a .masks)) (now (a .sorts)) (now (a .heights))) (tables (now (a .places)) (now (a .masks)) (now (a .sorts)) (now (a .heights))) _ (f .ensures .0) _ (c .before .e .given .1);
+      exact = member-refused _ _ (a .at) (a .end) (depthOf (a .allowed)) (a .n) (tables (now (a .places)) (now (a .masks)) (now (a .sorts)) (now (a .heights))) (tables (now (a .places)) (now (a .masks)) (now (a .sorts)) (now (a .heights))) _ (f .ensures .0) _ (c .before .e .given .1);
     }
 
 read-member-same-length-2 : (t : ℕ) → read-member-lts.Need-same-length-2 (member-claims t) (read-member-at t) read-member.Post
@@ -205,8 +207,8 @@ read-member-returns-2 t c =
     let p = c .before .before .before .before .before .before .before .before .before .before .before .pre .1 in
     let is = c .before .stop .given .1 in
     let w = rw is at (f .ensures .1) in record {
-      within = leaf-within (now (a .tags)) (now (a .q)) (a .at) (a .end) (a .depth) (a .n) (now (a .places)) (now (a .masks)) (now (a .sorts)) (now (a .heights)) _ _ (w .0) (w .5) (w .1) (omega (arith, p .located .sized)) (omega (arith, p .ladders .heights-size)) (w .2) (p .inside) (w .3) (p .deep) (p .located .placed) (p .low);
-      exact = member-leaf (now (a .tags)) (now (a .q)) (a .at) (a .end) (a .depth) (a .n) (now (a .places)) (now (a .masks)) (now (a .sorts)) (now (a .heights)) _ _ (w .0) (w .5) (w .1) (omega (arith, p .located .sized)) (omega (arith, p .ladders .heights-size)) _ (f .ensures .0) is;
+      within = leaf-within (now (a .tags)) (now (a .q)) (a .at) (a .end) (depthOf (a .allowed)) (a .n) (now (a .places)) (now (a .masks)) (now (a .sorts)) (now (a .heights)) _ _ (w .0) (w .5) (w .1) (omega (arith, p .located .sized)) (omega (arith, p .ladders .heights-size)) (w .2) (p .inside) (w .3) (omega arith) (p .located .placed) (p .low);
+      exact = member-leaf (now (a .tags)) (now (a .q)) (a .at) (a .end) (depthOf (a .allowed)) (a .n) (now (a .places)) (now (a .masks)) (now (a .sorts)) (now (a .heights)) _ _ (w .0) (w .5) (w .1) (omega (arith, p .located .sized)) (omega (arith, p .ladders .heights-size)) _ (f .ensures .0) is;
     }
 
 read-member-same-length-4 : (t : ℕ) → read-member-lts.Need-same-length-4 (member-claims t) (read-member-at t) read-member.Post
@@ -226,9 +228,10 @@ read-member-returns-3 t c =
     let a = c .before .before .before .before .before .before .before .before .before .before .before .before .before .before .before .before .before .before .before .before .before .before .before .before .before .before .before .args in
     let f = c .before .before .before .before .before .before .before .before .before .before .before .before .before .before .before .before .before .before .before .read-field in
     let g = c .before .before .before .before .before .before .before .before .before .before .before .read-group in
-    let w = rw (c .before .before .before .before .before .before .before .before .before .before .before .before .before .before .before .before .before .tag .given .1) at (f .ensures .1) in record {
+    let w = rw (c .before .before .before .before .before .before .before .before .before .before .before .before .before .before .before .before .before .tag .given .1) at (f .ensures .1) in
+    let deeper = deeper-by-one (a .allowed) (w .3) (c .before .before .before .before .before .before .before .before .before .before .before .before .before .before .before .before .before .before .before .before .before .before .before .before .before .before .before .pre .1 .deep) in record {
       within = rw (c .before .e2 .given .1) at (g .ensures .within);
-      exact = member-group-refused _ _ (a .at) (a .end) (a .depth) (a .n) (tables (now (a .places)) (now (a .masks)) (now (a .sorts)) (now (a .heights))) (tables (g .last .1 .1 .1 .1 .1 .1 .0) (g .last .1 .1 .1 .1 .1 .1 .1 .0) (g .last .1 .1 .1 .1 .1 .1 .1 .1 .0) (g .last .1 .1 .1 .1 .1 .1 .1 .1 .1 .0)) _ (f .ensures .0) _ _ _ (c .before .before .before .before .before .before .before .before .before .before .before .before .before .before .before .before .before .tag .given .1) (w .0) (w .1) (w .2) _ (rw (c .before .e2 .given .1) at (g .ensures .exact));
+      exact = member-group-refused _ _ (a .at) (a .end) (depthOf (a .allowed)) (a .n) (tables (now (a .places)) (now (a .masks)) (now (a .sorts)) (now (a .heights))) (tables (g .last .1 .1 .1 .1 .1 .1 .0) (g .last .1 .1 .1 .1 .1 .1 .1 .0) (g .last .1 .1 .1 .1 .1 .1 .1 .1 .0) (g .last .1 .1 .1 .1 .1 .1 .1 .1 .1 .0)) _ (f .ensures .0) _ _ _ (c .before .before .before .before .before .before .before .before .before .before .before .before .before .before .before .before .before .tag .given .1) (w .0) (w .1) (w .2) _ deeper _ (rw (c .before .e2 .given .1) at (g .ensures .exact));
     }
 
 read-member-same-length-8 : (t : ℕ) → read-member-lts.Need-same-length-8 (member-claims t) (read-member-at t) read-member.Post
@@ -250,9 +253,10 @@ read-member-returns-4 t c =
     let v = c .before .before .before .before .before .before .before .before .before .before .before .before .before .before .before .before .before .before .before .before .before .before .before .before .before .before .before .tag .given in
     let g = c .before .before .before .before .before .before .before .before .before .before .before .before .before .before .before .before .before .before .before .before .before .read-group in
     let k = c .before .before .before .before .before .before .close-group in
-    let w = rw (v .1) at (f .ensures .1) in record {
-      within = group-within (now (a .q)) (a .at) (a .end) (a .depth) (a .n) _ _ _ _ (v .0 .0) (tables (now (a .places)) (now (a .masks)) (now (a .sorts)) (now (a .heights))) (g .last .1 .1 .1 .1 .1 .1 .0) (g .last .1 .1 .1 .1 .1 .1 .1 .0) (g .last .1 .1 .1 .1 .1 .1 .1 .1 .0) (g .last .1 .1 .1 .1 .1 .1 .1 .1 .1 .0) (k .last .0) (k .last .1 .0) (k .last .1 .1 .0) (w .0) (w .2) (rw (c .before .before .before .before .before .before .before .before .before .before .before .next .given .1) at (g .ensures .within)) (k .ensures);
-      exact = member-group _ _ (a .at) (a .end) (a .depth) (a .n) (tables (now (a .places)) (now (a .masks)) (now (a .sorts)) (now (a .heights))) (tables (g .last .1 .1 .1 .1 .1 .1 .0) (g .last .1 .1 .1 .1 .1 .1 .1 .0) (g .last .1 .1 .1 .1 .1 .1 .1 .1 .0) (g .last .1 .1 .1 .1 .1 .1 .1 .1 .1 .0)) _ (f .ensures .0) _ _ _ (v .1) (w .0) (w .1) (w .2) _ _ (tables (g .last .1 .1 .1 .1 .1 .1 .0) (k .last .0) (k .last .1 .0) (k .last .1 .1 .0)) (rw (c .before .before .before .before .before .before .before .before .before .before .before .next .given .1) at (g .ensures .exact)) refl (k .ensures (g .last .1 .1 .1 .1 .1 .1 .0));
+    let w = rw (v .1) at (f .ensures .1) in
+    let deeper = deeper-by-one (a .allowed) (w .3) (c .before .before .before .before .before .before .before .before .before .before .before .before .before .before .before .before .before .before .before .before .before .before .before .before .before .before .before .before .before .before .before .before .before .before .before .before .before .pre .1 .deep) in record {
+      within = group-within (now (a .q)) (a .at) (a .end) (depthOf (a .allowed)) _ (a .n) _ _ _ _ (v .0 .0) (tables (now (a .places)) (now (a .masks)) (now (a .sorts)) (now (a .heights))) (g .last .1 .1 .1 .1 .1 .1 .0) (g .last .1 .1 .1 .1 .1 .1 .1 .0) (g .last .1 .1 .1 .1 .1 .1 .1 .1 .0) (g .last .1 .1 .1 .1 .1 .1 .1 .1 .1 .0) (k .last .0) (k .last .1 .0) (k .last .1 .1 .0) (w .0) (w .2) deeper (rw (c .before .before .before .before .before .before .before .before .before .before .before .next .given .1) at (g .ensures .within)) (k .ensures);
+      exact = member-group _ _ (a .at) (a .end) (depthOf (a .allowed)) (a .n) (tables (now (a .places)) (now (a .masks)) (now (a .sorts)) (now (a .heights))) (tables (g .last .1 .1 .1 .1 .1 .1 .0) (g .last .1 .1 .1 .1 .1 .1 .1 .0) (g .last .1 .1 .1 .1 .1 .1 .1 .1 .0) (g .last .1 .1 .1 .1 .1 .1 .1 .1 .1 .0)) _ (f .ensures .0) _ _ _ (v .1) (w .0) (w .1) (w .2) _ deeper _ _ (tables (g .last .1 .1 .1 .1 .1 .1 .0) (k .last .0) (k .last .1 .0) (k .last .1 .1 .0)) (rw (c .before .before .before .before .before .before .before .before .before .before .before .next .given .1) at (g .ensures .exact)) refl (k .ensures (g .last .1 .1 .1 .1 .1 .1 .0));
     }
 
 pub +read-group+read-member-spec : {M : Type 1} → statement M
@@ -283,7 +287,7 @@ pub +read-group+read-member-spec : {M : Type 1} → statement M
     (read-member-slice-write-heights t)
     (read-member-add-t23 t)
     (read-member-enum-known-tag t)
-    (read-member-add-read-group t)
+    (read-member-sub-read-group t)
     (read-member-read-group-requires t)
     (read-member-enum-known-e-2 t)
     (read-member-enum-known-next t)

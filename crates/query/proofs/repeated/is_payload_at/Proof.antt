@@ -20,29 +20,23 @@ head-requires-2 c κs = search needs
 returns : tie.Need-returns
 returns c = other-head (c .before .before .before .before .before .args .payload .now) (c .before .before .before .before .before .args .q .now) (c .before .before .before .before .before .args .at + headerSize) (fieldEnd (c .before .before .before .before .before .args .q .now) (c .before .before .before .before .before .args .at)) (c .before .before .before .before .before .pre .0) (c .before .before .before .before .before .pre .1) (c .before .before .before .before .before .pre .2) _ _ (c .before .before .head .ensures) (c .before .head2 .ensures) (c .if1 .taken)
 
-add-two-bytes : tie.Need-add-two-bytes
-add-two-bytes c = search needs
-
-two-bytes-requires : tie.Need-two-bytes-requires
-two-bytes-requires c κs = search needs
-
-add-end : tie.Need-add-end
-add-end c = search needs
+field-end-requires : tie.Need-field-end-requires
+field-end-requires c κs = search needs
 
 sub-same-bytes : tie.Need-sub-same-bytes
-sub-same-bytes c = search needs
+sub-same-bytes c = omega (arith, c .field-end .ensures, c .before .before .before .before .before .before .pre .1)
 
 part-same-bytes-start : tie.Need-part-same-bytes-start
-part-same-bytes-start c = search needs
+part-same-bytes-start c = omega (arith, c .field-end .ensures, c .before .before .before .before .before .before .pre .1)
 
 part-same-bytes-end : tie.Need-part-same-bytes-end
-part-same-bytes-end c = search needs
+part-same-bytes-end c = omega (arith, c .field-end .ensures, c .before .before .before .before .before .before .pre .2)
 
 same-bytes-requires : tie.Need-same-bytes-requires
 same-bytes-requires c κs = search needs
 
 returns-2 : tie.Need-returns-2
-returns-2 c = same-part (c .before .before .before .before .before .before .before .before .args .payload .now) (c .before .before .before .before .before .before .before .before .args .q .now) (c .before .before .before .before .before .before .before .before .args .at + headerSize) (fieldEnd (c .before .before .before .before .before .before .before .before .args .q .now) (c .before .before .before .before .before .before .before .before .args .at)) (c .before .before .before .before .before .before .before .before .pre .0) (c .before .before .before .before .before .before .before .before .pre .1) (c .before .before .before .before .before .before .before .before .pre .2) _ (rw (c .before .before .two-bytes .ensures .0) at (c .same-bytes .ensures))
+returns-2 c = same-part (c .before .before .before .before .before .before .before .before .args .payload .now) (c .before .before .before .before .before .before .before .before .args .q .now) (c .before .before .before .before .before .before .before .before .args .at + headerSize) (fieldEnd (c .before .before .before .before .before .before .before .before .args .q .now) (c .before .before .before .before .before .before .before .before .args .at)) (c .before .before .before .before .before .before .before .before .pre .0) (c .before .before .before .before .before .before .before .before .pre .1) (c .before .before .before .before .before .before .before .before .pre .2) _ (rw (c .before .before .field-end .ensures) at (c .same-bytes .ensures))
 
 pub is-payload-at-spec : {M : Type 1} → statement M
 is-payload-at-spec =
@@ -52,9 +46,7 @@ is-payload-at-spec =
     head-requires
     head-requires-2
     returns
-    add-two-bytes
-    two-bytes-requires
-    add-end
+    field-end-requires
     sub-same-bytes
     part-same-bytes-start
     part-same-bytes-end

@@ -1,6 +1,5 @@
 -- `record_at` meets its contract: the payload ends where its header says.
-use mathlib.Core.Path.{_∙_, ap}
-use Rattle.query.specs.Table.{recordOf}
+use native.Mathlib.Omega.{arith}
 use borrow.Author.Needs.{needs}
 use Rattle.query.proofs.table.record_at.Statement.{statement}
 use Rattle.query.proofs.table.record_at.Tie as tie
@@ -11,23 +10,17 @@ mul-at c = search needs
 shared-slice-read-at : tie.Need-shared-slice-read-at
 shared-slice-read-at c = search needs
 
-add-start : tie.Need-add-start
-add-start c = search needs
+add-record-of : tie.Need-add-record-of
+add-record-of c = search needs
 
-add-two-bytes : tie.Need-add-two-bytes
-add-two-bytes c = search needs
-
-two-bytes-requires : tie.Need-two-bytes-requires
-two-bytes-requires c κs = search needs
-
-add-end : tie.Need-add-end
-add-end c = search needs
+field-end-requires : tie.Need-field-end-requires
+field-end-requires c κs = search needs
 
 record-of-requires : tie.Need-record-of-requires
-record-of-requires c κs = search needs
+record-of-requires c κs = (omega (arith, c .field-end .ensures, c .before .before .before .before .pre .2 .0), omega (arith, c .field-end .ensures, c .before .before .before .before .pre .2 .1))
 
 returns : tie.Need-returns
-returns c = rw (c .before .two-bytes .ensures .0) at (c .record-of .ensures)
+returns c = rw (c .before .field-end .ensures) at (c .record-of .ensures)
 
 pub record-at-spec : {M : Type 1} → statement M
 record-at-spec =
@@ -35,9 +28,7 @@ record-at-spec =
     (tie.spec
     mul-at
     shared-slice-read-at
-    add-start
-    add-two-bytes
-    two-bytes-requires
-    add-end
+    add-record-of
+    field-end-requires
     record-of-requires
     returns)

@@ -11,10 +11,10 @@ use Rattle.register.proofs.text.put_conditions.Statement.{statement}
 use Rattle.register.proofs.text.put_conditions.Tie as tie
 
 abbrev Inv-loop : tie.InvT-loop
-Inv-loop out₀ at looks size n end₀ c₀ row₀ out end c row = (c ≤ n) × (row ≡ c * size) × (length out ≡ length out₀) × Wrote at (conditions looks size c) out₀ end out × (end ≤ at + conditionRoom * c)
+Inv-loop out₀ at looks size n end₀ c₀ from₀ out end c from = (c ≤ n) × (from ≡ c * size) × (length out ≡ length out₀) × Wrote at (conditions looks size c) out₀ end out × (end ≤ at + conditionRoom * c)
 
 abbrev μ-loop : tie.MeasureT-loop
-μ-loop out₀ at looks size n end₀ c₀ row₀ out end c row = n - c
+μ-loop out₀ at looks size n end₀ c₀ from₀ out end c from = n - c
 
 loop-holds : tie.Need-loop-holds Inv-loop μ-loop
 loop-holds c = (omega arith, omega arith, refl, conditions-none (c .before .before .args .at) (c .before .before .args .out .now) (c .before .before .args .looks .now) (c .before .before .args .size), omega arith)
@@ -32,7 +32,7 @@ part-count-ones-end : tie.Need-part-count-ones-end Inv-loop μ-loop
 part-count-ones-end c = omega (arith, row-fits (c .before .before .before .before .args .size) (c .before .before .before .before .args .n) (c .before .loop .c) (omega arith))
 
 count-ones-requires : tie.Need-count-ones-requires Inv-loop μ-loop
-count-ones-requires c κs = row-short (c .before .before .before .before .before .args .size) (c .before .before .loop .row) (c .before .before .before .before .before .args .looks .now) (omega arith)
+count-ones-requires c κs = row-short (c .before .before .before .before .before .args .size) (c .before .before .loop .from) (c .before .before .before .before .before .args .looks .now) (omega arith)
 
 put-condition-requires : tie.Need-put-condition-requires Inv-loop μ-loop
 put-condition-requires c κs = search needs
