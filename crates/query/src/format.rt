@@ -1,4 +1,4 @@
-// The numbers of the query's format; the contracts tie them to those of specs/Format.antt.
+// The numbers of the query's format; the contracts tie them to those of specs/Format.antt. A predicate's stand in table.rt.
 
 pub struct Group;
 
