@@ -1,4 +1,5 @@
--- A local `[Predicate; Predicate::LIMIT]`: the table that the repetition of a record makes, and a table in memory as the cells that a slice of it borrows, each way. Assumes `Given`.
+-- A local `[Predicate; Predicate::LIMIT]`: the table that the repetition of a record makes, and a table in memory as the cells that a slice of
+-- it borrows, each way. Assumes `Given`.
 use mathlib.Core.Path.{_≡_, refl, ap, subst}
 use Prim.Native.Nat.{ℕ, zero, suc}
 use mathlib.Core.List.{List, [], _∷_}

@@ -1,6 +1,6 @@
--- `query::table::tabulate` meets its contract: a walk of its MIR, by hand. The borrow of `table` is opened once before the loop and closed once after it. Each turn passes copies of the two `&` slices
--- to `record_at`, takes the element c out of the row, stores the record there and puts it back. All that the proof knows of `record_at` is that it meets its contract.
--- Assumes nothing.
+-- `query::table::tabulate` meets its contract: a walk of its MIR, by hand. The borrow of `table` is opened once before the loop and closed
+-- once after it. Each turn passes copies of the two `&` slices to `record_at`, takes the element c out of the row, stores the record there and
+-- puts it back. All that the proof knows of `record_at` is that it meets its contract.
 use mathlib.Core.Path.{_≡_, refl, sym, ap, subst}
 use Prim.Native.Nat.{ℕ, _+_, _-_, _*_, _≤_, _<_, _^_, zero-le}
 use native.Mathlib.Nat.{le-antisymm, lt-of-lt-of-le}

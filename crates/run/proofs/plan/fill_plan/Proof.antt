@@ -1,7 +1,7 @@
--- `fill_plan` meets its contract: a walk of its MIR, by hand. The table of no records is made in a memory slot, lent to `tabulate` for a lifetime that is made for the call, and taken back at the list that it leaves;
--- then it is lent to `plan_records`, to be read, likewise. Each parameter that is a reference goes to the one callee that takes it at its own lifetime, and is given up for good.
--- All that the proof knows of the two callees is that they meet their contracts.
--- Assumes nothing.
+-- `fill_plan` meets its contract: a walk of its MIR, by hand. The table of no records is made in a memory slot, lent to `tabulate` for a
+-- lifetime that is made for the call, and taken back at the list that it leaves; then it is lent to `plan_records`, to be read, likewise. Each
+-- parameter that is a reference goes to the one callee that takes it at its own lifetime, and is given up for good. All that the proof knows
+-- of the two callees is that they meet their contracts.
 use mathlib.Core.Path.{_≡_, refl, sym, subst}
 use Prim.Native.Nat.{ℕ, _≤_, _<_, _^_}
 use mathlib.Core.List.{[], _∷_, _++_, List}

@@ -1,7 +1,7 @@
--- `plan_records` meets its contract: a walk of its MIR, by hand, with a loop, whose invariant is a `Stage` (`Plans.antt`) and what the function owns at it.
--- In each turn the table is looked into and a record is loaded; then the plan is lent again to `put_access`, for a lifetime that is made for the call, and comes back (`Again.antt`) with one more access.
--- All that the proof knows of `put_access` is that it meets its contract.
--- Assumes nothing.
+-- `plan_records` meets its contract: a walk of its MIR, by hand, with a loop, whose invariant is a `Stage` (`Plans.antt`) and what the
+-- function owns at it. In each turn the table is looked into and a record is loaded; then the plan is lent again to `put_access`, for a
+-- lifetime that is made for the call, and comes back (`Again.antt`) with one more access. All that the proof knows of `put_access` is that it
+-- meets its contract.
 use mathlib.Core.Path.{_≡_, refl, sym, _∙_, subst}
 use mathlib.Core.Bool.{Bool, true, false}
 use Prim.Native.Nat.{ℕ, _+_, _*_, _≤_, _<_, _^_}
