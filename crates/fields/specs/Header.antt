@@ -12,12 +12,16 @@ use Rattle.fields.specs.Numbers.{numberAt}
 abbrev pub headerSize : ℕ
 headerSize = 3
 
+-- the place after a field, as its header says
+abbrev pub fieldEnd : List ℕ → (at : ℕ) → ℕ
+fieldEnd b at = at + headerSize + numberAt b (at + 1) 2
+
 -- the field at a place inside an enclosing end; cut: "fewer than three bytes left or the length passes the end"
 unfoldable pub headerAt : List ℕ → (at end : ℕ) → Header
 headerAt b at end =
     cond (ltb (end - at) headerSize) Cut
     (cond (ltb (end - (at + headerSize)) (numberAt b (at + 1) 2)) Cut
-    (Field (getD b at 0) (at + headerSize) (at + headerSize + numberAt b (at + 1) 2)))
+    (Field (getD b at 0) (at + headerSize) (fieldEnd b at)))
 
 -- a field's payload lies after its header and within the end
 abbrev pub Inside : (at end : ℕ) → Header → Type 0

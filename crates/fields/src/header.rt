@@ -2,7 +2,7 @@
 ghost use mathlib.Core.Path.{_≡_};
 ghost use Prim.Native.Nat.{_≤_};
 ghost use lib.ListN.{length};
-ghost use Rattle.fields.specs.Header.{headerAt, Inside};
+ghost use Rattle.fields.specs.Header.{fieldEnd, headerAt, Inside};
 
 // What stands where a field is expected.
 pub enum Header {
@@ -35,4 +35,12 @@ pub fn read_header(b: &[u8], at: usize, end: usize) -> Header
         start,
         end: start + size,
     }
+}
+
+// The place after the field that begins at a place.
+pub fn field_end(b: &[u8], at: usize) -> usize
+    requires { ⌜ fieldEnd (now b) at ≤ length (now b) ⌝ }
+    ensures { λ r. ⌜ r ≡ fieldEnd (now (b .entry)) at ⌝ }
+{
+    at + Header::SIZE + crate::number::two_bytes(b, at + 1)
 }

@@ -10,7 +10,7 @@ use borrow.Author.Tests.{ltb-false, leb-false, eqb-false, le-leb, lt-leb, eq-eqb
 use Rattle.fields.specs.declared.header.Header.{Header}
 use Rattle.fields.specs.declared.header.Header.the-variants.{Cut, Field}
 use Rattle.fields.specs.Numbers.{numberAt}
-use Rattle.fields.specs.Header.{headerAt, headerSize, Inside}
+use Rattle.fields.specs.Header.{headerAt, headerSize, Inside, fieldEnd}
 use Rattle.predicate.specs.Meaning.{Predicate}
 use Rattle.predicate.specs.Payload.{validPayload, payloadHead}
 use Rattle.predicate.proofs.PayloadLaws.{valid-payload}
@@ -18,7 +18,6 @@ use Rattle.query.specs.declared.member.MemberField.{MemberField}
 use Rattle.query.specs.declared.member.MemberField.the-variants.{Refused, Leaf, Group}
 use Rattle.query.specs.Format.{conjunctionTag, disjunctionTag, predicateTag, predicateLimit, depthLimit, memberCut, emptyGroup, invalidPayload, repeatedPayload, tooDeep, tooManyPredicates, unknownTag}
 use Rattle.query.specs.Decode.{payloadAt, isRepeated, predicateField, groupField, memberField}
-use Rattle.query.specs.Places.{fieldEnd}
 use Rattle.query.specs.Table.{predicatesAt}
 use Rattle.query.specs.Sound.{SoundField}
 use Rattle.query.proofs.Records.{predicates-length}

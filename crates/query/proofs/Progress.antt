@@ -9,7 +9,7 @@ use mathlib.Core.List.{List, [], _∷_, _++_, append-assoc, append-nil}
 use lib.ListN.{length, getD, set, length-append}
 use lib.Seq.{getD-set-same, getD-set-other}
 use lib.Dec.{ltb}
-use Rattle.fields.specs.Header.{headerAt, headerSize}
+use Rattle.fields.specs.Header.{headerAt, headerSize, fieldEnd}
 use Rattle.fields.proofs.Tests.{tests}
 use Rattle.strategy.specs.Bools.{which, ltb-lt, ltb-le}
 use Rattle.strategy.specs.Tree.{Tree, leaf, group, Forest, none, more, size, sizes, InRun}
@@ -25,7 +25,7 @@ use Rattle.query.specs.declared.reader.Progress.{Progress}
 use Rattle.query.specs.declared.reader.Progress.the-variants.{Refused, Next}
 use Rattle.query.specs.Format.{predicateLimit, depthLimit, depthOf}
 use Rattle.query.specs.Decode.{payloadAt, memberField, Read, stopped, read, settling, asGroup, putBefore, memberThen, member, members}
-use Rattle.query.specs.Places.{fieldEnd, Placed}
+use Rattle.query.specs.Places.{Placed}
 use Rattle.query.specs.Table.{predicatesAt}
 use Rattle.query.specs.Ladder.{taggedRung, Tables, tables, LaddersSized, ladder, Low, Under, Kept, Closed, ClosedTo}
 use Rattle.query.specs.Reader.{Risen, Told, MemberTold, MembersTold, MemberRead, MembersRead, Within, Room}

@@ -7,12 +7,12 @@ use mathlib.Core.Logic.{_⊎_, inl, inr}
 use mathlib.Core.List.{List, [], _∷_, _++_}
 use lib.ListN.{length, getD, set, take, drop, length-append, length-take, length-drop, List·getD-append}
 use lib.Seq.{getD-set-same, getD-set-other, getD-take, getD-drop, getD-at, drop-drop, take-nil}
-use Rattle.fields.specs.Header.{headerSize}
+use Rattle.fields.specs.Header.{headerSize, fieldEnd}
 use Rattle.strategy.specs.Bools.{same?}
 use Rattle.predicate.specs.Meaning.{Predicate}
 use Rattle.predicate.specs.Payload.{payloadHead, predicateOf}
 use Rattle.query.specs.Decode.{payloadAt}
-use Rattle.query.specs.Places.{fieldEnd, Placed}
+use Rattle.query.specs.Places.{Placed}
 use Rattle.query.specs.Table.{recordAt, recordOf, predicateIn, predicatesAt}
 
 -- the predicates listed

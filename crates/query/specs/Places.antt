@@ -3,14 +3,9 @@ use Prim.Native.Nat.{ℕ, _+_, _≤_, _<_}
 use mathlib.Core.Path.{_≡_}
 use mathlib.Core.List.{List}
 use lib.ListN.{length, getD}
-use Rattle.fields.specs.Numbers.{numberAt}
-use Rattle.fields.specs.Header.{headerSize}
+use Rattle.fields.specs.Header.{headerSize, fieldEnd}
 use Rattle.predicate.specs.Payload.{payloadHead}
 use Rattle.query.specs.Format.{predicateLimit}
-
--- the place after a field, as its header says
-abbrev pub fieldEnd : (q : List ℕ) → (at : ℕ) → ℕ
-fieldEnd q at = at + headerSize + numberAt q (at + 1) 2
 
 -- the payload of predicate c is the bytes from its start up to its end
 abbrev pub startAt : (places : List ℕ) → (c : ℕ) → ℕ

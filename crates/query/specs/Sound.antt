@@ -3,13 +3,12 @@ use Prim.Native.Nat.{ℕ, _+_, _≤_, _<_}
 use mathlib.Core.Path.{_≡_}
 use mathlib.Core.Bool.{true}
 use mathlib.Core.List.{List}
-use Rattle.fields.specs.Header.{headerSize}
+use Rattle.fields.specs.Header.{headerSize, fieldEnd}
 use Rattle.predicate.specs.Payload.{validPayload, payloadHead}
 use Rattle.query.specs.declared.member.MemberField.{MemberField}
 use Rattle.query.specs.declared.member.MemberField.the-variants.{Refused, Leaf, Group}
 use Rattle.query.specs.Format.{predicateLimit, depthLimit, memberCut, bytesAfterQuery}
 use Rattle.query.specs.Decode.{payloadAt}
-use Rattle.query.specs.Places.{fieldEnd}
 
 -- "7 to 14"
 abbrev pub IsRefusal : ℕ → Type 0

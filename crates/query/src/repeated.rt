@@ -3,11 +3,11 @@ use fields::header::Header;
 ghost use mathlib.Core.Path.{_≡_};
 ghost use Prim.Native.Nat.{_+_, _*_, _≤_};
 ghost use lib.ListN.{length, getD};
-ghost use Rattle.fields.specs.Header.{headerSize};
+ghost use Rattle.fields.specs.Header.{headerSize, fieldEnd};
 ghost use Rattle.predicate.specs.Meaning.{same};
 ghost use Rattle.predicate.specs.Payload.{payloadHead};
 ghost use Rattle.query.specs.Decode.{payloadAt, isRepeated};
-ghost use Rattle.query.specs.Places.{fieldEnd, Located};
+ghost use Rattle.query.specs.Places.{Located};
 ghost use Rattle.query.specs.Table.{predicatesAt};
 
 fn same_bytes(a: &[u8], b: &[u8]) -> bool
@@ -44,7 +44,7 @@ fn is_payload_at(payload: &[u8], q: &[u8], at: usize) -> bool
     if head(payload, 0) != head(q, start) {
         return false;
     }
-    let end = crate::table::field_end(q, at);
+    let end = fields::header::field_end(q, at);
     same_bytes(payload, &q[start..end])
 }
 

@@ -6,7 +6,7 @@ ghost use mathlib.Core.List.{_++_};
 ghost use Prim.Native.Nat.{_+_, _≤_};
 ghost use lib.ListN.{length, drop};
 ghost use Rattle.predicate.specs.Payload.{payloadHead};
-ghost use Rattle.query.specs.Places.{fieldEnd, Located};
+ghost use Rattle.query.specs.Places.{Located};
 ghost use Rattle.query.specs.Table.{recordOf, recordAt, HasRecord, recordsOf};
 
 // Document 01's condition: the operand is the len bytes of the query from place on.
@@ -21,14 +21,6 @@ impl Predicate {
     pub const TAG: u8 = 80;
 
     pub const LIMIT: usize = 64;
-}
-
-// The place after the field that begins at a place.
-pub fn field_end(q: &[u8], at: usize) -> usize
-    requires { ⌜ fieldEnd (now q) at ≤ length (now q) ⌝ }
-    ensures { λ r. ⌜ r ≡ fieldEnd (now (q .entry)) at ⌝ }
-{
-    at + Header::SIZE + fields::number::two_bytes(q, at + 1)
 }
 
 // The record of the payload from start up to end.
@@ -51,7 +43,7 @@ pub fn record_at(q: &[u8], places: &[usize], c: usize) -> Predicate
     ensures { λ r. ⌜ r ≡ recordAt (now (q .entry)) (now (places .entry)) c ⌝ }
 {
     let at = places[c];
-    record_of(q, at + Header::SIZE, field_end(q, at))
+    record_of(q, at + Header::SIZE, fields::header::field_end(q, at))
 }
 
 // Stores the records of the first n predicates; what stands after them stays.

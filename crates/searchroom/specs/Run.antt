@@ -62,19 +62,24 @@ counterAfter tally k = numberAt tally 0 counterSize + k
 abbrev pub counterFits : (tally : List ℕ) → (look-count : ℕ) → Bool
 counterFits tally k = eqb (length tally) counterSize && ltb (counterAfter tally k) (2 ^ 64)
 
+-- an accepted run: the two tables go out, their ones are its counts, and the tally gains the looks
+abbrev pub acceptWith : (selection probes listed looks tally : List ℕ) → Ran
+acceptWith S P listed looks tally =
+    ran (packed (Accepted (onesIn S) 0 (onesIn P))) (putFront S listed) (putFront P looks) (bytesOf counterSize (counterAfter tally (onesIn P)))
+
 abbrev pub accept : Input → (order listed looks tally : List ℕ) → Ran
-accept i order listed looks tally =
-    ran (packed (Accepted (foundCount i) 0 (lookCount i order)))
-    (putFront (selection i) listed)
-    (putFront (probes i order) looks)
-    (bytesOf counterSize (counterAfter tally (lookCount i order)))
+accept i order listed looks tally = acceptWith (selection i) (probes i order) listed looks tally
+
+-- "17, the tally is not eight bytes or the sum would pass 2^64 − 1"
+abbrev pub ended : (selection probes listed looks tally : List ℕ) → Ran
+ended S P listed looks tally = cond (counterFits tally (onesIn P)) (acceptWith S P listed looks tally) (refuse counterRefused listed looks tally)
 
 -- "Running: .. 15, .. 16, .. 17, .."
 unfoldable pub runOn : Input → (order listed looks tally : List ℕ) → Ran
 runOn i order listed looks tally =
     cond (isOrder (predicateCount i) order)
     (cond (tablesFit i listed looks)
-    (cond (counterFits tally (lookCount i order)) (accept i order listed looks tally) (refuse counterRefused listed looks tally))
+    (ended (selection i) (probes i order) listed looks tally)
     (refuse tableTooShort listed looks tally))
     (refuse notOrder listed looks tally)
 

@@ -1,8 +1,7 @@
 -- `is_payload_at` meets its contract: by column and kind, or by all bytes.
 use Prim.Native.Nat.{_+_}
 use native.Mathlib.Omega.{arith}
-use Rattle.fields.specs.Header.{headerSize}
-use Rattle.query.specs.Places.{fieldEnd}
+use Rattle.fields.specs.Header.{headerSize, fieldEnd}
 use Rattle.query.proofs.Repeats.{other-head, same-part}
 use borrow.Author.Needs.{needs}
 use Rattle.query.proofs.repeated.is_payload_at.Statement.{statement}
