@@ -1,15 +1,16 @@
 -- The climb over enclosing groups leaves what `settle` says.
 use Prim.Native.Nat.{ℕ, _+_, _≤_, _<_}
 use native.Mathlib.Omega.{arith}
-use mathlib.Core.Path.{_≡_, refl, ap, _∙_}
+use mathlib.Core.Path.{_≡_, refl, sym, ap, _∙_}
 use mathlib.Core.Bool.{Bool, true, false, cond}
 use mathlib.Core.Logic.{_⊎_, inl, inr}
 use mathlib.Core.List.{List, [], _∷_, _++_}
 use lib.Dec.{ltb}
-use Rattle.strategy.specs.Bools.{which, ltb-lt, ltb-le}
-use Rattle.strategy.specs.Tree.{Tree, leaf, group, Forest, none, more, size, sizes, InRun}
-use Rattle.strategy.specs.Live.{Live, Step, probed, through, settle, settleIn}
-use Rattle.strategy.specs.LiveLaws.{through-stopped}
+use Rattle.strategy.specs.Bools.{which, clash, not-of-true, ltb-lt, ltb-le}
+use Rattle.strategy.specs.Tree.{Tree, leaf, group, Forest, none, more, settles, size, sizes, InRun}
+use Rattle.strategy.specs.TreeLaws.{settles-yes, settles-no}
+use Rattle.strategy.specs.Live.{Live, Step, meets, probed, through, settle, settleIn}
+use Rattle.strategy.specs.LiveLaws.{without-in, meets-none, through-settles, through-asks, through-stopped}
 use Rattle.strategy.specs.Climb.{Group, enclosing, enclosingIn, climb}
 
 -- a climb that has stopped stays as it is
@@ -45,3 +46,24 @@ mutual
         | inr e ↦ (let l : i + size t ≤ c = ltb-le c (i + size t) e in rw e (climbs-settle f (i + size t) c (omega arith) v live))
       ] in
       go (which (ltb c (i + size t)))
+
+-- a climb that passed a group has left nothing of it live
+through-empties : (k v : Bool) (i n : ℕ) (s : Step) → (through k v i n s) .settled ≡ true → (d : ℕ) → InRun i n d → (through k v i n s) .live d ≡ false
+through-empties k v i n s e d r = go (which (s .settled)) (which (settles k v))
+  where
+    go : (s .settled ≡ true) ⊎ (s .settled ≡ false) → (settles k v ≡ true) ⊎ (settles k v ≡ false) → (through k v i n s) .live d ≡ false
+    go (inr f) w = clash (ap (λ (x : Step). x .settled) (sym (through-stopped k v i n s f)) ∙ e) f
+    go (inl f) (inl w) = ap (λ (x : Step). x .live d) (through-settles k v i n s f (settles-yes k v w)) ∙ without-in i n d (s .live) r
+    go (inl f) (inr w) =
+        let t = through-asks k v i n s f (settles-no k v w) in
+        ap (λ (x : Step). x .live d) t ∙ meets-none i n (s .live) (not-of-true (meets i n (s .live)) (ap (λ (x : Step). x .settled) (sym t) ∙ e)) d r
+
+-- past the outermost group nothing of the tree is live
+pub climb-empties : (t : Tree ℕ) (c : ℕ) (v : Bool) (live : Live) → c < size t → (climb v (enclosing t 0 c) (probed c live)) .settled ≡ true
+    → (d : ℕ) → d < size t → (climb v (enclosing t 0 c) (probed c live)) .live d ≡ false
+unfolding size enclosing climb
+climb-empties (leaf x) c v live l e d h = without-in c 1 d live (omega arith)
+climb-empties (group k f) c v live l e d h =
+    let q = climb-append v (enclosingIn f 0 c) (record { absorbing = k; first = 0; count = sizes f } ∷ []) (probed c live) in
+    ap (λ (x : Step). x .live d) q
+    ∙ through-empties k v 0 (sizes f) (climb v (enclosingIn f 0 c) (probed c live)) (ap (λ (x : Step). x .settled) (sym q) ∙ e) d (omega arith)

@@ -12,7 +12,7 @@ use Rattle.strategy.specs.Tree.{Tree, leaf, group, Forest, none, more, a
 use Rattle.strategy.specs.Alone.{Partial, hide, statusAs, alone}
 use Rattle.strategy.specs.Live.{Live, inRun, without, meets, probed, through}
 use Rattle.strategy.specs.Climb.{enclosing, climb}
-use Rattle.strategy.specs.Row.{walk}
+use Rattle.strategy.specs.Row.{Row, work}
 use Rattle.strategy.specs.Parish.{parish}
 
 abbrev two : Tree ℕ → Tree ℕ → Forest ℕ
@@ -55,11 +55,14 @@ either = any (two (leaf 0) (leaf 1))
 abbrev leftOver : Live
 leftOver = (climb true (enclosing either 0 0) (probed 0 (λ d. true))) .live
 
+abbrev second : Live → Row
+second live = work either (only 1) (0 ∷ 1 ∷ []) (record { live = live; probes = λ c. false; selected = false })
+
 pub shared-row :
-    (walk either (only 1) (0 ∷ 1 ∷ []) leftOver ≡ record { probes = []; answer = false })
-    × (walk either (only 1) (0 ∷ 1 ∷ []) (λ d. true) ≡ record { probes = (0, false) ∷ (1, true) ∷ []; answer = true })
-unfolding walk climb enclosing through without meets inRun size
-shared-row = (refl, refl)
+    ((second leftOver) .selected ≡ false) × ((second leftOver) .probes 0 ≡ false) × ((second leftOver) .probes 1 ≡ false)
+    × ((second (λ d. true)) .selected ≡ true) × ((second (λ d. true)) .probes 0 ≡ true) × ((second (λ d. true)) .probes 1 ≡ true)
+unfolding work climb enclosing through without meets inRun size
+shared-row = (refl, refl, refl, refl, refl, refl)
 
 -- 4. Taking "year before 1700" and "year after 1800" as connected.
 -- All of (0, 1), where 0 and 1 never come together: the clerk makes no probe and says no. Where they are not both yes he is

@@ -11,12 +11,10 @@ use Rattle.strategy.specs.Trace.{trace, ProbesOurs, sumOver}
 use Rattle.strategy.specs.Optimality.{optimal, optimal-sum}
 use Rattle.strategy.specs.Ours.{ours, ReadsOnly}
 use Rattle.strategy.specs.OursLaws.{ours-trace, ours-right}
-use Rattle.strategy.specs.Tree.{Tree, eval, size, Numbered, NonEmpty}
+use Rattle.strategy.specs.Tree.{Tree, eval, size, Numbered}
 use Rattle.strategy.specs.TreeLaws.{eval-run}
 use Rattle.strategy.specs.Order.{isOrder, Order}
 use Rattle.strategy.specs.OrderLaws.{order-law}
-use Rattle.strategy.specs.Row.{walk}
-use Rattle.strategy.specs.RowLaws.{walk-row}
 
 module _ (t : Tree ℕ) (n : Numbered t 0) (order : List ℕ) (accepted : isOrder (size t) order ≡ true) where
   held : Order (size t) order
@@ -42,7 +40,3 @@ module _ (t : Tree ℕ) (n : Numbered t 0) (order : List ℕ) (accepted : isOrde
   pub query-optimal-sum : {R : Type 0} (S : Strategy) → Right (eval t) order S → (truth : R → Assignment) (rows : List R)
       → sumOver (λ r. length (trace (eval t) (truth r) order)) rows ≤ sumOver (λ r. length (run S (truth r) order)) rows
   query-optimal-sum S R = optimal-sum (eval t) order (held .once) S R
-
-  -- the walk by a live set gives the probes and the answer
-  pub query-walk : NonEmpty t → (a : Assignment) → walk t a order (λ d. true) ≡ record { probes = trace (eval t) a order; answer = eval t a }
-  query-walk u a = walk-row t n u order held a

@@ -1,29 +1,35 @@
--- A row worked through by its live set.
+-- A row worked through by its live set, turn after turn.
 use Prim.Native.Nat.{ℕ}
-use mathlib.Core.Bool.{Bool, true, false}
+use mathlib.Core.Bool.{Bool, false, _&&_, _||_}
 use mathlib.Core.List.{List, [], _∷_}
+use lib.Dec.{eqb}
 use Rattle.strategy.specs.Assignment.{Assignment}
-use Rattle.strategy.specs.Strategy.{State}
 use Rattle.strategy.specs.Tree.{Tree}
-use Rattle.strategy.specs.Live.{Live, Step, probed}
+use Rattle.strategy.specs.Live.{Live, Step, without}
 use Rattle.strategy.specs.Climb.{enclosing, climb}
 
--- what a row gives: its probes with their outcomes, and its answer
-pub record Result : Type 0 where
-  pub probes : State
-  pub answer : Bool
+-- between two turns: which predicates can still decide, which were probed, and whether the row is selected
+pub record Row : Type 0 where
+  pub live : Live
+  pub probes : ℕ → Bool
+  pub selected : Bool
 
--- the outcome of the last probe is the answer; any other probe stands before those that follow
-abbrev pub lastOr : Bool → ℕ → Bool → Live → (Live → Result) → Result
-lastOr true c v live rest = record { probes = (c, v) ∷ []; answer = v }
-lastOr false c v live rest = record { probes = (c, v) ∷ (rest live) .probes; answer = (rest live) .answer }
+-- before the first turn: some predicates are live, if the row takes part
+abbrev pub begin : (start : Live) → (part : Bool) → Row
+begin start part = record { live = λ c. start c && part; probes = λ c. false; selected = false }
 
--- a turn of `c`, whose outcome is `v`: where `c` is live it is probed, and the climb is `s`
-abbrev pub turnOf : Bool → ℕ → Bool → Live → Step → (Live → Result) → Result
-turnOf true c v live s rest = lastOr (s .settled) c v (s .live) rest
-turnOf false c v live s rest = rest live
+-- where a probe of `c` begins its way outward; nothing is settled where `c` is not live
+abbrev pub asked : (c : ℕ) → Live → Step
+asked c live = record { live = without c 1 live; settled = live c }
 
--- the turns of a list, from a live set; an order is never used up before the climb has passed the root
-unfoldable pub walk : Tree ℕ → Assignment → List ℕ → Live → Result
-walk t a [] live = record { probes = []; answer = false }
-walk t a (c ∷ cs) live = turnOf (live c) c (a c) live (climb (a c) (enclosing t 0 c) (probed c live)) (λ l. walk t a cs l)
+-- after the turn of `c`, whose outcome is yes where `met`, and whose climb is `s`: past the outermost group a yes selects the row
+abbrev pub after : (c : ℕ) → (met : Bool) → (s : Step) → Row → Row
+after c met s r = record { live = s .live; probes = λ d. r .probes d || (eqb d c && r .live c); selected = r .selected || (s .settled && met) }
+
+-- a turn: where `c` is live it is probed, and its outcome goes outward
+abbrev pub turn : Tree ℕ → Assignment → (c : ℕ) → Row → Row
+turn t a c r = after c (r .live c && a c) (climb (r .live c && a c) (enclosing t 0 c) (asked c (r .live))) r
+
+unfoldable pub work : Tree ℕ → Assignment → (turns : List ℕ) → Row → Row
+work t a [] r = r
+work t a (c ∷ cs) r = work t a cs (turn t a c r)

@@ -1,107 +1,116 @@
--- A row worked through gives the trace and the tree's value; and the same for a loop over the order's places.
-use Prim.Native.Nat.{ℕ, _+_, _≤_, _<_}
+-- A row worked through makes the probes of the trace and is selected by the tree's value.
+use Prim.Native.Nat.{ℕ, _+_, _<_}
+use native.Mathlib.Omega.{arith}
 use native.Mathlib.Numerals.{add-one}
-use mathlib.Core.Path.{_≡_, refl, sym, ap, _∙_, subst}
-use mathlib.Core.Bool.{true, false}
+use mathlib.Core.Path.{_≡_, refl, sym, ap, ap₂, _∙_, subst, fun-ext}
+use mathlib.Core.Bool.{Bool, true, false, _&&_, _||_, and-true, and-false, or-false, or-assoc}
 use mathlib.Core.Logic.{_⊎_, inl, inr}
-use mathlib.Core.List.{List, [], _∷_, _++_, append-assoc}
-use lib.ListN.{length, getD, drop, drop-of-length-le}
+use mathlib.Core.List.{List, [], _∷_}
+use lib.Dec.{eqb}
+use lib.ListN.{length, getD, drop}
 use lib.Seq.{drop-cons}
-use Rattle.strategy.specs.Bools.{which}
-use Rattle.strategy.specs.Assignment.{Assignment}
-use Rattle.strategy.specs.Strategy.{State}
-use Rattle.strategy.specs.Trace.{due, trace}
+use Rattle.strategy.specs.Bools.{which, same?}
+use Rattle.strategy.specs.Assignment.{Assignment, Among, elem}
+use Rattle.strategy.specs.Strategy.{State, predicates}
+use Rattle.strategy.specs.Trace.{trace}
 use Rattle.strategy.specs.Order.{Order}
 use Rattle.strategy.specs.Tree.{Tree, eval, size, Numbered, NonEmpty}
-use Rattle.strategy.specs.Live.{Live, Step, probed}
+use Rattle.strategy.specs.Live.{Live, Step, without, probed}
+use Rattle.strategy.specs.LiveLaws.{without-in, without-off}
 use Rattle.strategy.specs.Climb.{enclosing, climb}
-use Rattle.strategy.specs.Walk.{Walk, walk-start, walk-end, walk-due, walk-pass, walk-probe, walk-last, trace-pass, trace-probe}
-use Rattle.strategy.specs.Row.{lastOr, turnOf, walk}
+use Rattle.strategy.specs.ClimbLaws.{climb-stopped, climb-empties}
+use Rattle.strategy.specs.Walk.{Walk, walk-start, walk-end, walk-pass, walk-probe, walk-last, trace-pass, trace-probe}
+use Rattle.strategy.specs.Row.{Row, begin, asked, after, turn, work}
 
-walk-from : (t : Tree ℕ) → Numbered t 0 → (a : Assignment) (cs : List ℕ) (live : Live) → Walk t a cs live
-    → walk t a cs live ≡ record { probes = trace (eval t) a cs; answer = eval t a }
-unfolding walk
-walk-from t n a [] live W = absurd (walk-end t a live W)
-walk-from t n a (c ∷ cs) live W = turn (which (live c)) (λ l X. walk-from t n a cs l X)
+-- what is not live is taken out of the live set in vain
+without-idle : (c : ℕ) (live : Live) → live c ≡ false → without c 1 live ≡ live
+without-idle c live h = fun-ext (λ d. go d (same? d c))
   where
-    s : Step
-    s = climb (a c) (enclosing t 0 c) (probed c live)
+    go : (d : ℕ) → (d ≡ c) ⊎ (d ≡ c → ⊥) → without c 1 live d ≡ live d
+    go d (inl e) = without-in c 1 d live (omega arith) ∙ sym (ap live e ∙ h)
+    go d (inr e) = without-off c 1 d live (λ r. e (omega arith))
 
-    Rest : Type 0
-    Rest = (l : Live) → Walk t a cs l → walk t a cs l ≡ record { probes = trace (eval t) a cs; answer = eval t a }
+-- a turn of what is not live changes nothing
+pub turn-idle : (t : Tree ℕ) (a : Assignment) (c : ℕ) (r : Row) → r .live c ≡ false → turn t a c r ≡ r
+turn-idle t a c r h =
+    ap (λ (s : Step). after c (r .live c && a c) s r) still
+    ∙ ap₂ (λ (f : ℕ → Bool) (b : Bool). record { live = r .live; probes = f; selected = b }) (fun-ext kept) (or-false (r .selected))
+  where
+    still : climb (r .live c && a c) (enclosing t 0 c) (asked c (r .live)) ≡ record { live = r .live; settled = false }
+    still =
+        ap (λ (b : Bool). climb (r .live c && a c) (enclosing t 0 c) (record { live = without c 1 (r .live); settled = b })) h
+        ∙ climb-stopped (r .live c && a c) (enclosing t 0 c) (record { live = without c 1 (r .live); settled = false }) refl
+        ∙ ap (λ (l : Live). record { live = l; settled = false }) (without-idle c (r .live) h)
 
-    probe : (h : live c ≡ true) → (s .settled ≡ true) ⊎ (s .settled ≡ false) → Rest
-        → lastOr (s .settled) c (a c) (s .live) (λ l. walk t a cs l) ≡ record { probes = trace (eval t) a (c ∷ cs); answer = eval t a }
-    probe h (inl d) ih =
-        let l = walk-last t n a c cs live W h s refl d in
-        rw (d, trace-probe t n a c cs live W h, l .1, ← (l .0))
-    probe h (inr d) ih = rw (d, trace-probe t n a c cs live W h, ih (s .live) (walk-probe t n a c cs live W h s refl d))
+    kept : (d : ℕ) → (r .probes d || (eqb d c && r .live c)) ≡ r .probes d
+    kept d = ap (λ (b : Bool). r .probes d || b) (ap (λ (b : Bool). eqb d c && b) h ∙ and-false (eqb d c)) ∙ or-false (r .probes d)
 
-    turn : (live c ≡ true) ⊎ (live c ≡ false) → Rest
-        → turnOf (live c) c (a c) live s (λ l. walk t a cs l) ≡ record { probes = trace (eval t) a (c ∷ cs); answer = eval t a }
-    turn (inl h) ih = rw h (probe h (which (s .settled)) ih)
-    turn (inr h) ih = rw (h, trace-pass t n a c cs live W h) (ih live (walk-pass t n a c cs live W h))
+pub work-idle : (t : Tree ℕ) (a : Assignment) (cs : List ℕ) (r : Row) → ((c : ℕ) → Among c cs → r .live c ≡ false) → work t a cs r ≡ r
+unfolding work
+work-idle t a [] r h = refl
+work-idle t a (c ∷ cs) r h = ap (work t a cs) (turn-idle t a c r (h c (inl refl))) ∙ work-idle t a cs r (λ d m. h d (inr m))
 
--- THE ROW: begun with all predicates live it makes the probes of the trace and answers with the tree's value
-pub walk-row : (t : Tree ℕ) → Numbered t 0 → NonEmpty t → (order : List ℕ) → Order (size t) order → (a : Assignment)
-    → walk t a order (λ d. true) ≡ record { probes = trace (eval t) a order; answer = eval t a }
-walk-row t n u order O a = walk-from t n a order (λ d. true) (walk-start t n u a order O (λ d. true) (λ d l. refl))
+-- what a row has got by the turns of `cs`
+pub record Worked (t : Tree ℕ) (a : Assignment) (cs : List ℕ) (before after : Row) : Type 0 where
+  pub selects : after .selected ≡ (before .selected || eval t a)
+  pub probed-are : (d : ℕ) → after .probes d ≡ (before .probes d || elem d (predicates (trace (eval t) a cs)))
 
--- a loop that has taken the turns of the first `i` places and made the probes `made`
-pub record Loop (t : Tree ℕ) (a : Assignment) (order : List ℕ) (i : ℕ) (live : Live) (made : State) : Type 0 where
-  pub walk : Walk t a (drop i order) live
-  pub told : made ++ trace (eval t) a (drop i order) ≡ trace (eval t) a order
+module _ (t : Tree ℕ) (n : Numbered t 0) (a : Assignment) where
+  -- a turn of what is live, with its climb
+  module _ (c : ℕ) (r : Row) (h : r .live c ≡ true) (s : Step) (e : climb (a c) (enclosing t 0 c) (probed c (r .live)) ≡ s) where
+    turn-live : turn t a c r ≡ after c (a c) s r
+    turn-live = ap₂ (λ (b v : Bool). after c v (climb v (enclosing t 0 c) (record { live = without c 1 (r .live); settled = b })) r) h (ap (λ (b : Bool). b && a c) h) ∙ ap (λ (x : Step). after c (a c) x r) e
 
-pub loop-start : (t : Tree ℕ) (a : Assignment) (order : List ℕ) (live : Live) → Walk t a order live → Loop t a order 0 live []
-loop-start t a order live W = record { walk = W; told = refl }
+    probes-more : (s′ : State) (d : ℕ) → ((r .probes d || (eqb d c && r .live c)) || elem d (predicates s′)) ≡ (r .probes d || elem d (predicates ((c, a c) ∷ s′)))
+    unfolding elem predicates
+    probes-more s′ d =
+        ap (λ (b : Bool). (r .probes d || b) || elem d (predicates s′)) (ap (λ (b : Bool). eqb d c && b) h ∙ and-true (eqb d c))
+        ∙ or-assoc (r .probes d) (eqb d c) (elem d (predicates s′))
 
--- the places are never used up
-pub loop-end : (t : Tree ℕ) (a : Assignment) (order : List ℕ) (i : ℕ) (live : Live) (made : State) → length order ≤ i → Loop t a order i live made → ⊥
-loop-end t a order i live made h L = walk-end t a live (subst (λ (l : List ℕ). Walk t a l live) (drop-of-length-le order h) (L .walk))
+  pub work-live : (cs : List ℕ) (r : Row) → Walk t a cs (r .live) → Worked t a cs r (work t a cs r)
+  unfolding work elem predicates
+  work-live [] r W = absurd (walk-end t a (r .live) W)
+  work-live (c ∷ cs) r W = go (which (r .live c)) (which (s .settled)) (λ x X. work-live cs x X)
+    where
+      s : Step
+      s = climb (a c) (enclosing t 0 c) (probed c (r .live))
 
-module _ (t : Tree ℕ) (n : Numbered t 0) (a : Assignment) (order : List ℕ) (i : ℕ) (live : Live) (made : State)
-    (lt : i < length order) (L : Loop t a order i live made) where
-  c : ℕ
-  c = getD order i 0
+      go : (r .live c ≡ true) ⊎ (r .live c ≡ false) → (s .settled ≡ true) ⊎ (s .settled ≡ false)
+          → ((x : Row) → Walk t a cs (x .live) → Worked t a cs x (work t a cs x)) → Worked t a (c ∷ cs) r (work t a cs (turn t a c r))
+      go (inr h) q ih =
+          let w = ih r (walk-pass t n a c cs (r .live) W h) in
+          rw (turn-idle t a c r h) (record { selects = w .selects; probed-are = λ d. rw (trace-pass t n a c cs (r .live) W h) (w .probed-are d) })
+      go (inl h) (inr q) ih =
+          let w = ih (after c (a c) s r) (walk-probe t n a c cs (r .live) W h s refl q) in
+          rw (turn-live c r h s refl)
+          (record {
+            selects = w .selects ∙ ap (λ (b : Bool). (r .selected || (b && a c)) || eval t a) q ∙ ap (λ (b : Bool). b || eval t a) (or-false (r .selected));
+            probed-are = λ d. w .probed-are d ∙ probes-more c r h s refl (trace (eval t) a cs) d ∙ rw (trace-probe t n a c cs (r .live) W h);
+          })
+      go (inl h) (inl q) ih =
+          let l = walk-last t n a c cs (r .live) W h s refl q in
+          let idle : work t a cs (after c (a c) s r) ≡ after c (a c) s r
+          = work-idle t a cs (after c (a c) s r) (λ d m. climb-empties t c (a c) (r .live) (W .inside c (inl refl)) q d (W .inside d (inr m))) in
+          rw (turn-live c r h s refl, idle)
+          (record {
+            selects = ap (λ (b : Bool). r .selected || (b && a c)) q ∙ ap (λ (b : Bool). r .selected || b) (l .0);
+            probed-are = λ d. sym (or-false (r .probes d || (eqb d c && r .live c))) ∙ probes-more c r h s refl [] d
+                ∙ rw (trace-probe t n a c cs (r .live) W h, l .1);
+          })
 
-  cs : List ℕ
-  cs = drop (i + 1) order
+  -- THE ROW: where it takes part, all predicates live, it is selected by the tree's value and its probes are those of the trace
+  pub work-row : NonEmpty t → (order : List ℕ) → Order (size t) order → (start : Live) → ((c : ℕ) → c < size t → start c ≡ true) → (part : Bool)
+      → ((work t a order (begin start part)) .selected ≡ (part && eval t a))
+      × ((d : ℕ) → (work t a order (begin start part)) .probes d ≡ (part && elem d (predicates (trace (eval t) a order))))
+  work-row u order O start all true =
+      let w = work-live order (begin start true) (walk-start t n u a order O (λ c. start c && true) (λ d l. ap (λ (b : Bool). b && true) (all d l))) in
+      (w .selects, w .probed-are)
+  work-row u order O start all false =
+      let idle = work-idle t a order (begin start false) (λ c m. and-false (start c)) in
+      (ap (λ (r : Row). r .selected) idle, λ d. ap (λ (r : Row). r .probes d) idle)
 
-  at : drop i order ≡ getD order i 0 ∷ drop (i + 1) order
-  at = drop-cons order i 0 lt ∙ ap (λ (k : ℕ). getD order i 0 ∷ drop k order) (sym (add-one i))
-
-  W : Walk t a (c ∷ cs) live
-  unfolding c cs
-  W = subst (λ (l : List ℕ). Walk t a l live) at (L .walk)
-
-  told : made ++ trace (eval t) a (c ∷ cs) ≡ trace (eval t) a order
-  unfolding c cs
-  told = subst (λ (l : List ℕ). made ++ trace (eval t) a l ≡ trace (eval t) a order) at (L .told)
-
-  pub loop-due : live (getD order i 0) ≡ due (eval t) (getD order i 0) (drop (i + 1) order) a
-  unfolding c cs
-  loop-due = walk-due t n a c cs live W
-
-  pub loop-pass : live (getD order i 0) ≡ false → Loop t a order (i + 1) live made
-  unfolding c cs
-  loop-pass h = record {
-    walk = walk-pass t n a c cs live W h;
-    told = ap (λ l. made ++ l) (sym (trace-pass t n a c cs live W h)) ∙ told;
-  }
-
-  -- probed, and the climb gives `s`
-  module _ (h : live (getD order i 0) ≡ true) (s : Step)
-      (e : climb (a (getD order i 0)) (enclosing t 0 (getD order i 0)) (probed (getD order i 0) live) ≡ s) where
-    pub loop-probe : s .settled ≡ false → Loop t a order (i + 1) (s .live) (made ++ ((getD order i 0, a (getD order i 0)) ∷ []))
-    unfolding c cs
-    loop-probe d = record {
-      walk = walk-probe t n a c cs live W h s e d;
-      told = append-assoc made ((c, a c) ∷ []) (trace (eval t) a cs) ∙ ap (λ l. made ++ l) (sym (trace-probe t n a c cs live W h)) ∙ told;
-    }
-
-    -- the early return: all probes made, and the answer
-    pub loop-last : s .settled ≡ true → (made ++ ((getD order i 0, a (getD order i 0)) ∷ []) ≡ trace (eval t) a order) × (a (getD order i 0) ≡ eval t a)
-    unfolding c cs
-    loop-last d =
-        let l = walk-last t n a c cs live W h s e d in
-        (ap (λ z. made ++ ((c, a c) ∷ z)) (sym (l .1)) ∙ ap (λ z. made ++ z) (sym (trace-probe t n a c cs live W h)) ∙ told, l .0)
+-- the turn of place i, and the turns after it
+pub work-place : (t : Tree ℕ) (a : Assignment) (order : List ℕ) (i : ℕ) (r : Row) → i < length order
+    → work t a (drop i order) r ≡ work t a (drop (i + 1) order) (turn t a (getD order i 0) r)
+unfolding work
+work-place t a order i r h = rw (add-one, drop-cons order i 0)
