@@ -4,4 +4,3 @@ pub mod RunLaws
 pub mod Rungs
 pub mod RungLaws
 pub mod OrderSet
-pub mod RowSet

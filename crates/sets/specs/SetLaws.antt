@@ -4,7 +4,7 @@ use native.Mathlib.Nat.{mod-lt, pow-suc, zero-div, div-eq-of-lt}
 use native.Mathlib.Numerals.{one-add}
 use native.Mathlib.Omega.{arith}
 use mathlib.Core.Path.{_≡_, refl, sym, ap, _∙_, fun-ext}
-use mathlib.Core.Bool.{Bool, true, false, _&&_, _||_, xor, true≢false, false≢true}
+use mathlib.Core.Bool.{Bool, true, false, _&&_, _||_, cond, xor, true≢false, false≢true}
 use mathlib.Core.Logic.{_⊎_, inl, inr}
 use lib.Dec.{eqb, ltb, leb·suc-suc, eqb·suc-suc}
 use lib.Pow.{pow-pos, pow-mono, pow-lt, shr-shr}
@@ -12,7 +12,7 @@ use lib.Bits.{bitAnd, bitOr, bitXor, and-shr, and-mod, or-lt, or-shr, or-mod, xo
 use Rattle.strategy.specs.Bools.{which, iff-eq, eqb-self, eqb-eq, eqb-ne, ltb-yes, ltb-no, ltb-lt, ltb-le}
 use Rattle.strategy.specs.Order.{allBelow, add}
 use Rattle.strategy.specs.OrderLaws.{allBelow-gives, allBelow-of}
-use Rattle.sets.specs.Set.{member, oneSet, belowSet, setWith}
+use Rattle.sets.specs.Set.{member, oneSet, belowSet, setMinus, setWith}
 
 -- one bit of each
 and-bits : (a b : ℕ) → a < 2 → b < 2 → eqb (bitAnd a b) 1 ≡ (eqb a 1 && eqb b 1)
@@ -61,6 +61,17 @@ member-xor = bitwise bitXor xor xor-shr (λ x y. xor-mod x y 1) xor-bits
 member-half : (x d : ℕ) → member x (suc d) ≡ member (x / 2) d
 unfolding member
 member-half x d = ap (λ (z : ℕ). eqb (z % 2) 1) (ap (λ (k : ℕ). x / 2 ^ k) (sym (one-add d)) ∙ sym (shr-shr x 1 d))
+
+minus-bit : (x m : Bool) → xor x (x && m) ≡ cond m false x
+unfolding xor
+minus-bit true true = refl
+minus-bit true false = refl
+minus-bit false true = refl
+minus-bit false false = refl
+
+pub minus-member : (x m d : ℕ) → member (setMinus x m) d ≡ cond (member m d) false (member x d)
+minus-member x m d =
+    member-xor x (bitAnd x m) d ∙ ap (xor (member x d)) (member-and x m d) ∙ minus-bit (member x d) (member m d)
 
 pub member-none : (d : ℕ) → member 0 d ≡ false
 unfolding member

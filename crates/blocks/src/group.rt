@@ -1,0 +1,48 @@
+// What the outcomes of a probe do to one group around it.
+ghost use Prim.Native.Nat.{_-_, _≤_};
+ghost use lib.ListN.{length};
+ghost use Rattle.blocks.specs.Block.{TakenOut, SettledRows, Passed};
+
+// Takes the rows of gone out of the words from a up to e; the rows at which one of them is live still.
+fn take_out(live: &mut [u64], a: usize, e: usize, gone: u64) -> u64
+    requires { ⌜ (a ≤ e) × (e ≤ length (now live)) ⌝ }
+    ensures { λ r. ⌜ TakenOut a (e - a) gone r (now (live .entry)) (now (live .exit)) ⌝ }
+{
+    let mut left: u64 = 0;
+    let mut c = a;
+    while c < e {
+        let rest = sets::minus(live[c], gone);
+        live[c] = rest;
+        left = left | rest;
+        c += 1;
+    }
+    left
+}
+
+// The active rows at which the outcome settles the group.
+fn settled_rows(absorbing: bool, active: u64, met: u64) -> u64
+    ensures { λ r. ⌜ SettledRows absorbing active met r ⌝ }
+{
+    if absorbing {
+        return active & met;
+    }
+    sets::minus(active, met)
+}
+
+// Outward through the group of the predicates from a up to e; the rows at which the climb goes on: those that the outcome
+// settles, and those at which nothing of the group is live any more.
+pub fn pass_group(
+    live: &mut [u64],
+    a: usize,
+    e: usize,
+    absorbing: bool,
+    active: u64,
+    met: u64,
+) -> u64
+    requires { ⌜ (a ≤ e) × (e ≤ length (now live)) ⌝ }
+    ensures { λ r. ⌜ Passed (record { absorbing = absorbing; first = a; count = e - a }) met active r (now (live .entry)) (now (live .exit)) ⌝ }
+{
+    let settled = settled_rows(absorbing, active, met);
+    let left = take_out(live, a, e, settled);
+    settled | sets::minus(sets::minus(active, settled), left)
+}
