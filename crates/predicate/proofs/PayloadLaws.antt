@@ -48,9 +48,9 @@ pub record Valid (tags payload : List ℕ) : Type 0 where
   pub head : payloadHead ≤ length payload
   pub column-in : columnByte payload < length tags
   pub kind-fits : kindFits (getD tags (columnByte payload) 0) (plainKind (kindByte payload)) ≡ true
-  pub range : HasRange (plainKind (kindByte payload)) (operandOf payload)
+  pub operand-fits : operandFits (plainKind (kindByte payload)) (operandOf payload) ≡ true
 
-range-size : (kind : ℕ) (o : List ℕ) → operandFits kind o ≡ true → HasRange kind o
+pub range-size : (kind : ℕ) (o : List ℕ) → operandFits kind o ≡ true → HasRange kind o
 unfolding operandFits rangeFits
 range-size kind o h e =
     let size : length o ≡ 8 = eqb-true _ _ (and-left _ _ (rw (eq-eqb kind 0 e) at h)) in omega arith
@@ -65,7 +65,7 @@ valid-payload tags payload h =
       head = leb-true 2 (length payload) (and-left _ _ h);
       column-in = ltb-true _ _ (and-left _ _ after-head);
       kind-fits = and-left _ _ after-column;
-      range = range-size (plainKind (kindByte payload)) (operandOf payload) after-kind;
+      operand-fits = after-kind;
     }
 
 -- and over the catalogue whose tags they are
@@ -97,5 +97,5 @@ valid-fits c place payload h =
     record {
       column-in = column-in;
       kind-fits = rw (tags-at (c .columns) (columnByte payload) (numbers []) column-in) at (valid .kind-fits);
-      range = valid .range;
+      range = range-size (plainKind (kindByte payload)) (operandOf payload) (valid .operand-fits);
     }

@@ -52,18 +52,18 @@ use Rattle.query.specs.Format.{predicateLimit}
 use Rattle.query.specs.Table.{noRecord, recordIn}
 use Rattle.query.proofs.table.Predicate as T
 use Rattle.query.proofs.table.Predicate.Laws as T′
-use Rattle.run.specs.Plan.{planSize, accessOf, HasColumn, HaveColumns, PutAccess, Planned}
-use Rattle.run.proofs.Again.{LentAgain, lends-again, comes-back}
-use Rattle.run.proofs.Plans.{Stage, Nearer, nearer, nearer-wf, begun, put-on, planned-end}
-use Rattle.run.proofs.plan.put_access as put-access
-use Rattle.run.proofs.plan.put_access.Symbol as put-access-def
-use Rattle.run.proofs.plan.put_access.Symbol.{name as #run·plan·put-access}
-use Rattle.run.proofs.plan.put_access.Met as put-access-thm
-use Rattle.run.proofs.plan.plan_records.Key.{name as #run·plan·plan-records}
-use Rattle.run.proofs.plan.plan_records as plan-records
-use Rattle.run.proofs.plan.plan_records.Statement as stated
-use Rattle.run.proofs.plan.plan_records.Code as code
-use Rattle.run.proofs.plan.plan_records.Code.Mir as mir-code
+use Rattle.plan.specs.Plan.{planSize, accessOf, HasColumn, HaveColumns, PutAccess, Planned}
+use Rattle.plan.proofs.Again.{LentAgain, lends-again, comes-back}
+use Rattle.plan.proofs.Plans.{Stage, Nearer, nearer, nearer-wf, begun, put-on, planned-end}
+use Rattle.plan.proofs.table.put_access as put-access
+use Rattle.plan.proofs.table.put_access.Symbol as put-access-def
+use Rattle.plan.proofs.table.put_access.Symbol.{name as #plan·table·put-access}
+use Rattle.plan.proofs.table.put_access.Met as put-access-thm
+use Rattle.plan.proofs.table.plan_records.Key.{name as #plan·table·plan-records}
+use Rattle.plan.proofs.table.plan_records as plan-records
+use Rattle.plan.proofs.table.plan_records.Statement as stated
+use Rattle.plan.proofs.table.plan_records.Code as code
+use Rattle.plan.proofs.table.plan_records.Code.Mir as mir-code
 
 abbrev R : RattleType
 R = T.the-row
@@ -207,7 +207,7 @@ module _ {M : Type 1} (𝓤 : URA M) (H : Heap 𝓤) (A : Atoms 𝓤) (W : Given
   Stages = Stage (now tags) (now starts) (recordIn rs) n
 
   -- what is known of `put_access`, what the types say of the parameters, and the `requires`
-  module _ (𝓣 : Tables 𝓤 H) (known : Triple 𝓤 (𝓣 .C #run·plan·put-access) (Put 𝓤 H A mem run))
+  module _ (𝓣 : Tables 𝓤 H) (known : Triple 𝓤 (𝓣 .C #plan·table·put-access) (Put 𝓤 H A mem run))
       (tags-room : Room u8 (length (now tags))) (starts-room : Room usize (length (now starts))) (table-room : Room R (length rs)) (n-fits : n < 2 ^ 64) (plan-room : Room usize (length ps))
       (few : n ≤ predicateLimit) (inside : n ≤ length rs) (sized : length ps ≡ planSize) (have : HaveColumns (now tags) (now starts) (recordIn rs) n) where
     abbrev C : Calls 𝓤 H
@@ -363,7 +363,7 @@ module _ {M : Type 1} (𝓤 : URA M) (H : Heap 𝓤) (A : Atoms 𝓤) (W : Given
         loops ! 𝓣 Nearer nearer-wf (At l₀ l₁ l₂ l₃ l₄ l₅ l₆ l₇ l₈ l₉ l₁₀ l₁₁ l₁₂ l₁₃) (turns l₀ l₁ l₂ l₃ l₄ l₅ l₆ l₇ l₈ l₉ l₁₀ l₁₁ l₁₂ l₁₃) (begun ps sized)))))))))))))))
 
 module _ {M : Type 1} (𝓤 : URA M) (H : Heap 𝓤) (A : Atoms 𝓤) (W : Given 𝓤 H A) (mem : Memory → SProp 𝓤) (run : Routine → Fun 𝓤) where
-  plan-records-walks : (𝓣 : Tables 𝓤 H) → Triple 𝓤 (𝓣 .C #run·plan·put-access) (Put 𝓤 H A mem run) → Walks 𝓤 H A plan-records.ended stayed (WpFn 𝓤 H (𝓣 .C) (𝓣 .Λ) code.function) (plan-records.clauses 𝓤 H A mem run)
+  plan-records-walks : (𝓣 : Tables 𝓤 H) → Triple 𝓤 (𝓣 .C #plan·table·put-access) (Put 𝓤 H A mem run) → Walks 𝓤 H A plan-records.ended stayed (WpFn 𝓤 H (𝓣 .C) (𝓣 .Λ) code.function) (plan-records.clauses 𝓤 H A mem run)
   plan-records-walks 𝓣 known = walked 𝓤 H A plan-records.ended stayed (plan-records.clauses 𝓤 H A mem run) (WpFn 𝓤 H (𝓣 .C) (𝓣 .Λ) code.function)
       (λ κs. (slice-vals, (slice-vals, (slice-vals, (uint-vals w64, (slice-vals, tt))))))
       (λ κs. (shr-slice-tells (named 0) (κs .0) u8, (shr-slice-tells (named 1) (κs .1 .0) usize, (shr-slice-tells (named 2) (κs .1 .1 .0) R, (uint-tells w64, (mut-slice-tells (named 3) (κs .1 .1 .1 .0) usize, tt))))))
@@ -373,7 +373,7 @@ module _ {M : Type 1} (𝓤 : URA M) (H : Heap 𝓤) (A : Atoms 𝓤) (W : Given
       𝓣 known (are .0 .0 .1) (are .1 .0 .0 .1) (are .1 .1 .0 .0 .1) (are .1 .1 .1 .0 .1) (are .1 .1 .1 .1 .0 .0 .1) (asked .0) (asked .1) (asked .2) (asked .3)))
 
 plan-records-meets : {M : Type 1} (𝓤 : URA M) (H : Heap 𝓤) (A : Atoms 𝓤) → Given 𝓤 H A → (mem : Memory → SProp 𝓤) (run : Routine → Fun 𝓤) (𝓣 : Tables 𝓤 H)
-    → Triple 𝓤 (𝓣 .C #run·plan·put-access) (Put 𝓤 H A mem run) → Meets 𝓤 H A plan-records.signature (WpFn 𝓤 H (𝓣 .C) (𝓣 .Λ) code.function) (plan-records.spec 𝓤 H A mem run)
+    → Triple 𝓤 (𝓣 .C #plan·table·put-access) (Put 𝓤 H A mem run) → Meets 𝓤 H A plan-records.signature (WpFn 𝓤 H (𝓣 .C) (𝓣 .Λ) code.function) (plan-records.spec 𝓤 H A mem run)
 plan-records-meets 𝓤 H A W mem run 𝓣 known =
     walk-meets 𝓤 H A plan-records.ended stayed W (
       goes-none-slice 𝓤 H A W 4 (0 ∷ []) tt (plain (λ _. u8)) yes,
@@ -391,6 +391,6 @@ pub plan-records-spec : {M : Type 1} → stated.statement M
 unfolding code.routine tablesOf
 plan-records-spec 𝓤 H 𝓜 𝓖 𝓡 =
     entered 𝓤 H (tripleOf 𝓤 H (𝓖 .A) plan-records.signature (plan-records.spec 𝓤 H (𝓖 .A) (𝓜 .mem) (𝓡 .run)))
-    (tables 𝓤 H 𝓜 𝓡 code.env .C) (tables 𝓤 H 𝓜 𝓡 code.env .Λ) #run·plan·plan-records code.function (code.unfolded 𝓤 H 𝓜 𝓡)
+    (tables 𝓤 H 𝓜 𝓡 code.env .C) (tables 𝓤 H 𝓜 𝓡 code.env .Λ) #plan·table·plan-records code.function (code.unfolded 𝓤 H 𝓜 𝓡)
     (plan-records-meets 𝓤 H (𝓖 .A) (givenOf 𝓤 H 𝓜 𝓖) (𝓜 .mem) (𝓡 .run) (tablesOf 𝓤 H 𝓜 (tables 𝓤 H 𝓜 𝓡 code.env))
-    (cited 𝓤 H (Put 𝓤 H (𝓖 .A) (𝓜 .mem) (𝓡 .run)) 𝓜 𝓡 code.env #run·plan·put-access put-access-def.routine code.calls-run·plan·put-access (put-access-thm.met 𝓤 H 𝓜 𝓖 𝓡)))
+    (cited 𝓤 H (Put 𝓤 H (𝓖 .A) (𝓜 .mem) (𝓡 .run)) 𝓜 𝓡 code.env #plan·table·put-access put-access-def.routine code.calls-plan·table·put-access (put-access-thm.met 𝓤 H 𝓜 𝓖 𝓡)))

@@ -1,8 +1,8 @@
 -- `plan_predicate` meets its contract: the access put is that of the record.
-use Rattle.run.proofs.Plans.{record-column, record-put}
+use Rattle.plan.proofs.Plans.{record-column, record-put}
 use borrow.Author.Needs.{needs}
-use Rattle.run.proofs.plan.plan_predicate.Statement.{statement}
-use Rattle.run.proofs.plan.plan_predicate.Tie as tie
+use Rattle.plan.proofs.table.plan_predicate.Statement.{statement}
+use Rattle.plan.proofs.table.plan_predicate.Tie as tie
 
 record-at-requires : tie.Need-record-at-requires
 record-at-requires c κs = search needs

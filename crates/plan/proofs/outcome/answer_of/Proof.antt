@@ -1,9 +1,9 @@
 -- `answer_of` meets its contract: what it hands on is what the access of the predicate shows.
 use native.Mathlib.Omega.{arith}
-use Rattle.run.proofs.Plans.{tag-byte, kind-byte, operand-inside, has-row, has-range, answer-is}
+use Rattle.plan.proofs.Outcomes.{tag-byte, kind-byte, operand-inside, has-row, has-range, answer-is}
 use borrow.Author.Needs.{needs}
-use Rattle.run.proofs.plan.answer_of.Statement.{statement}
-use Rattle.run.proofs.plan.answer_of.Tie as tie
+use Rattle.plan.proofs.outcome.answer_of.Statement.{statement}
+use Rattle.plan.proofs.outcome.answer_of.Tie as tie
 
 mul-i : tie.Need-mul-i
 mul-i c = search needs

@@ -1,15 +1,12 @@
 // The plan of a run: five numbers for each predicate, filled once, so that no row looks up a column.
-use predicate::answer::Answer;
 use query::table::Predicate;
 ghost use mathlib.Core.Path.{_≡_};
 ghost use Prim.Native.Nat.{_≤_, _<_};
 ghost use lib.ListN.{length};
-ghost use Rattle.predicate.specs.Outcome.{Folds};
 ghost use Rattle.query.specs.Format.{predicateLimit};
 ghost use Rattle.query.specs.Places.{Located};
 ghost use Rattle.query.specs.Table.{recordAt, HasRecord, recordIn};
-ghost use Rattle.run.specs.Plan.{planSize, accessAt, accessOf, HasColumn, HaveColumns, PutAccess, Planned};
-ghost use Rattle.run.specs.Ready.{HasOutcome, AnswerIs, TruthIs};
+ghost use Rattle.plan.specs.Plan.{planSize, accessAt, accessOf, HasColumn, HaveColumns, PutAccess, Planned};
 
 pub struct Plan;
 
@@ -83,40 +80,4 @@ pub fn fill_plan(
     }; Predicate::LIMIT];
     query::table::tabulate(q, places, n, &mut table);
     plan_records(tags, starts, &table, n, plan);
-}
-
-// The answer of predicate c at a row.
-pub fn answer_of(
-    fold: &[u8],
-    catalogue: &[u8],
-    q: &[u8],
-    plan: &[usize],
-    c: usize,
-    row: usize,
-) -> Answer
-    requires { ⌜ Folds (now fold) × (c < predicateLimit) × (length (now plan) ≡ planSize) × HasOutcome (now catalogue) (now q) (accessAt (now plan) c) row ⌝ }
-    ensures { λ r. ⌜ AnswerIs (now (catalogue .entry)) (now (q .entry)) (accessAt (now (plan .entry)) c) row r ⌝ }
-{
-    let i = Plan::WIDTH * c;
-    let tag = fields::number::narrow(plan[i]);
-    let start = plan[i + 1];
-    let kind = fields::number::narrow(plan[i + 2]);
-    let from = plan[i + 3];
-    let to = from + plan[i + 4];
-    predicate::outcome::outcome_at(fold, catalogue, tag, start, kind, &q[from..to], row)
-}
-
-// The outcome of predicate c at a row: what a run takes its answer for.
-pub fn outcome_of(
-    fold: &[u8],
-    catalogue: &[u8],
-    q: &[u8],
-    plan: &[usize],
-    c: usize,
-    row: usize,
-) -> bool
-    requires { ⌜ Folds (now fold) × (c < predicateLimit) × (length (now plan) ≡ planSize) × HasOutcome (now catalogue) (now q) (accessAt (now plan) c) row ⌝ }
-    ensures { λ r. ⌜ TruthIs (now (catalogue .entry)) (now (q .entry)) (accessAt (now (plan .entry)) c) row r ⌝ }
-{
-    predicate::answer::truth_of(answer_of(fold, catalogue, q, plan, c, row))
 }

@@ -6,7 +6,7 @@ use lib.ListN.{drop}
 use Rattle.query.specs.declared.table.Predicate.{Predicate}
 use Rattle.query.specs.Table.{recordAt, recordIn, recordsOf}
 use Rattle.query.proofs.Tabulated.{record-in}
-use Rattle.run.specs.Plan.{accessOf, HasColumn, HaveColumns, Planned}
+use Rattle.plan.specs.Plan.{accessOf, HasColumn, HaveColumns, Planned}
 
 module _ (q places : List ℕ) (T T₀ : List Predicate) (n : ℕ) (filled : T ≡ recordsOf q places n ++ drop n T₀) where
   same : (c : ℕ) → c < n → recordIn T c ≡ recordAt q places c

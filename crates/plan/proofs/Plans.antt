@@ -1,25 +1,17 @@
--- The plan: an access put, the loop over the predicates, and the outcome that an access gives.
+-- The plan: an access put, and the loop over the predicates.
 use Prim.Native.Nat.{ℕ, _+_, _-_, _*_, _≤_, _<_}
 use native.Mathlib.Omega.{arith}
-use mathlib.Core.Path.{_≡_, ap, ap₂, _∙_}
-use mathlib.Core.Bool.{Bool}
+use mathlib.Core.Path.{_≡_, _∙_}
 use mathlib.Core.WellFounded.{WellFounded, InvImage·wf}
 use mathlib.Core.Logic.{_⊎_, inl, inr}
-use mathlib.Core.List.{List, []}
-use lib.ListN.{length, getD, set, take, drop, length-set}
+use mathlib.Core.List.{List}
+use lib.ListN.{length, getD, set, length-set}
 use lib.Seq.{getD-set-same, getD-set-other}
 use lib.WfN.{Nat·lt-wfRel}
-use Rattle.catalogue.specs.Catalogue.{numbers}
-use Rattle.catalogue.specs.Layout.{HasRow}
-use Rattle.predicate.specs.declared.answer.Answer.{Answer}
-use Rattle.predicate.specs.Kinds.{plainKind}
-use Rattle.predicate.specs.Meaning.{truth, outcomeOf}
-use Rattle.predicate.specs.Outcome.{HasRange, OutcomeIs}
 use Rattle.strategy.specs.Bools.{same?}
 use Rattle.query.specs.declared.table.Predicate.{Predicate}
 use Rattle.query.specs.Format.{predicateLimit}
-use Rattle.run.specs.Plan.{Access, accessWidth, planSize, accessAt, accessOf, HasColumn, PutAccess, Planned}
-use Rattle.run.specs.Ready.{HasOutcome, AnswerIs, TruthIs}
+use Rattle.plan.specs.Plan.{Access, accessWidth, planSize, accessAt, accessOf, HasColumn, PutAccess, Planned}
 
 -- the five stores of an access
 module _ (P : List ℕ) (c a b k p s : ℕ) (sized : length P ≡ planSize) (inside : c < predicateLimit) where
@@ -160,48 +152,3 @@ module _ {tags starts : List ℕ} {R : ℕ → Predicate} {n : ℕ} where
 
 pub nearer : (c n : ℕ) → c < n → n - (c + 1) < n - c
 nearer c n l = omega arith
-
--- the outcome by the plan: what the code hands to `outcome_at` is what the access shows
-module _ (b q P : List ℕ) (c row : ℕ) where
-  abbrev x : Access
-  x = accessAt P c
-
-  -- the fields as the code reads them
-  pub tag-byte : HasOutcome b q (accessAt P c) row → getD P (accessWidth * c) 0 < 256
-  unfolding accessAt
-  tag-byte h = h .2 .tag-byte
-
-  pub kind-byte : HasOutcome b q (accessAt P c) row → getD P (accessWidth * c + 2) 0 < 256
-  unfolding accessAt
-  kind-byte h = h .2 .kind-byte
-
-  pub operand-inside : HasOutcome b q (accessAt P c) row → getD P (accessWidth * c + 3) 0 + getD P (accessWidth * c + 4) 0 ≤ length q
-  unfolding accessAt
-  operand-inside h = h .2 .placed
-
-  module _ (tag kind : ℕ) (t : tag ≡ getD P (accessWidth * c) 0) (k : kind ≡ getD P (accessWidth * c + 2) 0) where
-    abbrev from : ℕ
-    from = getD P (accessWidth * c + 3) 0
-
-    abbrev size : ℕ
-    size = getD P (accessWidth * c + 4) 0
-
-    same-operand : take (from + size - from) (drop from q) ≡ take size (drop from q)
-    same-operand = let e : from + size - from ≡ size = omega arith in rw e
-
-    pub has-row : HasOutcome b q (accessAt P c) row → HasRow b tag (getD P (accessWidth * c + 1) 0) row
-    unfolding accessAt
-    has-row h = rw t (h .0 .rows, getD (h .0 .columns) (h .1 .column) (numbers []), h .2 .shown, h .3)
-
-    pub has-range : HasOutcome b q (accessAt P c) row → HasRange (plainKind kind) (take (from + size - from) (drop from q))
-    unfolding accessAt
-    has-range h = rw (k, same-operand) (h .2 .range)
-
-    pub answer-is : (a : Answer) → OutcomeIs b tag (getD P (accessWidth * c + 1) 0) kind (take (from + size - from) (drop from q)) row a → AnswerIs b q (accessAt P c) row a
-    unfolding accessAt
-    answer-is a o C p A l =
-        o (C .rows) (getD (C .columns) (p .column) (numbers [])) (rw t (A .shown)) l
-        ∙ ap₂ (λ (z : ℕ) (y : List ℕ). outcomeOf (getD (C .columns) (p .column) (numbers [])) z y row) (k ∙ A .kind) (same-operand ∙ A .operand)
-
-pub truth-is : (b q : List ℕ) (x : Access) (row : ℕ) (a : Answer) (r : Bool) → AnswerIs b q x row a → r ≡ truth a → TruthIs b q x row r
-truth-is b q x row a r i e C p A l = e ∙ ap truth (i C p A l)

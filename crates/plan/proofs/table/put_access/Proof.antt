@@ -1,10 +1,10 @@
 -- `put_access` meets its contract: the five stores are the access.
 use native.Mathlib.Omega.{arith}
 use lib.ListN.{length-set}
-use Rattle.run.proofs.Plans.{put-stored}
+use Rattle.plan.proofs.Plans.{put-stored}
 use borrow.Author.Needs.{needs}
-use Rattle.run.proofs.plan.put_access.Statement.{statement}
-use Rattle.run.proofs.plan.put_access.Tie as tie
+use Rattle.plan.proofs.table.put_access.Statement.{statement}
+use Rattle.plan.proofs.table.put_access.Tie as tie
 
 mul-i : tie.Need-mul-i
 mul-i c = search needs

@@ -1,0 +1,5 @@
+pub mod Plans
+pub mod Outcomes
+pub mod Again
+pub mod RecordArray
+pub mod Recorded

@@ -1,0 +1,57 @@
+-- What the code hands on of an access is what the access shows.
+use Prim.Native.Nat.{ℕ, _+_, _-_, _*_, _≤_, _<_}
+use native.Mathlib.Omega.{arith}
+use mathlib.Core.Path.{_≡_, ap₂, _∙_}
+use mathlib.Core.List.{List, []}
+use lib.ListN.{length, getD, take, drop}
+use Rattle.catalogue.specs.Catalogue.{numbers}
+use Rattle.catalogue.specs.Layout.{HasRow}
+use Rattle.predicate.specs.declared.answer.Answer.{Answer}
+use Rattle.predicate.specs.Kinds.{plainKind}
+use Rattle.predicate.specs.Meaning.{outcomeOf}
+use Rattle.predicate.specs.Outcome.{HasRange, OutcomeIs}
+use Rattle.predicate.proofs.PayloadLaws.{range-size}
+use Rattle.plan.specs.Plan.{Access, accessWidth, accessAt}
+use Rattle.plan.specs.Access.{HasOutcome, AnswerIs}
+
+-- the outcome by the plan: what the code hands to `outcome_at` is what the access shows
+module _ (b q P : List ℕ) (c row : ℕ) where
+  abbrev x : Access
+  x = accessAt P c
+
+  -- the fields as the code reads them
+  pub tag-byte : HasOutcome b q (accessAt P c) row → getD P (accessWidth * c) 0 < 256
+  unfolding accessAt
+  tag-byte h = h .2 .tag-byte
+
+  pub kind-byte : HasOutcome b q (accessAt P c) row → getD P (accessWidth * c + 2) 0 < 256
+  unfolding accessAt
+  kind-byte h = h .2 .kind-byte
+
+  pub operand-inside : HasOutcome b q (accessAt P c) row → getD P (accessWidth * c + 3) 0 + getD P (accessWidth * c + 4) 0 ≤ length q
+  unfolding accessAt
+  operand-inside h = h .2 .placed
+
+  module _ (tag kind : ℕ) (t : tag ≡ getD P (accessWidth * c) 0) (k : kind ≡ getD P (accessWidth * c + 2) 0) where
+    abbrev from : ℕ
+    from = getD P (accessWidth * c + 3) 0
+
+    abbrev size : ℕ
+    size = getD P (accessWidth * c + 4) 0
+
+    same-operand : take (from + size - from) (drop from q) ≡ take size (drop from q)
+    same-operand = let e : from + size - from ≡ size = omega arith in rw e
+
+    pub has-row : HasOutcome b q (accessAt P c) row → HasRow b tag (getD P (accessWidth * c + 1) 0) row
+    unfolding accessAt
+    has-row h = rw t (h .0 .rows, getD (h .0 .columns) (h .1 .column) (numbers []), h .2 .shown, h .3)
+
+    pub has-range : HasOutcome b q (accessAt P c) row → HasRange (plainKind kind) (take (from + size - from) (drop from q))
+    unfolding accessAt
+    has-range h = rw (k, same-operand) (range-size _ _ (h .2 .operand-fits))
+
+    pub answer-is : (a : Answer) → OutcomeIs b tag (getD P (accessWidth * c + 1) 0) kind (take (from + size - from) (drop from q)) row a → AnswerIs b q (accessAt P c) row a
+    unfolding accessAt
+    answer-is a o C p A l =
+        o (C .rows) (getD (C .columns) (p .column) (numbers [])) (rw t (A .shown)) l
+        ∙ ap₂ (λ (z : ℕ) (y : List ℕ). outcomeOf (getD (C .columns) (p .column) (numbers [])) z y row) (k ∙ A .kind) (same-operand ∙ A .operand)

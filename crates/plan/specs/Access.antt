@@ -1,0 +1,36 @@
+-- What an access shows, and what a planned predicate gives.
+use Prim.Native.Nat.{ℕ, _+_, _≤_, _<_}
+use mathlib.Core.Path.{_≡_}
+use mathlib.Core.Bool.{true}
+use mathlib.Core.List.{List, []}
+use lib.ListN.{length, getD, take, drop}
+use Rattle.catalogue.specs.Catalogue.{Catalogue, numbers}
+use Rattle.catalogue.specs.Layout.{Shows}
+use Rattle.predicate.specs.declared.answer.Answer.{Answer}
+use Rattle.predicate.specs.Kinds.{plainKind}
+use Rattle.predicate.specs.Meaning.{Predicate, outcome}
+use Rattle.predicate.specs.Payload.{kindFits, operandFits}
+use Rattle.plan.specs.Plan.{Access}
+
+-- the bytes of an operand in the query
+abbrev pub operandIn : (q : List ℕ) → Access → List ℕ
+operandIn q x = take (x .size) (drop (x .place) q)
+
+-- an access shows a predicate: the column's values in the catalogue's bytes, the operand in the query's
+pub record Accessed (b q : List ℕ) (C : Catalogue) (p : Predicate) (x : Access) : Type 0 where
+  pub shown : Shows b (C .rows) (x .tag) (x .start) (getD (C .columns) (p .column) (numbers []))
+  pub tag-byte : x .tag < 256
+  pub kind : x .kind ≡ p .kind
+  pub kind-byte : x .kind < 256
+  pub operand : operandIn q x ≡ p .operand
+  pub placed : x .place + x .size ≤ length q
+  pub kind-fits : kindFits (x .tag) (plainKind (x .kind)) ≡ true
+  pub operand-fits : operandFits (plainKind (x .kind)) (operandIn q x) ≡ true
+
+-- some predicate is shown there, of a catalogue that has that row
+abbrev pub HasOutcome : (b q : List ℕ) → Access → (row : ℕ) → Type 0
+HasOutcome b q x row = (C : Catalogue) × (p : Predicate) × Accessed b q C p x × (row < C .rows)
+
+-- the answer at a row of whatever predicate is shown there
+abbrev pub AnswerIs : (b q : List ℕ) → Access → (row : ℕ) → Answer → Type 0
+AnswerIs b q x row a = (C : Catalogue) (p : Predicate) → Accessed b q C p x → row < C .rows → a ≡ outcome C p row
