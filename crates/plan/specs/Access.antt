@@ -8,8 +8,10 @@ use Rattle.catalogue.specs.Catalogue.{Catalogue, numbers}
 use Rattle.catalogue.specs.Layout.{Shows}
 use Rattle.predicate.specs.declared.answer.Answer.{Answer}
 use Rattle.predicate.specs.Kinds.{plainKind}
-use Rattle.predicate.specs.Meaning.{Predicate, outcome}
+use Rattle.predicate.specs.Meaning.{Predicate, outcome, truth}
 use Rattle.predicate.specs.Payload.{kindFits, operandFits}
+use Rattle.sets.specs.Set.{member}
+use Rattle.sets.specs.Kept.{KeptBy}
 use Rattle.plan.specs.Plan.{Access}
 
 -- the bytes of an operand in the query
@@ -34,3 +36,16 @@ HasOutcome b q x row = (C : Catalogue) × (p : Predicate) × Accessed b q C p x 
 -- the answer at a row of whatever predicate is shown there
 abbrev pub AnswerIs : (b q : List ℕ) → Access → (row : ℕ) → Answer → Type 0
 AnswerIs b q x row a = (C : Catalogue) (p : Predicate) → Accessed b q C p x → row < C .rows → a ≡ outcome C p row
+
+-- the due rows of the block that begins with row `base` are among so many rows
+abbrev pub RowsIn : (base due rows : ℕ) → Type 0
+RowsIn base due rows = (d : ℕ) → member due d ≡ true → base + d < rows
+
+-- some predicate is shown there, of a catalogue that has the due rows
+abbrev pub HasOutcomes : (b q : List ℕ) → Access → (base due : ℕ) → Type 0
+HasOutcomes b q x base due = (C : Catalogue) × (p : Predicate) × Accessed b q C p x × RowsIn base due (C .rows)
+
+-- the due rows at which whatever predicate is shown there is taken for yes
+abbrev pub MetIs : (b q : List ℕ) → Access → (base due met : ℕ) → Type 0
+MetIs b q x base due met =
+    (C : Catalogue) (p : Predicate) → Accessed b q C p x → RowsIn base due (C .rows) → KeptBy (λ d. truth (outcome C p (base + d))) due met

@@ -1,9 +1,1 @@
-pub mod Climbs
-pub mod Emptied
-pub mod Plans
-pub mod RowLoop
-pub mod RowsLoop
-pub mod Prepared
-pub mod Again
-pub mod RecordArray
-pub mod Recorded
+pub mod Fills

@@ -11,6 +11,12 @@ use Rattle.strategy.specs.Trace.{trace}
 use Rattle.strategy.specs.Tree.{eval}
 use Rattle.query.specs.Query.{Query}
 
+-- what a run works on
+pub record Task : Type 0 where
+  pub catalogue : Catalogue
+  pub query : Query
+  pub order : List ℕ
+
 -- the predicate of a number; there is none past the last
 abbrev pub predicateAt : Query → (c : ℕ) → Predicate
 predicateAt Q c = getD (Q .predicates) c (record { column = 0; kind = 0; operand = []; place = 0 })
@@ -19,14 +25,25 @@ predicateAt Q c = getD (Q .predicates) c (record { column = 0; kind = 0; operand
 abbrev pub assignmentAt : Catalogue → Query → (row : ℕ) → Assignment
 assignmentAt C Q row c = truth (outcome C (predicateAt Q c) row)
 
+-- whose turns there are, and the outcomes that count at a row
+abbrev pub turnsOf : Task → List ℕ
+turnsOf T = T .order
+
+abbrev pub told : Task → (row : ℕ) → Assignment
+told T row = assignmentAt (T .catalogue) (T .query) row
+
 -- "An entry is listed exactly if the question's tree .. holds of it"
-unfoldable pub isSelected : Catalogue → Query → (row : ℕ) → Bool
-isSelected C Q row = eval (Q .tree) (assignmentAt C Q row)
+unfoldable pub isSelected : Task → (row : ℕ) → Bool
+isSelected T row = eval (T .query .tree) (told T row)
 
 -- the looks at a row with their outcomes, in running order: "A look is registered exactly if, with the conditions earlier in
 -- the order at their true outcomes, some outcomes of the later ones make this condition alone decide the tree."
-unfoldable pub traceAt : Catalogue → Query → (order : List ℕ) → (row : ℕ) → State
-traceAt C Q order row = trace (eval (Q .tree)) (assignmentAt C Q row) order
+unfoldable pub traceAt : Task → (row : ℕ) → State
+traceAt T row = trace (eval (T .query .tree)) (told T row) (turnsOf T)
 
-abbrev pub isProbed : Catalogue → Query → (order : List ℕ) → (c row : ℕ) → Bool
-isProbed C Q order c row = elem c (predicates (traceAt C Q order row))
+-- the predicates probed at a row
+abbrev pub madeAt : Task → (row : ℕ) → List ℕ
+madeAt T row = predicates (traceAt T row)
+
+abbrev pub isProbed : Task → (c row : ℕ) → Bool
+isProbed T c row = elem c (madeAt T row)

@@ -1,42 +1,60 @@
--- What working the rows of a run gives: its own tables, and from them the bitmaps of document 01.
-use Prim.Native.Nat.{ℕ, _<_}
+-- What working rows gives, block by block, in a run's own tables.
+use Prim.Native.Nat.{ℕ, _+_, _*_, _%_, _≤_, _<_}
 use mathlib.Core.Path.{_≡_}
-use mathlib.Core.Bool.{Bool, false, _&&_, _||_}
+use mathlib.Core.Bool.{Bool, true, false, cond}
+use mathlib.Core.Logic.{_⊎_}
 use mathlib.Core.List.{List}
-use lib.Dec.{eqb}
-use Rattle.catalogue.specs.Catalogue.{Catalogue}
+use lib.ListN.{length, getD}
+use Rattle.fields.specs.Numbers.{Bytes}
+use Rattle.strategy.specs.Row.{Row, begin, work}
+use Rattle.sets.specs.Set.{member}
+use Rattle.bitmaps.specs.Bit.{bit}
 use Rattle.bitmaps.specs.Bitmap.{bytesFor, bitmap, bitmaps}
-use Rattle.bitmaps.specs.Table.{linesOf, Holds, within}
+use Rattle.bitmaps.specs.Table.{lineSize, lineBits, linesOf}
+use Rattle.bitmaps.specs.Word.{blockRows}
 use Rattle.query.specs.Format.{predicateLimit}
-use Rattle.query.specs.Query.{Query}
-use Rattle.run.specs.Run.{isSelected, isProbed}
-use Rattle.run.specs.Ready.{Ready}
+use Rattle.plan.specs.Access.{RowsIn}
+use Rattle.run.specs.declared.block.Block.{Block}
+use Rattle.run.specs.Run.{Task, turnsOf, told, isSelected, isProbed}
+use Rattle.run.specs.Ready.{Given, Ready}
 
--- a table of probes, a line for each predicate, before and after bit `row` is set in the line of each c with f c
-abbrev pub RowMarked : (f : ℕ → Bool) → (row : ℕ) → (before after : List ℕ) → Type 0
-RowMarked f row T T′ =
-    (held : ℕ → ℕ → Bool) → Holds held predicateLimit T → Holds (λ c e. held c e || (f c && eqb e row)) predicateLimit T′
+-- the predicates of `start` are live at the rows, of a table of words in which none was
+abbrev pub Filled : (start rows : ℕ) → (before after : List ℕ) → Type 0
+Filled start rows L N = (c : ℕ) → getD N c 0 ≡ cond (member start c) rows (getD L c 0)
 
--- a row's answer is the query's value there, and the probes marked are those due
-pub record RowDone (C : Catalogue) (Q : Query) (order : List ℕ) (row : ℕ) (answer : Bool) (before after : List ℕ) : Type 0 where
-  pub selected : answer ≡ isSelected C Q row
-  pub probed : RowMarked (λ c. isProbed C Q order c row) row before after
+-- row d of a block, as its turns leave it
+abbrev pub rowOf : Task → Block → (d : ℕ) → Row
+rowOf T B d = work (T .query .tree) (told T (B .base + d)) (turnsOf T) (begin (member (B .start)) (member (B .rows) d))
 
-abbrev pub RowWorked : (fold b q order plan masks sorts heights : List ℕ) → (n row : ℕ) → (answer : Bool) → (before after : List ℕ) → Type 0
-RowWorked F b q order P M S H n row answer T T′ =
-    (C : Catalogue) (Q : Query) → Ready F b q order P M S H n C Q → row < C .rows → RowDone C Q order row answer T T′
+-- a block begins at a word of a line, and the rows that take part are rows of the catalogue
+pub record BlockIn (B : Block) (rows : ℕ) : Type 0 where
+  pub whole : B .base % blockRows ≡ 0
+  pub inside : B .base < lineBits
+  pub taking-part : RowsIn (B .base) (B .rows) rows
 
--- a table of so many lines with no bit set
-abbrev pub Empty : (lines : ℕ) → (table : List ℕ) → Type 0
-Empty lines T = Holds (λ c e. false) lines T
+-- the bit of row e in the line of predicate c
+abbrev pub lineBit : (table : List ℕ) → (c e : ℕ) → Bool
+lineBit P c e = bit P (c * lineBits + e)
 
--- a run's own tables: every bit, and the bitmaps of document 01 at the front of the lines
-pub record Worked (C : Catalogue) (Q : Query) (order : List ℕ) (n : ℕ) (selected probes : List ℕ) : Type 0 where
-  pub selected-bits : Holds (within (λ c. isSelected C Q) 1 (C .rows)) 1 selected
-  pub selected-bitmap : linesOf (bytesFor (C .rows)) selected 1 ≡ bitmap (isSelected C Q) (C .rows)
-  pub probes-bits : Holds (within (isProbed C Q order) n (C .rows)) predicateLimit probes
-  pub probes-bitmaps : linesOf (bytesFor (C .rows)) probes n ≡ bitmaps (isProbed C Q order) n (C .rows)
+-- no probe is marked in the block yet
+pub record Unmarked (B : Block) (table : List ℕ) : Type 0 where
+  pub size : length table ≡ predicateLimit * lineSize
+  pub blank : (c d : ℕ) → d < blockRows → lineBit table c (B .base + d) ≡ false
 
-abbrev pub RowsWorked : (fold b q order plan masks sorts heights : List ℕ) → (n rows : ℕ) → (selected probes : List ℕ) → Type 0
-RowsWorked F b q order P M S H n rows selected probes =
-    (C : Catalogue) (Q : Query) → Ready F b q order P M S H n C Q → rows ≡ C .rows → Worked C Q order n selected probes
+-- outside the block a table is as it was
+pub record SameBeside (B : Block) (before after : List ℕ) : Type 0 where
+  pub size : length after ≡ length before
+  pub bytes : Bytes before → Bytes after
+  pub beside : (c e : ℕ) → e < lineBits → (e < B .base) ⊎ (B .base + blockRows ≤ e) → lineBit after c e ≡ lineBit before c e
+
+-- each row of the block is selected and has its probes marked as its turns leave it
+pub record BlockDone (T : Task) (B : Block) (selected : ℕ) (before after : List ℕ) : Type 0 where
+  pub selects : (d : ℕ) → d < blockRows → member selected d ≡ (rowOf T B d) .selected
+  pub marks : (c d : ℕ) → d < blockRows → lineBit after c (B .base + d) ≡ (rowOf T B d) .probes c
+  pub same : SameBeside B before after
+
+abbrev pub BlockReady : Given → Block → Type 0
+BlockReady G B = (n : ℕ) × (T : Task) × Ready G n T × BlockIn B (T .catalogue .rows)
+
+abbrev pub BlockWorked : Given → Block → (selected : ℕ) → (before after : List ℕ) → Type 0
+BlockWorked G B selected P P′ = (n : ℕ) (T : Task) → Ready G n T → BlockIn B (T .catalogue .rows) → BlockDone T B selected P P′
