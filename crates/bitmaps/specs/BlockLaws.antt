@@ -75,6 +75,27 @@ holds-line-put f g put {x = x} c k a s m h w =
 abbrev pub blocksBefore : (k : ℕ) → (ℕ → ℕ → Bool) → ℕ → ℕ → Bool
 blocksBefore k f c e = ltb e (k * blockRows) && f c e
 
+-- a line that has nothing in block k may be left as it is
+pub holds-line-left : (g : ℕ → ℕ → Bool) (put : ℕ → Bool) {lines : ℕ} {t : List ℕ} (c k : ℕ) → ((d : ℕ) → d < blockRows → g c (k * blockRows + d) ≡ false)
+    → Holds (partly (blocksBefore k g) g k put) lines t → Holds (partly (blocksBefore k g) g k (add c put)) lines t
+holds-line-left g put c k m = holds-same (λ d e l j. join (put d) (eqb d c) (eqb (e / blockRows) k) (g d e) (ltb e (k * blockRows)) (none d e))
+  where
+    none : (d e : ℕ) → (eqb d c && eqb (e / blockRows) k) ≡ true → g d e ≡ false
+    none d e y =
+        let p = and-parts (eqb d c) (eqb (e / blockRows) k) y in
+        let q : k * blockRows + e % blockRows ≡ e = omega (arith, eqb-eq (e / blockRows) k (p .1)) in
+        ap (λ (z : ℕ). g z e) (eqb-eq d c (p .0)) ∙ sym (ap (g c) q) ∙ m (e % blockRows) (mod-lt e (omega arith))
+
+    nothing : (a v : Bool) → v ≡ false → (a && v) ≡ v
+    nothing true v e = refl
+    nothing false v e = sym e
+
+    join : (p s b v a : Bool) → ((s && b) ≡ true → v ≡ false) → cond (p && b) v (a && v) ≡ cond ((p || s) && b) v (a && v)
+    join true s b v a e = refl
+    join false true true v a e = nothing a v (e refl)
+    join false true false v a e = refl
+    join false false b v a e = refl
+
 module _ (f : ℕ → ℕ → Bool) (n rows lines : ℕ) where
   pub holds-no-block : Holds (blocksBefore 0 (within f n rows)) lines (replicate (lines * lineSize) 0)
   holds-no-block = holds-same (λ c e l j. rw (ltb-no e (0 * blockRows) (omega arith))) (holds-none lines)
