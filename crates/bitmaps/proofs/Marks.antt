@@ -21,6 +21,13 @@ use Rattle.bitmaps.specs.BitLaws.{or-false}
 pub shift-one : (place : ℕ) → place < 8 → 1 * 2 ^ place % 2 ^ 8 ≡ 2 ^ place
 shift-one place h = shl-exact {a = 1} 1 place 8 (lit< tt) (omega arith) ∙ one-mul (2 ^ place)
 
+pub set-bytes : (t : List ℕ) (i x : ℕ) → i < length t → x < 256 → Bytes t → Bytes (set t i x)
+set-bytes t i x h l b j = go (same? j i)
+  where
+    go : (j ≡ i) ⊎ (j ≡ i → ⊥) → getD (set t i x) j 0 < 256
+    go (inl y) = rw (y, getD-set-same t i x 0 h) l
+    go (inr z) = rw (getD-set-other t i j x 0 z) (b j)
+
 module _ (t : List ℕ) (k : ℕ) (h : k / 8 < length t) where
   abbrev byte : ℕ
   byte = bitOr (getD t (k / 8) 0) (2 ^ (k % 8))
@@ -50,13 +57,7 @@ module _ (t : List ℕ) (k : ℕ) (h : k / 8 < length t) where
           (or-false (member (getD t (j / 8) 0) (j % 8)))
 
   bytes : Bytes t → Bytes marked
-  bytes b i = go (same? i (k / 8))
-    where
-      go : (i ≡ k / 8) ⊎ (i ≡ k / 8 → ⊥) → getD marked i 0 < 256
-      go (inl y) =
-          rw (y, getD-set-same t (k / 8) byte 0 h)
-          (or-lt 8 (getD t (k / 8) 0) (2 ^ (k % 8)) (b (k / 8)) (pow-lt {i = k % 8} {j = 8} (mod-lt k (omega arith))))
-      go (inr z) = rw (getD-set-other t (k / 8) i byte 0 z) (b i)
+  bytes b = set-bytes t (k / 8) byte h (or-lt 8 (getD t (k / 8) 0) (2 ^ (k % 8)) (b (k / 8)) (pow-lt {i = k % 8} {j = 8} (mod-lt k (omega arith)))) b
 
   pub set-marks : (w : ℕ) → w ≡ 2 ^ (k % 8) → Marked t k (set t (k / 8) (bitOr (getD t (k / 8) 0) w))
   set-marks w e = rw e (record { size = length-set t (k / 8) byte; bytes = bytes; bits = bits })

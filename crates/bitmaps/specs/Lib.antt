@@ -4,6 +4,9 @@ pub mod Bitmap
 pub mod OnesLaws
 pub mod Bit
 pub mod BitLaws
+pub mod Word
+pub mod WordLaws
 pub mod BitmapLaws
 pub mod Table
 pub mod TableLaws
+pub mod BlockLaws

@@ -3,3 +3,4 @@ pub mod copy;
 pub mod mark;
 pub mod ones;
 pub mod size;
+pub mod word;

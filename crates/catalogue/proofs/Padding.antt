@@ -1,7 +1,5 @@
 -- A slot's padding, by three words.
-use Prim.Native.Nat.{ℕ, zero, suc, _+_, _-_, _*_, _^_, _/_, _≤_, _<_, min}
-use native.Mathlib.Nat.{div-div-eq-div-mul, div-eq-of-lt, div-lt-iff-lt-mul}
-use lib.Pow.{pow-add}
+use Prim.Native.Nat.{ℕ, zero, suc, _+_, _-_, _*_, _^_, _≤_, _<_, min}
 use native.Mathlib.Omega.{arith}
 use mathlib.Core.Path.{_≡_, refl, sym, ap, _∙_}
 use mathlib.Core.Bool.{Bool, true, false, _&&_, and-assoc}
@@ -10,10 +8,7 @@ use lib.ListN.{getD}
 use lib.Dec.{eqb, leb}
 use borrow.Author.Tests.{leb-true, leb-false, le-leb, lt-leb, ne-eqb}
 use Rattle.catalogue.specs.Slots.{zerosAt, validSlot}
-use Rattle.catalogue.specs.Words.{wordAt}
-
-abbrev pub limitOf : ℕ → ℕ
-limitOf j = 256 ^ min 8 (j - 16) - 1
+use Rattle.catalogue.specs.Words.{wordAt, limitOf}
 
 pow-pos : (k : ℕ) → 0 < 256 ^ k
 pow-pos zero = omega arith
@@ -60,14 +55,15 @@ unfolding zerosAt
 zeros-nil b p = refl
 
 module _ (b : List ℕ) (s : (i : ℕ) → getD b i 0 < 256) (at n : ℕ) (l : n ≤ 23) where
-  first-word : (k q r : ℕ) → min 8 (n + 17 - 16) ≡ k → k ≤ 8 → at + k ≡ q → 8 - k ≡ r → leb (wordAt b at 8) (limitOf (n + 17)) ≡ zerosAt b q r
-  first-word k q r e h x y = rw (e, ← x, ← y) (word-limit b s k 8 at h)
+  within : (p j k q r : ℕ) → min 8 (j - 16) ≡ k → k ≤ 8 → p + k ≡ q → 8 - k ≡ r → leb (wordAt b p 8) (limitOf j) ≡ zerosAt b q r
+  within p j k q r e h x y = rw (e, ← x, ← y) (word-limit b s k 8 p h)
 
-  second-word : (k q r : ℕ) → min 8 (n + 9 - 16) ≡ k → k ≤ 8 → at + 8 + k ≡ q → 8 - k ≡ r → leb (wordAt b (at + 8) 8) (limitOf (n + 9)) ≡ zerosAt b q r
-  second-word k q r e h x y = rw (e, ← x, ← y) (word-limit b s k 8 (at + 8) h)
+  -- a word of the text, and one of the padding
+  taken : (p j q : ℕ) → 24 ≤ j → p + 8 ≡ q → leb (wordAt b p 8) (limitOf j) ≡ true
+  taken p j q h e = within p j 8 q 0 (omega arith) (omega arith) e refl ∙ zeros-nil b q
 
-  third-word : (k q r : ℕ) → min 8 (n + 1 - 16) ≡ k → k ≤ 8 → at + 16 + k ≡ q → 8 - k ≡ r → leb (wordAt b (at + 16) 8) (limitOf (n + 1)) ≡ zerosAt b q r
-  third-word k q r e h x y = rw (e, ← x, ← y) (word-limit b s k 8 (at + 16) h)
+  unused : (p j : ℕ) → j ≤ 16 → leb (wordAt b p 8) (limitOf j) ≡ zerosAt b p 8
+  unused p j h = within p j 0 p 8 (omega arith) (omega arith) (omega arith) refl
 
   -- n + 1 to 24 in parts
   parts : (p c q m : ℕ) → p + c ≡ q → zerosAt b p (c + m) ≡ (zerosAt b p c && zerosAt b q m)
@@ -79,18 +75,22 @@ module _ (b : List ℕ) (s : (i : ℕ) → getD b i 0 < 256) (at n : ℕ) (l : n
   in-first : n ≤ 7 → zerosAt b (at + 1 + n) (23 - n) ≡ Words
   in-first h =
       let c : 23 - n ≡ (7 - n) + (8 + 8) = omega arith in
-      rw (first-word (n + 1) (at + 1 + n) (7 - n) (omega arith) (omega arith) (omega arith) (omega arith), second-word 0 (at + 8) 8 (omega arith) (omega arith) (omega arith) refl, third-word 0 (at + 16) 8 (omega arith) (omega arith) (omega arith) refl, c)
+      rw (within at (n + 17) (n + 1) (at + 1 + n) (7 - n) (omega arith) (omega arith) (omega arith) (omega arith), unused (at + 8) (n + 9) (omega arith), unused (at + 16) (n + 1) (omega arith), c)
       (parts (at + 1 + n) (7 - n) (at + 8) (8 + 8) (omega arith) ∙ ap (_&&_ (zerosAt b (at + 1 + n) (7 - n))) (parts (at + 8) 8 (at + 16) 8 (omega arith)))
 
   in-second : 7 < n → n ≤ 15 → zerosAt b (at + 1 + n) (23 - n) ≡ Words
   in-second h i =
       let c : 23 - n ≡ (15 - n) + 8 = omega arith in
-      rw (first-word 8 (at + 8) 0 (omega arith) (omega arith) refl refl, zeros-nil b (at + 8), second-word (n - 7) (at + 1 + n) (15 - n) (omega arith) (omega arith) (omega arith) (omega arith), third-word 0 (at + 16) 8 (omega arith) (omega arith) (omega arith) refl, c)
+      rw (taken at (n + 17) (at + 8) (omega arith) refl, within (at + 8) (n + 9) (n - 7) (at + 1 + n) (15 - n) (omega arith) (omega arith) (omega arith) (omega arith), unused (at + 16) (n + 1) (omega arith), c)
       (parts (at + 1 + n) (15 - n) (at + 16) 8 (omega arith))
 
   in-third : 15 < n → zerosAt b (at + 1 + n) (23 - n) ≡ Words
   in-third h =
-      rw (first-word 8 (at + 8) 0 (omega arith) (omega arith) refl refl, zeros-nil b (at + 8), second-word 8 (at + 16) 0 (omega arith) (omega arith) (omega arith) refl, zeros-nil b (at + 16), third-word (n - 15) (at + 1 + n) (23 - n) (omega arith) (omega arith) (omega arith) (omega arith))
+      rw (
+        taken at (n + 17) (at + 8) (omega arith) refl,
+        taken (at + 8) (n + 9) (at + 16) (omega arith) (omega arith),
+        within (at + 16) (n + 1) (n - 15) (at + 1 + n) (23 - n) (omega arith) (omega arith) (omega arith) (omega arith),
+      )
 
   slot-words : zerosAt b (at + 1 + n) (23 - n) ≡ Words
   slot-words = go (leb n 7) refl (leb n 15) refl
@@ -105,42 +105,16 @@ module _ (b : List ℕ) (s : (i : ℕ) → getD b i 0 < 256) (at n : ℕ) (l : n
     unfolding validSlot
     slot-is = rw (← e, le-leb n 23 l)
 
-    pub slot-first : (w : ℕ) (x : Bool) → w ≡ wordAt b at 8 → x ≡ leb w (limitOf (n + 17)) → x ≡ false → false ≡ validSlot b at
-    slot-first w x p q h = rw (slot-is, slot-words, ← p, ← q, h)
+    module _ (x : Bool) (first : x ≡ leb (wordAt b at 8) (limitOf (n + 17))) where
+      pub slot-first : x ≡ false → false ≡ validSlot b at
+      slot-first h = rw (slot-is, slot-words, ← first, h)
 
-    pub slot-second : (w v : ℕ) (x y : Bool) → w ≡ wordAt b at 8 → x ≡ leb w (limitOf (n + 17)) → x ≡ true → v ≡ wordAt b (at + 8) 8 → y ≡ leb v (limitOf (n + 9)) → y ≡ false → false ≡ validSlot b at
-    slot-second w v x y p q h c d i = rw (slot-is, slot-words, ← p, ← q, h, ← c, ← d, i)
+      module _ (h : x ≡ true) (y : Bool) (second : y ≡ leb (wordAt b (at + 8) 8) (limitOf (n + 9))) where
+        pub slot-second : y ≡ false → false ≡ validSlot b at
+        slot-second i = rw (slot-is, slot-words, ← first, h, ← second, i)
 
-    pub slot-third : (w v u : ℕ) (x y z : Bool) → w ≡ wordAt b at 8 → x ≡ leb w (limitOf (n + 17)) → x ≡ true → v ≡ wordAt b (at + 8) 8 → y ≡ leb v (limitOf (n + 9)) → y ≡ true → u ≡ wordAt b (at + 16) 8 → z ≡ leb u (limitOf (n + 1)) → z ≡ validSlot b at
-    slot-third w v u x y z p q h c d i f g = rw (slot-is, slot-words, ← p, ← q, h, ← c, ← d, i, ← f, ← g)
-
--- a limit that the code computed
-pub limit-is : (w k j : ℕ) (x : Bool) → k ≡ min 8 (j - 16) → x ≡ leb w (256 ^ k - 1) → x ≡ leb w (limitOf j)
-limit-is w k j x e h = rw (← e) h
-
-four-bits : (k : ℕ) → 2 ^ (4 * k) * 2 ^ (4 * k) ≡ 256 ^ k
-four-bits zero = refl
-four-bits (suc k) =
-    let z : 4 * suc k ≡ 4 + 4 * k = omega arith in
-    let h : 2 ^ (4 * k) * 2 ^ (4 * k) ≡ 256 ^ k = four-bits k in
-    let g : 2 ^ (4 + 4 * k) ≡ 16 * 2 ^ (4 * k) = pow-add 2 4 (4 * k) in
-    rw (z, g) (omega arith)
-
-div-zero : (w m : ℕ) → 0 < m → eqb (w / m) 0 ≡ leb w (m - 1)
-div-zero w m h = go (leb w (m - 1)) refl
-  where
-    go : (r : Bool) → leb w (m - 1) ≡ r → eqb (w / m) 0 ≡ leb w (m - 1)
-    go true q =
-        let z : w ≤ m - 1 = leb-true w (m - 1) q in
-        let y : w / m ≡ 0 = div-eq-of-lt (omega arith) in
-        rw (q, y)
-    go false q =
-        let z : m - 1 < w = leb-false w (m - 1) q in
-        let ne : w / m ≡ 0 → ⊥ = λ e. (let y : w < 1 * m = div-lt-iff-lt-mul {k = m} {x = w} {y = 1} h .0 (omega arith) in omega arith) in
-        ne-eqb (w / m) 0 ne ∙ sym q
-
-pub shift-zero : (w k : ℕ) → eqb (w / 2 ^ (4 * k) / 2 ^ (4 * k)) 0 ≡ leb w (256 ^ k - 1)
-shift-zero w k = rw (div-div-eq-div-mul w (2 ^ (4 * k)) (2 ^ (4 * k)), four-bits k) (div-zero w (256 ^ k) (pow-pos k))
+        pub slot-third : y ≡ true → (z : Bool) → z ≡ leb (wordAt b (at + 16) 8) (limitOf (n + 1)) → z ≡ validSlot b at
+        slot-third i z third = rw (slot-is, slot-words, ← first, h, ← second, i, ← third)
 
 pub slot-long : (b : List ℕ) (at n : ℕ) → n ≡ getD b at 0 → 23 < n → false ≡ validSlot b at
 unfolding validSlot

@@ -1,7 +1,6 @@
--- `slot_is_valid` meets its contract: the bytes after the text are zeros just where each of three words is small enough.
-use Prim.Native.Nat.{_+_}
+-- `slot_is_valid` meets its contract: the bytes after the text are zeros just where each of three words is within its limit.
 use borrow.Author.Tests.{not-true, not-false}
-use Rattle.catalogue.proofs.Padding.{slot-long, slot-first, slot-second, slot-third, limit-is}
+use Rattle.catalogue.proofs.Padding.{slot-long, slot-first, slot-second, slot-third}
 use borrow.Author.Needs.{needs}
 use Rattle.catalogue.proofs.slot.slot_is_valid.Statement.{statement}
 use Rattle.catalogue.proofs.slot.slot_is_valid.Tie as tie
@@ -15,56 +14,50 @@ widen-requires c κs = search needs
 returns : tie.Need-returns
 returns c = slot-long _ _ _ (c .before .widen .ensures .0) (c .if1 .taken)
 
-word-at-requires : tie.Need-word-at-requires
-word-at-requires c κs = search needs
+add-is-within : tie.Need-add-is-within
+add-is-within c = search needs
 
-add-taken : tie.Need-add-taken
-add-taken c = search needs
-
-taken-requires : tie.Need-taken-requires
-taken-requires c κs = search needs
-
-is-zero-after-requires : tie.Need-is-zero-after-requires
-is-zero-after-requires c κs = search needs
+is-within-requires : tie.Need-is-within-requires
+is-within-requires c κs = search needs
 
 returns-2 : tie.Need-returns-2
-returns-2 c = slot-first (c .before .before .before .before .before .before .before .before .args .b .now) (λ i. c .before .before .before .before .before .before .before .shared-slice-known .given i .fits) (c .before .before .before .before .before .before .before .before .args .at) (c .before .before .before .before .before .widen .result) (c .before .before .before .before .if1 .left) (c .before .before .before .before .before .widen .ensures .0) _ _ (c .before .before .before .word-at .ensures) (limit-is _ _ (c .before .before .before .before .before .widen .result + 17) _ (c .before .before .taken .ensures) (c .before .is-zero-after .ensures)) (not-true _ (c .if2 .taken))
+returns-2 c =
+    let k = c .before .before .before in
+    let a = k .before .before .before .before in
+    slot-first (a .args .b .now) (λ i. k .before .before .shared-slice-known2 .given i .fits) (a .args .at) (k .widen .result) (c .before .before .if1 .left) (k .widen .ensures .0) _ (c .before .is-within .ensures) (not-true _ (c .if2 .taken))
 
-add-word-at : tie.Need-add-word-at
-add-word-at c = search needs
+add-is-within-2 : tie.Need-add-is-within-2
+add-is-within-2 c = search needs
 
-word-at-requires-2 : tie.Need-word-at-requires-2
-word-at-requires-2 c κs = search needs
+add-is-within-3 : tie.Need-add-is-within-3
+add-is-within-3 c = search needs
 
-add-taken-2 : tie.Need-add-taken-2
-add-taken-2 c = search needs
-
-taken-requires-2 : tie.Need-taken-requires-2
-taken-requires-2 c κs = search needs
-
-is-zero-after-requires-2 : tie.Need-is-zero-after-requires-2
-is-zero-after-requires-2 c κs = search needs
+is-within-requires-2 : tie.Need-is-within-requires-2
+is-within-requires-2 c κs = search needs
 
 returns-3 : tie.Need-returns-3
-returns-3 c = slot-second (c .before .before .before .before .before .before .before .before .before .before .before .before .args .b .now) (λ i. c .before .before .before .before .before .before .before .before .before .before .before .shared-slice-known .given i .fits) (c .before .before .before .before .before .before .before .before .before .before .before .before .args .at) (c .before .before .before .before .before .before .before .before .before .widen .result) (c .before .before .before .before .before .before .before .before .if1 .left) (c .before .before .before .before .before .before .before .before .before .widen .ensures .0) _ _ _ _ (c .before .before .before .before .before .before .before .word-at .ensures) (limit-is _ _ (c .before .before .before .before .before .before .before .before .before .widen .result + 17) _ (c .before .before .before .before .before .before .taken .ensures) (c .before .before .before .before .before .is-zero-after .ensures)) (not-false _ (c .before .before .before .before .if2 .left)) (c .before .before .before .word-at2 .ensures) (limit-is _ _ (c .before .before .before .before .before .before .before .before .before .widen .result + 9) _ (c .before .before .taken2 .ensures) (c .before .is-zero-after2 .ensures)) (not-true _ (c .if3 .taken))
+returns-3 c =
+    let k = c .before .before .before .before .before in
+    let a = k .before .before .before .before in
+    slot-second (a .args .b .now) (λ i. k .before .before .shared-slice-known2 .given i .fits) (a .args .at) (k .widen .result) (c .before .before .before .before .if1 .left) (k .widen .ensures .0)
+    _ (c .before .before .before .is-within .ensures) (not-false _ (c .before .before .if2 .left)) _ (c .before .is-within2 .ensures) (not-true _ (c .if3 .taken))
 
-add-word-at-2 : tie.Need-add-word-at-2
-add-word-at-2 c = search needs
+add-is-within-4 : tie.Need-add-is-within-4
+add-is-within-4 c = search needs
 
-word-at-requires-3 : tie.Need-word-at-requires-3
-word-at-requires-3 c κs = search needs
+add-is-within-5 : tie.Need-add-is-within-5
+add-is-within-5 c = search needs
 
-add-taken-3 : tie.Need-add-taken-3
-add-taken-3 c = search needs
-
-taken-requires-3 : tie.Need-taken-requires-3
-taken-requires-3 c κs = search needs
-
-is-zero-after-requires-3 : tie.Need-is-zero-after-requires-3
-is-zero-after-requires-3 c κs = search needs
+is-within-requires-3 : tie.Need-is-within-requires-3
+is-within-requires-3 c κs = search needs
 
 returns-4 : tie.Need-returns-4
-returns-4 c = slot-third (c .before .before .before .before .before .before .before .before .before .before .before .before .before .before .before .args .b .now) (λ i. c .before .before .before .before .before .before .before .before .before .before .before .before .before .before .shared-slice-known .given i .fits) (c .before .before .before .before .before .before .before .before .before .before .before .before .before .before .before .args .at) (c .before .before .before .before .before .before .before .before .before .before .before .before .widen .result) (c .before .before .before .before .before .before .before .before .before .before .before .if1 .left) (c .before .before .before .before .before .before .before .before .before .before .before .before .widen .ensures .0) _ _ _ _ _ _ (c .before .before .before .before .before .before .before .before .before .before .word-at .ensures) (limit-is _ _ (c .before .before .before .before .before .before .before .before .before .before .before .before .widen .result + 17) _ (c .before .before .before .before .before .before .before .before .before .taken .ensures) (c .before .before .before .before .before .before .before .before .is-zero-after .ensures)) (not-false _ (c .before .before .before .before .before .before .before .if2 .left)) (c .before .before .before .before .before .before .word-at2 .ensures) (limit-is _ _ (c .before .before .before .before .before .before .before .before .before .before .before .before .widen .result + 9) _ (c .before .before .before .before .before .taken2 .ensures) (c .before .before .before .before .is-zero-after2 .ensures)) (not-false _ (c .before .before .before .if3 .left)) (c .before .before .word-at3 .ensures) (limit-is _ _ (c .before .before .before .before .before .before .before .before .before .before .before .before .widen .result + 1) _ (c .before .taken3 .ensures) (c .is-zero-after3 .ensures))
+returns-4 c =
+    let k = c .before .before .before .before .before .before in
+    let a = k .before .before .before .before in
+    slot-third (a .args .b .now) (λ i. k .before .before .shared-slice-known2 .given i .fits) (a .args .at) (k .widen .result) (c .before .before .before .before .before .if1 .left) (k .widen .ensures .0)
+    _ (c .before .before .before .before .is-within .ensures) (not-false _ (c .before .before .before .if2 .left))
+    _ (c .before .before .is-within2 .ensures) (not-false _ (c .before .if3 .left)) _ (c .is-within3 .ensures)
 
 pub slot-is-valid-spec : {M : Type 1} → statement M
 slot-is-valid-spec =
@@ -73,20 +66,14 @@ slot-is-valid-spec =
     shared-slice-read-widen
     widen-requires
     returns
-    word-at-requires
-    add-taken
-    taken-requires
-    is-zero-after-requires
+    add-is-within
+    is-within-requires
     returns-2
-    add-word-at
-    word-at-requires-2
-    add-taken-2
-    taken-requires-2
-    is-zero-after-requires-2
+    add-is-within-2
+    add-is-within-3
+    is-within-requires-2
     returns-3
-    add-word-at-2
-    word-at-requires-3
-    add-taken-3
-    taken-requires-3
-    is-zero-after-requires-3
+    add-is-within-4
+    add-is-within-5
+    is-within-requires-3
     returns-4)

@@ -1,0 +1,11 @@
+-- `limit_table` meets its contract: the rule is computed over all entries, and `limits-table` carries it to each entry.
+use mathlib.Core.Path.{refl}
+use Rattle.catalogue.proofs.Table.{limits-table}
+use Rattle.catalogue.proofs.limits.limit_table.Statement.{statement}
+use Rattle.catalogue.proofs.limits.limit_table.Tie as tie
+
+returns : tie.Need-returns
+returns c = limits-table _ refl refl
+
+pub limit-table-spec : {M : Type 1} → statement M
+limit-table-spec = tie.close (tie.spec returns)
