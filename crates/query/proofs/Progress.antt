@@ -2,7 +2,7 @@
 use Prim.Native.Nat.{ℕ, zero, suc, _+_, _-_, _*_, _≤_, _<_}
 use native.Mathlib.Nat.{add-assoc, add-zero}
 use native.Mathlib.Omega.{arith}
-use mathlib.Core.Path.{_≡_, refl, sym, ap, _∙_}
+use mathlib.Core.Path.{_≡_, refl, ap, _∙_}
 use mathlib.Core.Logic.{_⊎_, inl, inr}
 use mathlib.Core.Bool.{true, false, cond}
 use mathlib.Core.List.{List, [], _∷_, _++_, append-assoc, append-nil}
@@ -24,7 +24,7 @@ use Rattle.query.specs.Decode.{payloadAt, memberField, Read, stopped, re
 use Rattle.query.specs.Places.{Placed}
 use Rattle.query.specs.Table.{predicatesAt}
 use Rattle.query.specs.Ancestors.{Tables, tables, ancestorsWidth, ancestorsSize, heightAt, groupOver, ancestorsOf, Low, Under, Kept, Spans, Closed}
-use Rattle.query.specs.Reader.{AncestorsGained, PredicatesGained, Reported, MemberReported, MembersReported, MemberRead, MembersRead, StaysWithin, Room}
+use Rattle.query.specs.Reader.{AncestorsGained, Reported, MemberReported, MembersReported, MemberRead, MembersRead, StaysWithin, Room}
 use Rattle.query.proofs.Records.{predicates-put, placed-put, record-shows}
 use Rattle.query.proofs.AncestorLaws.{fresh-height, fresh-kept, fresh-none, fresh-old, fresh-low, fresh-spans}
 use Rattle.query.proofs.Readings.{SoundTree, SoundForest, member-sound, members-sound}

@@ -82,12 +82,13 @@ loop-less c = search needs
 
 loop-again : tie.Need-loop-again Inv-loop μ-loop
 loop-again c =
+    let a = c .before .before .before .before .before .before .before .args in
     let l = c .before .before .before .loop in
     let h = room (c .before) in (
       omega arith,
       omega arith,
       search needs,
-      closed-more (l .ancestors) _ (l .c) _ _ _ _ _ _ refl (omega arith) (c .before .before .before .before .before .narrow .ensures) (c .before .before .before .before .narrow2 .ensures) h (omega arith) _ (omega arith) (omega arith) (l .inv .3),
+      closed-more (l .ancestors) (a .a) (l .c) (a .m) (a .tag) _ _ _ _ refl (omega arith) (c .before .before .before .before .before .narrow .ensures) (c .before .before .before .before .narrow2 .ensures) h (omega arith) _ (omega arith) (omega arith) (l .inv .3),
     )
 
 same-length : tie.Need-same-length Inv-loop μ-loop
