@@ -1,7 +1,7 @@
 pub mod Records
 pub mod Repeats
 pub mod Fields
-pub mod Ladders
+pub mod AncestorLaws
 pub mod Readings
 pub mod Progress
 pub mod WholeQuery

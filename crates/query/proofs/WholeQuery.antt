@@ -21,8 +21,8 @@ use Rattle.query.specs.declared.whole.Reading.the-variants.{Refused, Acc
 use Rattle.query.specs.Format.{bytesAfterQuery}
 use Rattle.query.specs.Decode.{payloadOf, Read, stopped, read, member, wholeQuery, decodeTagged}
 use Rattle.query.specs.Table.{recordAt, predicateIn, predicatesAt}
-use Rattle.query.specs.Ladder.{Tables}
-use Rattle.query.specs.Reader.{Told, MemberRead}
+use Rattle.query.specs.Ancestors.{Tables}
+use Rattle.query.specs.Reader.{Reported, MemberRead}
 use Rattle.query.specs.Handed.{TablesSized, Recorded, Handed}
 use Rattle.query.proofs.Readings.{Fits, Each, SoundTree, member-sound}
 
@@ -60,23 +60,23 @@ recorded tags q S c f =
     record { valid = f .valid; column = v .column-in; kind = kind-small _ _ (v .kind-fits) }
 
 module _ (tags q : List ℕ) (T T1 : Tables) where
-  told : (r : _) → MemberRead tags q 0 (length q) 0 0 r T T1 → Told q enclosing 0 (member (2 * length q + 1) tags q 0 (length q) 0 []) r T T1
+  reported : (r : _) → MemberRead tags q 0 (length q) 0 0 r T T1 → Reported q enclosing 0 (member (2 * length q + 1) tags q 0 (length q) 0 []) r T T1
   unfolding predicatesAt
-  told r h = h .exact (2 * length q + 1) (omega arith)
+  reported r h = h .exact (2 * length q + 1) (omega arith)
 
   pub whole-refused : (e : ℕ) → MemberRead tags q 0 (length q) 0 0 (progress.Refused e) T T1 → Handed tags q (decodeTagged tags q) (Refused e) T1
   unfolding decodeTagged
-  whole-refused e h = go (member (2 * length q + 1) tags q 0 (length q) 0 []) (told (progress.Refused e) h)
+  whole-refused e h = go (member (2 * length q + 1) tags q 0 (length q) 0 []) (reported (progress.Refused e) h)
     where
-      go : (o : Read (Tree ℕ)) → Told q enclosing 0 o (progress.Refused e) T T1 → Handed tags q (wholeQuery q o) (Refused e) T1
+      go : (o : Read (Tree ℕ)) → Reported q enclosing 0 o (progress.Refused e) T T1 → Handed tags q (wholeQuery q o) (Refused e) T1
       go (stopped x) t = let z : e ≡ x = cc in (ap Refused z, rw z at (h .within))
       go (read t ps next) d = let z : _≡_ {A = ℕ} 0 1 = cc in absurd (omega arith)
 
   pub whole-left : (p m : ℕ) → MemberRead tags q 0 (length q) 0 0 (progress.Next p m) T T1 → (p ≡ length q → ⊥) → Handed tags q (decodeTagged tags q) (Refused bytesAfterQuery) T1
   unfolding decodeTagged
-  whole-left p m h n = go (member (2 * length q + 1) tags q 0 (length q) 0 []) (told (progress.Next p m) h)
+  whole-left p m h n = go (member (2 * length q + 1) tags q 0 (length q) 0 []) (reported (progress.Next p m) h)
     where
-      go : (o : Read (Tree ℕ)) → Told q enclosing 0 o (progress.Next p m) T T1 → Handed tags q (wholeQuery q o) (Refused bytesAfterQuery) T1
+      go : (o : Read (Tree ℕ)) → Reported q enclosing 0 o (progress.Next p m) T T1 → Handed tags q (wholeQuery q o) (Refused bytesAfterQuery) T1
       go (stopped x) t = let z : _≡_ {A = ℕ} 0 1 = cc in absurd (omega arith)
       go (read t ps next) d = let z : next ≡ p = cc in rw (z, ne-eqb _ _ n) (refl, (omega arith, omega arith))
 
@@ -84,14 +84,14 @@ module _ (tags q : List ℕ) (T T1 : Tables) where
       → Handed tags q (decodeTagged tags q) (Accepted m) T1
   unfolding decodeTagged predicatesAt
   whole-accepted p m h e s =
-      go (member (2 * length q + 1) tags q 0 (length q) 0 []) (told (progress.Next p m) h) (member-sound (2 * length q + 1) tags q 0 (length q) 0 [])
+      go (member (2 * length q + 1) tags q 0 (length q) 0 []) (reported (progress.Next p m) h) (member-sound (2 * length q + 1) tags q 0 (length q) 0 [])
     where
-      go : (o : Read (Tree ℕ)) → Told q enclosing 0 o (progress.Next p m) T T1 → SoundTree tags q 0 (length q) 0 o → Handed tags q (wholeQuery q o) (Accepted m) T1
+      go : (o : Read (Tree ℕ)) → Reported q enclosing 0 o (progress.Next p m) T T1 → SoundTree tags q 0 (length q) 0 o → Handed tags q (wholeQuery q o) (Accepted m) T1
       go (stopped x) t k = let z : _≡_ {A = ℕ} 0 1 = cc in absurd (omega arith)
       go (read t ps next) d k =
           let z : next ≡ p = cc in
           let y : m ≡ length ps = (let w : m ≡ 0 + length ps = cc in omega arith) in
-          let l : predicatesAt q (T1 .places) (length ps) ≡ ps = (let w : 0 + length ps ≡ length ps = omega arith in rw w at (d .1)) in
+          let l : predicatesAt q (T1 .places) (length ps) ≡ ps = (let w : 0 + length ps ≡ length ps = omega arith in rw w at (d .shown)) in
           let few = k .few (omega arith) in
           rw (z, eq-eqb _ _ e) (
             ap Accepted y,
@@ -102,11 +102,12 @@ module _ (tags q : List ℕ) (T T1 : Tables) where
               leaves = k .counted;
               numbered = k .numbered;
               full = k .full;
-              located = record { sized = s .places; few = omega arith; placed = λ c i. h .within .4 c (omega arith) };
+              located = record { sized = s .places; few = omega arith; placed = λ c i. h .within .placed c (omega arith) };
               shown = l;
               each = λ c i. recorded tags q (T1 .places) c (each-at (Fits tags q) q (T1 .places) (length ps) (rw l (k .each)) c i);
-              ladders = λ c i. d .2 .new c (omega arith, omega arith);
-              low = λ c i. h .within .5 c (omega arith);
+              ancestors = λ c i. d .ancestors .new c (omega arith, omega arith);
+              low = λ c i. h .within .low c (omega arith);
+              spans = rw y at (h .within .spans);
               sized = s;
             },
           )

@@ -7,7 +7,6 @@ use lib.ListN.{length}
 use Rattle.fields.specs.Decoded.{Decoded, refused, accepted}
 use Rattle.strategy.specs.Tree.{size, Numbered, NonEmpty}
 use Rattle.strategy.specs.Climb.{enclosing}
-use Rattle.sets.specs.Rungs.{rungs}
 use Rattle.predicate.specs.Payload.{validPayload}
 use Rattle.query.specs.declared.whole.Reading.{Reading}
 use Rattle.query.specs.declared.whole.Reading.the-variants.{Refused, Accepted}
@@ -16,12 +15,12 @@ use Rattle.query.specs.Query.{Query}
 use Rattle.query.specs.Decode.{payloadOf}
 use Rattle.query.specs.Places.{Located}
 use Rattle.query.specs.Table.{recordAt, predicateIn, predicatesAt}
-use Rattle.query.specs.Ladder.{Tables, LaddersSized, ladder, Low}
+use Rattle.query.specs.Ancestors.{Tables, ancestorsSize, ancestorsOf, Low, Spans}
 use Rattle.query.specs.Sound.{IsRefusal}
 
 pub record TablesSized (T : Tables) : Type 0 where
   pub places : length (T .places) ≡ predicateLimit
-  pub ladders : LaddersSized (T .masks) (T .sorts) (T .heights)
+  pub ancestors : length (T .ancestors) ≡ ancestorsSize
 
 -- one record: a condition over columns with these tags
 pub record Recorded (tags q places : List ℕ) (c : ℕ) : Type 0 where
@@ -40,8 +39,9 @@ pub record Tabled (tags q : List ℕ) (Q : Query) (n : ℕ) (T : Tables) : Type 
   pub located : Located q (T .places) n
   pub shown : predicatesAt q (T .places) n ≡ Q .predicates
   pub each : (c : ℕ) → c < n → Recorded tags q (T .places) c
-  pub ladders : (c : ℕ) → c < n → ladder T c ≡ rungs (enclosing (Q .tree) 0 c)
-  pub low : Low n (T .heights)
+  pub ancestors : (c : ℕ) → c < n → ancestorsOf (T .ancestors) c ≡ enclosing (Q .tree) 0 c
+  pub low : Low n (T .ancestors)
+  pub spans : Spans n (T .ancestors)
   pub sized : TablesSized T
 
 -- a refusal is handed on by its number, an accepted query by its tables

@@ -5,7 +5,7 @@ pub mod Decode
 pub mod Encode
 pub mod Places
 pub mod Table
-pub mod Ladder
+pub mod Ancestors
 pub mod Sound
 pub mod Reader
 pub mod Handed

@@ -1,6 +1,6 @@
 // Document 01's question: read, checked, numbered.
+pub mod ancestors;
 pub mod format;
-pub mod ladder;
 pub mod member;
 pub mod reader;
 pub mod repeated;

@@ -1,7 +1,8 @@
 // The reader of a query: a group holds members, and a member may be a group again.
+use crate::ancestors::Ancestors;
 use crate::member::MemberField;
 ghost use Rattle.query.specs.Format.{depthOf};
-ghost use Rattle.query.specs.Ladder.{tables};
+ghost use Rattle.query.specs.Ancestors.{tables};
 ghost use Rattle.query.specs.Reader.{Room, MemberRead, MembersRead};
 
 // A refusal, or the place after what was read and the number of predicates up to there.
@@ -20,12 +21,10 @@ pub fn read_member(
     allowed: usize,
     n: usize,
     places: &mut [usize],
-    masks: &mut [u64],
-    sorts: &mut [u8],
-    heights: &mut [usize],
+    ancestors: &mut [u8],
 ) -> Progress
-    requires { ⌜ Room at end allowed n (now q) (tables (now places) (now masks) (now sorts) (now heights)) ⌝ }
-    ensures { λ r. ⌜ MemberRead (now (tags .entry)) (now (q .entry)) at end (depthOf allowed) n r (tables (now (places .entry)) (now (masks .entry)) (now (sorts .entry)) (now (heights .entry))) (tables (now (places .exit)) (now (masks .exit)) (now (sorts .exit)) (now (heights .exit))) ⌝ }
+    requires { ⌜ Room at end allowed n (now q) (tables (now places) (now ancestors)) ⌝ }
+    ensures { λ r. ⌜ MemberRead (now (tags .entry)) (now (q .entry)) at end (depthOf allowed) n r (tables (now (places .entry)) (now (ancestors .entry))) (tables (now (places .exit)) (now (ancestors .exit))) ⌝ }
 {
     match crate::member::read_field(tags, q, at, end, allowed, n, places) {
         MemberField::Refused(e) => Progress::Refused(e),
@@ -34,7 +33,7 @@ pub fn read_member(
             end: stop,
         } => {
             places[n] = at;
-            heights[n] = 0;
+            ancestors[Ancestors::WIDTH * n] = 0;
             Progress::Next { at: stop, n: n + 1 }
         }
         MemberField::Group {
@@ -42,21 +41,10 @@ pub fn read_member(
             start,
             end: stop,
         } => {
-            match read_group(
-                tags,
-                q,
-                start,
-                stop,
-                allowed - 1,
-                n,
-                places,
-                masks,
-                sorts,
-                heights,
-            ) {
+            match read_group(tags, q, start, stop, allowed - 1, n, places, ancestors) {
                 Progress::Refused(e) => Progress::Refused(e),
                 Progress::Next { at: next, n: m } => {
-                    crate::ladder::close_group(masks, sorts, heights, n, m, tag);
+                    crate::ancestors::close_group(ancestors, n, m, tag);
                     Progress::Next { at: next, n: m }
                 }
             }
@@ -73,17 +61,15 @@ fn read_group(
     allowed: usize,
     n: usize,
     places: &mut [usize],
-    masks: &mut [u64],
-    sorts: &mut [u8],
-    heights: &mut [usize],
+    ancestors: &mut [u8],
 ) -> Progress
-    requires { ⌜ Room at end allowed n (now q) (tables (now places) (now masks) (now sorts) (now heights)) ⌝ }
-    ensures { λ r. ⌜ MembersRead (now (tags .entry)) (now (q .entry)) at end (depthOf allowed) n r (tables (now (places .entry)) (now (masks .entry)) (now (sorts .entry)) (now (heights .entry))) (tables (now (places .exit)) (now (masks .exit)) (now (sorts .exit)) (now (heights .exit))) ⌝ }
+    requires { ⌜ Room at end allowed n (now q) (tables (now places) (now ancestors)) ⌝ }
+    ensures { λ r. ⌜ MembersRead (now (tags .entry)) (now (q .entry)) at end (depthOf allowed) n r (tables (now (places .entry)) (now (ancestors .entry))) (tables (now (places .exit)) (now (ancestors .exit))) ⌝ }
 {
     let mut p = at;
     let mut m = n;
     while p < end {
-        match read_member(tags, q, p, end, allowed, m, places, masks, sorts, heights) {
+        match read_member(tags, q, p, end, allowed, m, places, ancestors) {
             Progress::Refused(e) => {
                 return Progress::Refused(e);
             }

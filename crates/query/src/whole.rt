@@ -3,7 +3,7 @@ use crate::format::Group;
 use crate::format::Refusal;
 use crate::reader::Progress;
 ghost use Rattle.query.specs.Decode.{decodeTagged};
-ghost use Rattle.query.specs.Ladder.{tables};
+ghost use Rattle.query.specs.Ancestors.{tables};
 ghost use Rattle.query.specs.Handed.{TablesSized, Handed};
 
 pub enum Reading {
@@ -13,16 +13,9 @@ pub enum Reading {
 
 // Checks a query against a catalogue whose columns have these tags, and tells where the fields of its n
 // predicates begin and which groups are around each.
-pub fn read_query(
-    tags: &[u8],
-    q: &[u8],
-    places: &mut [usize],
-    masks: &mut [u64],
-    sorts: &mut [u8],
-    heights: &mut [usize],
-) -> Reading
-    requires { ⌜ TablesSized (tables (now places) (now masks) (now sorts) (now heights)) ⌝ }
-    ensures { λ r. ⌜ Handed (now (tags .entry)) (now (q .entry)) (decodeTagged (now (tags .entry)) (now (q .entry))) r (tables (now (places .exit)) (now (masks .exit)) (now (sorts .exit)) (now (heights .exit))) ⌝ }
+pub fn read_query(tags: &[u8], q: &[u8], places: &mut [usize], ancestors: &mut [u8]) -> Reading
+    requires { ⌜ TablesSized (tables (now places) (now ancestors)) ⌝ }
+    ensures { λ r. ⌜ Handed (now (tags .entry)) (now (q .entry)) (decodeTagged (now (tags .entry)) (now (q .entry))) r (tables (now (places .exit)) (now (ancestors .exit))) ⌝ }
 {
     match crate::reader::read_member(
         tags,
@@ -32,9 +25,7 @@ pub fn read_query(
         Group::DEPTH_LIMIT,
         0,
         places,
-        masks,
-        sorts,
-        heights,
+        ancestors,
     ) {
         Progress::Refused(e) => Reading::Refused(e),
         Progress::Next { at, n } => {

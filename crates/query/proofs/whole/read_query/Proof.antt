@@ -1,7 +1,7 @@
 -- `read_query` meets its contract: the reading begins with the whole query and no predicates, and is handed on by its cases.
 use native.Mathlib.Omega.{arith}
 use denote.Ref.{now}
-use Rattle.query.specs.Ladder.{tables}
+use Rattle.query.specs.Ancestors.{tables}
 use Rattle.query.proofs.WholeQuery.{whole-refused, whole-left, whole-accepted}
 use borrow.Author.Needs.{needs}
 use Rattle.query.proofs.whole.read_query.Statement.{statement}
@@ -22,17 +22,23 @@ same-length c = search needs
 same-length-2 : tie.Need-same-length-2
 same-length-2 c = search needs
 
+returns : tie.Need-returns
+returns c =
+    let a = c .before .before .before .before .before .before .before .before .before .before .before .before .before .before .before .args in
+    let m = c .before .before .before .before .before .before .before .before .read-member in
+    whole-left (now (a .tags)) (now (a .q)) (tables (now (a .places)) (now (a .ancestors))) (tables (m .last .1 .1 .1 .1 .1 .1 .0) (m .last .1 .1 .1 .1 .1 .1 .1 .0)) _ _ (rw (c .before .before .at .given .1) at (m .ensures)) (c .if1 .taken)
+
 same-length-3 : tie.Need-same-length-3
 same-length-3 c = search needs
 
 same-length-4 : tie.Need-same-length-4
 same-length-4 c = search needs
 
-returns : tie.Need-returns
-returns c =
-    let a = c .before .before .before .before .before .before .before .before .before .before .before .before .before .before .before .before .before .before .before .before .before .before .before .args in
-    let m = c .before .before .before .before .before .before .before .before .before .before .before .before .read-member in
-    whole-left (now (a .tags)) (now (a .q)) (tables (now (a .places)) (now (a .masks)) (now (a .sorts)) (now (a .heights))) (tables (m .last .1 .1 .1 .1 .1 .1 .0) (m .last .1 .1 .1 .1 .1 .1 .1 .0) (m .last .1 .1 .1 .1 .1 .1 .1 .1 .0) (m .last .1 .1 .1 .1 .1 .1 .1 .1 .1 .0)) _ _ (rw (c .before .before .at .given .1) at (m .ensures)) (c .if1 .taken)
+returns-2 : tie.Need-returns-2
+returns-2 c =
+    let a = c .before .before .before .before .before .before .before .before .before .before .before .before .before .before .args in
+    let m = c .before .before .before .before .before .before .before .read-member in
+    whole-refused (now (a .tags)) (now (a .q)) (tables (now (a .places)) (now (a .ancestors))) (tables (m .last .1 .1 .1 .1 .1 .1 .0) (m .last .1 .1 .1 .1 .1 .1 .1 .0)) _ (rw (c .before .e .given .1) at (m .ensures))
 
 same-length-5 : tie.Need-same-length-5
 same-length-5 c = search needs
@@ -40,39 +46,14 @@ same-length-5 c = search needs
 same-length-6 : tie.Need-same-length-6
 same-length-6 c = search needs
 
-same-length-7 : tie.Need-same-length-7
-same-length-7 c = search needs
-
-same-length-8 : tie.Need-same-length-8
-same-length-8 c = search needs
-
-returns-2 : tie.Need-returns-2
-returns-2 c =
-    let a = c .before .before .before .before .before .before .before .before .before .before .before .before .before .before .before .before .before .before .before .before .before .before .args in
-    let m = c .before .before .before .before .before .before .before .before .before .before .before .read-member in
-    whole-refused (now (a .tags)) (now (a .q)) (tables (now (a .places)) (now (a .masks)) (now (a .sorts)) (now (a .heights))) (tables (m .last .1 .1 .1 .1 .1 .1 .0) (m .last .1 .1 .1 .1 .1 .1 .1 .0) (m .last .1 .1 .1 .1 .1 .1 .1 .1 .0) (m .last .1 .1 .1 .1 .1 .1 .1 .1 .1 .0)) _ (rw (c .before .e .given .1) at (m .ensures))
-
-same-length-9 : tie.Need-same-length-9
-same-length-9 c = search needs
-
-same-length-10 : tie.Need-same-length-10
-same-length-10 c = search needs
-
-same-length-11 : tie.Need-same-length-11
-same-length-11 c = search needs
-
-same-length-12 : tie.Need-same-length-12
-same-length-12 c = search needs
-
 returns-3 : tie.Need-returns-3
 returns-3 c =
-    let a = c .before .before .before .before .before .before .before .before .before .before .before .before .before .before .before .before .before .before .before .before .before .before .before .args in
-    let m = c .before .before .before .before .before .before .before .before .before .before .before .before .read-member in
-    let p = c .before .before .before .before .before .before .before .before .before .before .before .before .before .before .before .before .before .before .before .before .before .before .before .pre in
-    let s = p .ladders in
+    let a = c .before .before .before .before .before .before .before .before .before .before .before .before .before .before .before .args in
+    let m = c .before .before .before .before .before .before .before .before .read-member in
+    let p = c .before .before .before .before .before .before .before .before .before .before .before .before .before .before .before .pre in
     let k = m .kept in
-    whole-accepted (now (a .tags)) (now (a .q)) (tables (now (a .places)) (now (a .masks)) (now (a .sorts)) (now (a .heights))) (tables (m .last .1 .1 .1 .1 .1 .1 .0) (m .last .1 .1 .1 .1 .1 .1 .1 .0) (m .last .1 .1 .1 .1 .1 .1 .1 .1 .0) (m .last .1 .1 .1 .1 .1 .1 .1 .1 .1 .0)) _ _ (rw (c .before .before .at .given .1) at (m .ensures)) (c .if1 .left)
-    (record { places = omega arith; ladders = record { masks-size = omega arith; sorts-size = omega arith; heights-size = omega arith } })
+    whole-accepted (now (a .tags)) (now (a .q)) (tables (now (a .places)) (now (a .ancestors))) (tables (m .last .1 .1 .1 .1 .1 .1 .0) (m .last .1 .1 .1 .1 .1 .1 .1 .0)) _ _ (rw (c .before .before .at .given .1) at (m .ensures)) (c .if1 .left)
+    (record { places = omega arith; ancestors = omega arith })
 
 pub read-query-spec : {M : Type 1} → statement M
 read-query-spec =
@@ -83,16 +64,10 @@ read-query-spec =
     enum-known-at
     same-length
     same-length-2
+    returns
     same-length-3
     same-length-4
-    returns
+    returns-2
     same-length-5
     same-length-6
-    same-length-7
-    same-length-8
-    returns-2
-    same-length-9
-    same-length-10
-    same-length-11
-    same-length-12
     returns-3)
