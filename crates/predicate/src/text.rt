@@ -4,7 +4,7 @@ ghost use mathlib.Core.Path.{_≡_};
 ghost use Rattle.predicate.specs.Meaning.{fold, equals, beginsWith, contains, textTest};
 ghost use Rattle.predicate.specs.Outcome.{Folds};
 
-fn fold_byte(table: &[u8], x: u8) -> u8
+pub fn fold_byte(table: &[u8], x: u8) -> u8
     requires { ⌜ Folds (now table) ⌝ }
     ensures { λ r. ⌜ r ≡ fold x ⌝ }
 {

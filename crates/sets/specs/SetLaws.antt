@@ -58,7 +58,7 @@ pub member-xor : (x y d : ℕ) → member (bitXor x y) d ≡ xor (member x d) (m
 member-xor = bitwise bitXor xor xor-shr (λ x y. xor-mod x y 1) xor-bits
 
 -- a bit above the first is a bit of the half
-member-half : (x d : ℕ) → member x (suc d) ≡ member (x / 2) d
+pub member-half : (x d : ℕ) → member x (suc d) ≡ member (x / 2) d
 unfolding member
 member-half x d = ap (λ (z : ℕ). eqb (z % 2) 1) (ap (λ (k : ℕ). x / 2 ^ k) (sym (one-add d)) ∙ sym (shr-shr x 1 d))
 

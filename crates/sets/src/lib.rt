@@ -1,8 +1,11 @@
 // A set of numbers below 64, held as the bits of a u64, and the check of an order by such a set.
+// A loop over the numbers of a set x takes first(x) and goes on with rest(x); the set of first(x) alone is then x ^ rest(x).
 ghost use mathlib.Core.Path.{_≡_};
+ghost use mathlib.Core.Bool.{cond};
 ghost use Prim.Native.Nat.{_-_, _≤_, _<_};
 ghost use Rattle.strategy.specs.Order.{isOrder};
 ghost use Rattle.sets.specs.Set.{member, oneSet, belowSet, runSet, setMinus, setsMeet, setWithout, setWith};
+ghost use Rattle.sets.specs.Kept.{First, Rest};
 
 // Is d in the set.
 pub fn has(x: u64, d: u8) -> bool
@@ -68,6 +71,29 @@ pub fn with(x: u64, d: u8) -> u64
     ensures { λ r. ⌜ r ≡ setWith x d ⌝ }
 {
     x | single(d)
+}
+
+// The lowest number of the set.
+pub fn first(x: u64) -> u8
+    requires { ⌜ 0 < x ⌝ }
+    ensures { λ r. ⌜ First x r ⌝ }
+{
+    u64::trailing_zeros(x) as u8
+}
+
+// The set without its lowest number.
+pub fn rest(x: u64) -> u64
+    requires { ⌜ 0 < x ⌝ }
+    ensures { λ r. ⌜ Rest x r ⌝ }
+{
+    x & (x - 1)
+}
+
+// The set, or none of it.
+pub fn kept(test: bool, x: u64) -> u64
+    ensures { λ r. ⌜ r ≡ cond test x 0 ⌝ }
+{
+    if test { x } else { 0 }
 }
 
 // Is the order n bytes holding each number below n once.
