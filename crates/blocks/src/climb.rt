@@ -1,22 +1,9 @@
 // From group to group outward: what a probe leaves live, at 64 rows at once.
+use query::ancestors::Ancestors;
 use query::format::Group;
 ghost use lib.ListN.{length};
-ghost use Rattle.blocks.specs.Ancestors.{ancestorAt, ancestorsOf};
+ghost use Rattle.query.specs.Ancestors.{ancestorAt, ancestorsOf};
 ghost use Rattle.blocks.specs.Block.{Ancestor, HasAncestors, Passed, Climbed};
-
-pub struct Ancestors;
-
-impl Ancestors {
-    pub const FIRST: usize = 0;
-
-    pub const END: usize = 1;
-
-    pub const TAG: usize = 2;
-
-    pub const SIZE: usize = 3;
-
-    pub const WIDTH: usize = 1 + Ancestors::SIZE * Group::DEPTH_LIMIT;
-}
 
 // Outward through the ancestor at place i of the table; the rows at which the climb goes on.
 fn pass_ancestor(ancestors: &[u8], i: usize, live: &mut [u64], active: u64, met: u64) -> u64

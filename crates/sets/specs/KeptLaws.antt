@@ -3,7 +3,7 @@ use Prim.Native.Nat.{ℕ, zero, suc, _+_, _-_, _*_, _/_, _%_, _^_, _≤_, _<_}
 use native.Mathlib.Nat.{mod-lt, pow-suc}
 use native.Mathlib.Omega.{arith}
 use mathlib.Core.Path.{_≡_, refl, sym, ap, ap₂, _∙_}
-use mathlib.Core.Bool.{Bool, true, false, _&&_, _||_, cond, xor, and-false}
+use mathlib.Core.Bool.{Bool, true, false, _&&_, _||_, not, cond, xor, and-false}
 use mathlib.Core.Logic.{_⊎_, inl, inr}
 use lib.Dec.{eqb}
 use lib.Bits.{bitAnd, bitOr, bitXor, and-le-r, and-step, xor-step, and-self, xor-self}
@@ -82,12 +82,12 @@ sort-end {P} {x} {left} {met} S e d =
     none true = refl
     none false = refl
 
-module _ {P : ℕ → Bool} {x left met t : ℕ} (S : Sorting P x left met) (F : First left t) where
-  -- the number at hand is one of the set
-  pub sort-among : member x t ≡ true
-  sort-among = S .within t (F .among)
+-- the number at hand is t, at whatever width w the code has it
+module _ {P : ℕ → Bool} {x left met t w : ℕ} (S : Sorting P x left met) (F : First left t) (w-is : w ≡ t) where
+  pub sort-among : member x w ≡ true
+  sort-among = rw w-is (S .within t (F .among))
 
-  -- `next` is the rest, p the test's answer at t, and `more` what is met of it
+  -- `next` is the rest, p the test's answer, and `more` what is met
   module _ {next : ℕ} (R : Rest left next) where
     one : (d : ℕ) → member (bitXor left next) d ≡ eqb d t
     one d = ap (λ (z : ℕ). member z d) (R .taken ∙ ap oneSet (sym (F .lowest-is))) ∙ member-one t d
@@ -106,7 +106,7 @@ module _ {P : ℕ → Bool} {x left met t : ℕ} (S : Sorting P x left met) (F :
         back false true q e f = clash (f (sym e)) refl
         back false false q e f = rw (← e)
 
-    pub sort-next : {p : Bool} {more : ℕ} → p ≡ P t → more ≡ cond p (bitXor left next) 0 → Sorting P x next (bitOr met more)
+    pub sort-next : {p : Bool} {more : ℕ} → p ≡ P w → more ≡ cond p (bitXor left next) 0 → Sorting P x next (bitOr met more)
     sort-next {p} {more} e m = record {
       small = let l = R .less in let s = S .small in omega arith;
       within = λ d y. S .within d (left-of (eqb d t) (member left d) (sym (rest-member d) ∙ y));
@@ -137,7 +137,7 @@ module _ {P : ℕ → Bool} {x left met t : ℕ} (S : Sorting P x left met) (F :
             twice false r = refl
 
         go : (d : ℕ) → (d ≡ t) ⊎ (d ≡ t → ⊥) → ((member met d || (p && eqb d t)) || (cond (eqb d t) false (member left d) && P d)) ≡ (member met d || (member left d && P d))
-        go d (inl q) = rw (q, eqb-self t, F .among, e) (here (member met t) (P t))
+        go d (inl q) = rw (q, eqb-self t, F .among, e ∙ ap P w-is) (here (member met t) (P t))
         go d (inr ne) = rw (eqb-ne d t ne) (elsewhere (member met d) (member left d) p (P d))
 
 -- a filter first, and the test where it passes
@@ -157,3 +157,21 @@ kept-sifts F P x r K pass = record {
   within = λ d e. and-parts (member x d) (F d) (sym (K d) ∙ e) .0;
   no-fewer = λ d e p. K d ∙ ap₂ (λ (a b : Bool). a && b) e (pass d e p);
 }
+
+-- tests that agree on the set keep the same
+pub kept-same : (P Q : ℕ → Bool) (x r : ℕ) → ((d : ℕ) → member x d ≡ true → P d ≡ Q d) → KeptBy P x r → KeptBy Q x r
+kept-same P Q x r same K d = K d ∙ go (member x d) refl
+  where
+    go : (a : Bool) → member x d ≡ a → (a && P d) ≡ (a && Q d)
+    go true e = same d e
+    go false e = refl
+
+-- and what is left of the set is what the opposite test keeps
+pub kept-others : (P : ℕ → Bool) (x r : ℕ) → KeptBy P x r → KeptBy (λ d. not (P d)) x (bitXor x r)
+unfolding xor
+kept-others P x r K d = member-xor x r d ∙ ap (xor (member x d)) (K d) ∙ bits (member x d) (P d)
+  where
+    bits : (a p : Bool) → xor a (a && p) ≡ (a && not p)
+    bits true true = refl
+    bits true false = refl
+    bits false p = refl

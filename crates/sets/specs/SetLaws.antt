@@ -1,14 +1,14 @@
 -- Membership in sets made by bit operations, and sets that have the same members.
 use Prim.Native.Nat.{ℕ, zero, suc, _-_, _*_, _/_, _%_, _^_, _≤_, _<_}
-use native.Mathlib.Nat.{mod-lt, pow-suc, zero-div, div-eq-of-lt}
+use native.Mathlib.Nat.{one-mul, mod-lt, pow-suc, zero-div, div-eq-of-lt}
 use native.Mathlib.Numerals.{one-add}
 use native.Mathlib.Omega.{arith}
 use mathlib.Core.Path.{_≡_, refl, sym, ap, _∙_, fun-ext}
 use mathlib.Core.Bool.{Bool, true, false, _&&_, _||_, cond, xor, true≢false, false≢true}
 use mathlib.Core.Logic.{_⊎_, inl, inr}
-use lib.Dec.{eqb, ltb, leb·suc-suc, eqb·suc-suc}
-use lib.Pow.{pow-pos, pow-mono, pow-lt, shr-shr}
-use lib.Bits.{bitAnd, bitOr, bitXor, and-shr, and-mod, or-lt, or-shr, or-mod, xor-shr, xor-mod}
+use lib.Dec.{eqb, ltb, leb·suc-suc, eqb·suc-suc, lit<}
+use lib.Pow.{pow-pos, pow-mono, pow-lt, shl-exact, shr-shr}
+use lib.Bits.{bitAnd, bitOr, bitXor, and-mask, and-shr, and-mod, or-lt, or-shr, or-mod, xor-shr, xor-mod}
 use Rattle.strategy.specs.Bools.{which, iff-eq, eqb-self, eqb-eq, eqb-ne, ltb-yes, ltb-no, ltb-lt, ltb-le}
 use Rattle.strategy.specs.Order.{allBelow, add}
 use Rattle.strategy.specs.OrderLaws.{allBelow-gives, allBelow-of}
@@ -159,3 +159,11 @@ all-seen n x h = iff-eq (eqb x (belowSet n)) (allBelow n (member x)) to from
     from e =
         let q : x ≡ belowSet n = same-set n x (belowSet n) h (below-lt n) (λ d. same e d (which (ltb d n))) in
         ap (λ (z : ℕ). eqb z (belowSet n)) q ∙ eqb-self (belowSet n)
+
+-- the steps of the code
+pub bit-member : (x d : ℕ) → eqb (bitAnd (x / 2 ^ d) 1) 1 ≡ member x d
+unfolding member
+bit-member x d = ap (λ (m : ℕ). eqb m 1) (and-mask (x / 2 ^ d) 1)
+
+pub shift-one : (d : ℕ) → d < 64 → 1 * 2 ^ d % 2 ^ 64 ≡ oneSet d
+shift-one d h = shl-exact {a = 1} 1 d 64 (lit< tt) (omega arith) ∙ one-mul (2 ^ d)

@@ -2,9 +2,9 @@
 // A loop over the numbers of a set x takes first(x) and goes on with rest(x); the set of first(x) alone is then x ^ rest(x).
 ghost use mathlib.Core.Path.{_≡_};
 ghost use mathlib.Core.Bool.{cond};
-ghost use Prim.Native.Nat.{_-_, _≤_, _<_};
+ghost use Prim.Native.Nat.{_≤_, _<_};
 ghost use Rattle.strategy.specs.Order.{isOrder};
-ghost use Rattle.sets.specs.Set.{member, oneSet, belowSet, runSet, setMinus, setsMeet, setWithout, setWith};
+ghost use Rattle.sets.specs.Set.{member, oneSet, belowSet, setMinus, setWith};
 ghost use Rattle.sets.specs.Kept.{First, Rest};
 
 // Is d in the set.
@@ -35,34 +35,11 @@ pub fn below(n: u8) -> u64
     }
 }
 
-// The run of numbers from a up to, and without, e.
-pub fn run_of(a: u8, e: u8) -> u64
-    requires { ⌜ (a ≤ e) × (e ≤ 64) ⌝ }
-    ensures { λ r. ⌜ r ≡ runSet a (e - a) ⌝ }
-{
-    below(e) ^ below(a)
-}
-
 // The set x without the numbers of m.
 pub fn minus(x: u64, m: u64) -> u64
     ensures { λ r. ⌜ r ≡ setMinus x m ⌝ }
 {
     x ^ (x & m)
-}
-
-// Is some number in both sets.
-pub fn meets(x: u64, m: u64) -> bool
-    ensures { λ r. ⌜ r ≡ setsMeet x m ⌝ }
-{
-    x & m != 0
-}
-
-// The set without d.
-pub fn without(x: u64, d: u8) -> u64
-    requires { ⌜ d < 64 ⌝ }
-    ensures { λ r. ⌜ r ≡ setWithout x d ⌝ }
-{
-    minus(x, single(d))
 }
 
 // The set with d.

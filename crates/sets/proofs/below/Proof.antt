@@ -5,7 +5,7 @@ use mathlib.Core.Path.{sym, ap}
 use lib.Pow.{pow-pos}
 use borrow.Author.Needs.{needs}
 use Rattle.sets.specs.Set.{belowSet}
-use Rattle.sets.specs.RunLaws.{shift-one}
+use Rattle.sets.specs.SetLaws.{shift-one}
 use Rattle.sets.proofs.below.Statement.{statement}
 use Rattle.sets.proofs.below.Tie as tie
 

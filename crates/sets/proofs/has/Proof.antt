@@ -1,6 +1,6 @@
 -- `sets::has`: the bit shifted to the front and masked is the member test.
 use borrow.Author.Needs.{needs}
-use Rattle.sets.specs.RunLaws.{bit-member}
+use Rattle.sets.specs.SetLaws.{bit-member}
 use Rattle.sets.proofs.has.Statement.{statement}
 use Rattle.sets.proofs.has.Tie as tie
 

@@ -1,6 +1,6 @@
 -- `sets::single`: one shifted by less than 64 loses no bit.
 use borrow.Author.Needs.{needs}
-use Rattle.sets.specs.RunLaws.{shift-one}
+use Rattle.sets.specs.SetLaws.{shift-one}
 use Rattle.sets.proofs.single.Statement.{statement}
 use Rattle.sets.proofs.single.Tie as tie
 

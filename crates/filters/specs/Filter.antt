@@ -1,0 +1,49 @@
+-- The filters of a slot: two bytes of the operand at their distance, where they would stand.
+use Prim.Native.Nat.{ℕ, zero, suc, _+_, _-_, _≤_, _<_}
+use mathlib.Core.Path.{_≡_}
+use mathlib.Core.Bool.{Bool, false, _&&_, _||_, cond}
+use mathlib.Core.List.{List}
+use lib.ListN.{length, getD}
+use lib.Dec.{leb}
+use Rattle.predicate.specs.Meaning.{fold, textTest}
+use Rattle.sets.specs.Kept.{Sifted}
+use Rattle.filters.specs.declared.pair.Pair.{Pair}
+use Rattle.filters.specs.Look.{looks, MayFold}
+use Rattle.filters.specs.Block.{textOf}
+
+-- how far the second byte is from the first: the operand's last, or byte 8
+abbrev pub gapOf : (size : ℕ) → ℕ
+gapOf size = cond (leb size 9) (size - 1) 8
+
+-- the operand's two bytes, folded
+pub record Sought (o : List ℕ) (first second : ℕ) : Type 0 where
+  pub first-is : first ≡ fold (getD o 0 0)
+  pub second-is : second ≡ fold (getD o (gapOf (length o)) 0)
+
+-- the tests of the two bytes at their distance
+pub record PairFor (size first second : ℕ) (k : Pair) : Type 0 where
+  pub gap-is : k .gap ≡ gapOf size
+  pub inside : k .gap < size
+  pub near : k .gap ≤ 8
+  pub first-may : MayFold first (k .first)
+  pub second-may : MayFold second (k .second)
+
+abbrev pub pairAt : List ℕ → (p q : ℕ) → Pair → Bool
+pairAt b p q k = looks (k .first) (getD b p 0) && looks (k .second) (getD b q 0)
+
+-- equals and begins: the text's length from low to high, and the pair at the text's first place
+abbrev pub frontPasses : List ℕ → (p low high : ℕ) → Pair → Bool
+frontPasses b p low high k = (leb low (getD b p 0) && leb (getD b p 0) high) && pairAt b (p + 1) (p + 1 + k .gap) k
+
+-- contains: the pair in one of two windows of 16 bytes of the slot
+unfoldable pub pairIn : List ℕ → (p q r s : ℕ) → Pair → (n : ℕ) → Bool
+pairIn b p q r s k zero = false
+pairIn b p q r s k (suc n) = (pairAt b p q k || pairAt b r s k) || pairIn b (p + 1) (q + 1) (r + 1) (s + 1) k n
+
+abbrev pub windowsPass : List ℕ → (p : ℕ) → Pair → Bool
+windowsPass b p k = pairIn b p (p + k .gap) (p + 8 - k .gap) (p + 8) k 16
+
+-- no text is lost whose test holds, whatever the operand of that size with those two bytes
+abbrev pub SiftedTexts : List ℕ → (start base kind size first second due r : ℕ) → Type 0
+SiftedTexts b start base kind size first second due r =
+    (o : List ℕ) → length o ≡ size → Sought o first second → Sifted (λ d. textTest kind o (textOf b start (base + d))) due r

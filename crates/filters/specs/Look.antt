@@ -1,0 +1,20 @@
+-- A cheap test of a byte that every byte with a given fold passes, and perhaps others: all that the filters know of the fold.
+use Prim.Native.Nat.{ℕ, _<_}
+use mathlib.Core.Path.{_≡_}
+use mathlib.Core.Bool.{Bool, true, _||_}
+use lib.Dec.{eqb}
+use lib.Bits.{bitAnd, bitOr}
+use Rattle.predicate.specs.Meaning.{fold}
+use Rattle.filters.specs.declared.look.Look.{Look}
+
+-- a byte passes where, with the bits of a mask set, it is the value; there are two such pairs
+abbrev pub looks : Look → (x : ℕ) → Bool
+looks k x = eqb (bitOr x (k .mask)) (k .value) || eqb (bitOr x (k .mask2)) (k .value2)
+
+-- every byte that folds to c passes
+abbrev pub MayFold : (c : ℕ) → Look → Type 0
+MayFold c k = (x : ℕ) → x < 256 → fold x ≡ c → looks k x ≡ true
+
+-- a byte or its other case, where bit 5 tells the cases apart; for the present fold one pair is enough, so the second is the same
+abbrev pub lookOf : (c : ℕ) → Look
+lookOf c = record { mask = bitAnd c 32; value = c; mask2 = bitAnd c 32; value2 = c }

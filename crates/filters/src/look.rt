@@ -1,0 +1,38 @@
+// Which bytes may fold to a byte: a test that passes all of them, and perhaps others.
+ghost use mathlib.Core.Path.{_≡_};
+ghost use mathlib.Core.Bool.{cond};
+ghost use Rattle.filters.specs.Look.{looks, MayFold};
+
+// A byte passes where, with the mask's bits set, it is the value; so for either pair.
+pub struct Look {
+    pub mask: u8,
+    pub value: u8,
+    pub mask2: u8,
+    pub value2: u8,
+}
+
+// A flag of 0 and 1, so that tests are joined with no branch.
+pub fn bit(test: bool) -> u8
+    ensures { λ r. ⌜ r ≡ cond test 1 0 ⌝ }
+{
+    if test { 1 } else { 0 }
+}
+
+pub fn passes(look: Look, x: u8) -> u8
+    ensures { λ r. ⌜ r ≡ cond (looks look x) 1 0 ⌝ }
+{
+    bit(x | look.mask == look.value) | bit(x | look.mask2 == look.value2)
+}
+
+// The bytes that fold to c: c, or its other case, where bit 5 tells the cases apart. One pair is enough for the present
+// fold, so both are the same.
+pub fn look_of(c: u8) -> Look
+    ensures { λ r. ⌜ MayFold c r ⌝ }
+{
+    Look {
+        mask: c & 32,
+        value: c,
+        mask2: c & 32,
+        value2: c,
+    }
+}

@@ -1,0 +1,46 @@
+// The filter of contains: the pair anywhere in the slot, in two windows of 16 bytes that cover it. Both windows are tested
+// by one loop of constant length, which becomes vector code.
+use crate::pair::Pair;
+use catalogue::format::Text;
+ghost use mathlib.Core.Path.{_≡_};
+ghost use Prim.Native.Nat.{_+_, _≤_};
+ghost use lib.ListN.{length};
+ghost use Rattle.catalogue.specs.Format.{textTag, slotSize};
+ghost use Rattle.sets.specs.Kept.{KeptBy};
+ghost use Rattle.filters.specs.Block.{DueRows, slotOf};
+ghost use Rattle.filters.specs.Filter.{windowsPass};
+
+// The slot at p. The first window of first bytes begins with the slot, the second window of second bytes ends with it.
+fn slot_passes(b: &[u8], p: usize, k: Pair) -> bool
+    requires { ⌜ (p + slotSize ≤ length (now b)) × (k .gap ≤ 8) ⌝ }
+    ensures { λ r. ⌜ r ≡ windowsPass (now (b .entry)) p k ⌝ }
+{
+    let q = p + k.gap;
+    let s = p + 8;
+    let r = s - k.gap;
+    let mut any: u8 = 0;
+    let mut i: usize = 0;
+    while i < 16 {
+        any = any
+            | crate::pair::pair_at(b, p + i, q + i, k)
+            | crate::pair::pair_at(b, r + i, s + i, k);
+        i += 1;
+    }
+    any != 0
+}
+
+pub fn windows_rows(b: &[u8], start: usize, base: usize, k: Pair, due: u64) -> u64
+    requires { ⌜ DueRows (now b) textTag start base due × (k .gap ≤ 8) ⌝ }
+    ensures { λ r. ⌜ KeptBy (λ d. windowsPass (now (b .entry)) (slotOf start (base + d)) k) due r ⌝ }
+{
+    let mut left = due;
+    let mut met: u64 = 0;
+    while left != 0 {
+        let row = base + fields::number::widen(sets::first(left));
+        let next = sets::rest(left);
+        let passes = slot_passes(b, start + Text::SLOT_SIZE * row, k);
+        met = met | sets::kept(passes, left ^ next);
+        left = next;
+    }
+    met
+}
