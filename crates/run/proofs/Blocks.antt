@@ -6,11 +6,11 @@ use mathlib.Core.Path.{_≡_, refl, sym, ap, ap₂, _∙_, subst, fun-ext}
 use mathlib.Core.Bool.{Bool, true, false, _&&_, _||_, cond, or-false}
 use mathlib.Core.Logic.{_⊎_, inl, inr}
 use mathlib.Core.List.{List, [], _∷_}
-use lib.Dec.{eqb}
+use lib.Dec.{eqb, ltb}
 use lib.ListN.{length, getD, set, drop, drop-of-length-le, replicate}
 use lib.Seq.{getD-set-same, getD-set-other, drop-cons}
 use lib.Bits.{bitAnd, bitOr}
-use Rattle.strategy.specs.Bools.{same?, eqb-self, eqb-ne}
+use Rattle.strategy.specs.Bools.{which, same?, eqb-self, eqb-ne, ltb-lt, ltb-le}
 use Rattle.strategy.specs.Assignment.{Assignment, Among, Once}
 use Rattle.strategy.specs.Tree.{Tree}
 use Rattle.strategy.specs.Live.{Live, Step, without}
@@ -21,6 +21,7 @@ use Rattle.strategy.specs.RowLaws.{turn-idle, work-place}
 use Rattle.sets.specs.Set.{member}
 use Rattle.sets.specs.SetLaws.{member-and, member-or, member-none}
 use Rattle.sets.specs.Kept.{KeptBy}
+use Rattle.bitmaps.specs.Bit.{bit}
 use Rattle.bitmaps.specs.Table.{lineSize, lineBits}
 use Rattle.bitmaps.specs.Word.{blockRows, WordPut}
 use Rattle.blocks.specs.Block.{rowLive, rowStep, Climbed}
@@ -129,16 +130,54 @@ module _ (T : Task) (B : Block) where
               ∙ sym (without-in c 1 k (rowLive L d) (omega arith))
           go k (inr e) = ap (λ (x : ℕ). member x d) (getD-set-other L c k 0 0 e) ∙ sym (without-off c 1 k (rowLive L d) (λ r. e (omega arith)))
 
-      -- the word of c is its own place in the table, and no other line's
+      -- the word of c is its own in the table
+      beside : (k e : ℕ) → e < lineBits → (k ≡ c → (e < B .base) ⊎ (B .base + blockRows ≤ e)) → lineBit P′ k e ≡ lineBit P k e
+      beside k e l w = M .elsewhere (k * lineBits + e) (go (same? k c) (which (ltb k c)))
+        where
+          go : (k ≡ c) ⊎ (k ≡ c → ⊥) → (ltb k c ≡ true) ⊎ (ltb k c ≡ false)
+              → (k * lineBits + e < (c * lineSize + B .base / 8) * 8) ⊎ ((c * lineSize + B .base / 8) * 8 + blockRows ≤ k * lineBits + e)
+          go (inl q) v = at-side (w q)
+            where
+              at-side : (e < B .base) ⊎ (B .base + blockRows ≤ e)
+                  → (k * lineBits + e < (c * lineSize + B .base / 8) * 8) ⊎ ((c * lineSize + B .base / 8) * 8 + blockRows ≤ k * lineBits + e)
+              at-side (inl x) = let m = I .whole in inl (omega arith)
+              at-side (inr x) = let m = I .whole in inr (omega arith)
+          go (inr ne) (inl v) = let m = I .whole in let n = I .inside in let x : k < c = ltb-lt k c v in inl (omega arith)
+          go (inr ne) (inr v) = let m = I .whole in let n = I .inside in let x : c ≤ k = ltb-le k c v in inr (omega (arith, ne))
+
+      in-line : (d : ℕ) → d < blockRows → B .base + d < lineBits
+      in-line d l = let m = I .whole in let n = I .inside in omega arith
+
       marked : (k d : ℕ) → d < blockRows → (k ≡ c) ⊎ (k ≡ c → ⊥) → (lineBit P k (B .base + d) || (eqb k c && rowLive L d c)) ≡ lineBit P′ k (B .base + d)
       marked k d l (inl e) =
-          let w = I .whole in
+          let m = I .whole in
           let p : (c * lineSize + B .base / 8) * 8 + d ≡ c * lineBits + (B .base + d) = omega arith in
-          rw (e, eqb-self c, blank-here d l) (sym (M .here d l) ∙ ap (bit-of P′) p)
-        where
-          use-bit : ℕ
-          use-bit = 0
-      marked k d l (inr e) = rw (eqb-ne k c e) (or-false (lineBit P k (B .base + d)) ∙ sym (M .elsewhere (k * lineBits + (B .base + d)) (side k d l e)))
+          rw (e, eqb-self c, blank-here d l) (sym (M .here d l) ∙ ap (bit P′) p)
+      marked k d l (inr e) =
+          ap (λ (b : Bool). lineBit P k (B .base + d) || (b && rowLive L d c)) (eqb-ne k c e) ∙ or-false (lineBit P k (B .base + d))
+          ∙ sym (beside k (B .base + d) (in-line d l) (λ q. absurd (e q)))
+
+      -- the climb of row d
+      climbed : (d : ℕ) → climb (rowLive L d c && told T (B .base + d) c) (enclosing (T .query .tree) 0 c) (asked c (rowLive L d)) ≡ rowStep N passed d
+      climbed d =
+          ap₂ (λ (v : Bool) (l : Live). climb v (enclosing (T .query .tree) 0 c) (record { live = l; settled = rowLive L d c })) (sym (K d)) (sym (emptied d))
+          ∙ sym (G .rows d)
+
+      turned : (d : ℕ) → d < blockRows → turn (T .query .tree) (told T (B .base + d)) c (rowNow B L sel P d) ≡ rowNow B N (bitOr sel (bitAnd passed met)) P′ d
+      turned d l =
+          ap₂ (λ (v : Bool) (s : Step). after c v s (rowNow B L sel P d)) (sym (K d)) (climbed d)
+          ∙ row-same refl (fun-ext (λ k. marked k d l (same? k c)))
+          (sym (member-or sel (bitAnd passed met) d ∙ ap (λ (b : Bool). member sel d || b) (member-and passed met d)))
 
       pub block-turn : Working T B (i + 1) N (bitOr sel (bitAnd passed met)) P₀ P′
-      block-turn = ?
+      block-turn = record {
+        rows = taken turned;
+        once = once-at .1;
+        blank = λ k m d l. beside k (B .base + d) (in-line d l) (λ q. absurd (once-at .0 (subst (λ (x : ℕ). Among x (drop (i + 1) (turnsOf T))) q m)))
+            ∙ W .blank k (among-later k m) d l;
+        same = record {
+          size = M .size ∙ W .same .size;
+          bytes = λ h. M .bytes (W .same .bytes h);
+          beside = λ k e l w. beside k e l (λ q. w) ∙ W .same .beside k e l w;
+        };
+      }
