@@ -2,10 +2,10 @@
 use Prim.Native.Nat.{ℕ, zero, suc, _+_, _-_, _≤_, _<_}
 use native.Mathlib.Omega.{arith}
 use mathlib.Core.Path.{_≡_, refl, sym, ap, _∙_}
-use mathlib.Core.Bool.{Bool, true, false, _&&_, _||_, true≢false}
+use mathlib.Core.Bool.{true, false, true≢false}
 use mathlib.Core.Logic.{_⊎_, inl, inr}
 use mathlib.Core.List.{List, [], _∷_}
-use lib.ListN.{length, getD, take, drop, length-take, length-drop}
+use lib.ListN.{length, getD, drop, length-drop}
 use lib.Seq.{getD-drop, getD-take, length-take-le}
 use lib.Dec.{eqb}
 use Rattle.strategy.specs.Bools.{both, and-parts, or-cases, same?, clash, eqb-eq}
@@ -14,7 +14,6 @@ use Rattle.catalogue.specs.Slots.{textAt}
 use Rattle.predicate.specs.Meaning.{fold, folded, begins, occurs, equals, beginsWith, contains}
 use Rattle.predicate.proofs.TextLaws.{equals-begins, equals-other}
 use Rattle.filters.specs.declared.pair.Pair.{Pair}
-use Rattle.filters.specs.Look.{MayFold}
 use Rattle.filters.specs.Filter.{Sought, PairFor, pairAt}
 
 -- a text that begins with the operand is not shorter, and has its bytes, folded

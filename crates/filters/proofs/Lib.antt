@@ -1,3 +1,4 @@
 pub mod Looks
+pub mod Pairs
 pub mod Found
 pub mod Passing

@@ -35,13 +35,14 @@ pairAt b p q k = looks (k .first) (getD b p 0) && looks (k .second) (getD b q 0)
 abbrev pub frontPasses : List ℕ → (p low high : ℕ) → Pair → Bool
 frontPasses b p low high k = (leb low (getD b p 0) && leb (getD b p 0) high) && pairAt b (p + 1) (p + 1 + k .gap) k
 
--- contains: the pair in one of two windows of 16 bytes of the slot
-unfoldable pub pairIn : List ℕ → (p q r s : ℕ) → Pair → (n : ℕ) → Bool
-pairIn b p q r s k zero = false
-pairIn b p q r s k (suc n) = (pairAt b p q k || pairAt b r s k) || pairIn b (p + 1) (q + 1) (r + 1) (s + 1) k n
+-- the pair at one of n places
+unfoldable pub pairIn : List ℕ → (p q : ℕ) → Pair → (n : ℕ) → Bool
+pairIn b p q k zero = false
+pairIn b p q k (suc n) = pairAt b p q k || pairIn b (p + 1) (q + 1) k n
 
+-- contains: in the 16 places from the slot's first byte on, or in the last 16 that the pair has in it
 abbrev pub windowsPass : List ℕ → (p : ℕ) → Pair → Bool
-windowsPass b p k = pairIn b p (p + k .gap) (p + 8 - k .gap) (p + 8) k 16
+windowsPass b p k = pairIn b p (p + k .gap) k 16 || pairIn b (p + 8 - k .gap) (p + 8) k 16
 
 -- no text is lost whose test holds, whatever the operand of that size with those two bytes
 abbrev pub SiftedTexts : List ℕ → (start base kind size first second due r : ℕ) → Type 0

@@ -1,13 +1,13 @@
 -- `slot_passes` meets its contract: the places that are left decide, with what was found so far.
-use Prim.Native.Nat.{_+_, _-_, _≤_}
+use Prim.Native.Nat.{_-_, _≤_}
 use native.Mathlib.Omega.{arith}
-use Rattle.filters.proofs.Passing.{LeftPairs, pairs-all, pairs-step, pairs-end}
+use Rattle.filters.proofs.Pairs.{Tried, tried-none, tried-next, tried-all}
 use borrow.Author.Needs.{needs}
 use Rattle.filters.proofs.windows.slot_passes.Statement.{statement}
 use Rattle.filters.proofs.windows.slot_passes.Tie as tie
 
 abbrev Inv-loop : tie.InvT-loop
-Inv-loop b p k q s r any₀ i₀ any i = (i ≤ 16) × LeftPairs b p (p + k .gap) (p + 8 - k .gap) (p + 8) k i any
+Inv-loop b p k q s r any₀ i₀ any i = (i ≤ 16) × Tried b p k i any
 
 abbrev μ-loop : tie.MeasureT-loop
 μ-loop b p k q s r any₀ i₀ any i = 16 - i
@@ -22,7 +22,7 @@ sub-r : tie.Need-sub-r Inv-loop μ-loop
 sub-r c = search needs
 
 loop-holds : tie.Need-loop-holds Inv-loop μ-loop
-loop-holds c = let a = c .before .before .before .args in (omega arith, pairs-all (a .b .now) (a .p) (a .p + a .k .gap) (a .p + 8 - a .k .gap) (a .p + 8) (a .k))
+loop-holds c = let a = c .before .before .before .args in (omega arith, tried-none (a .b .now) (a .p) (a .k))
 
 add-pair-at : tie.Need-add-pair-at Inv-loop μ-loop
 add-pair-at c = search needs
@@ -52,13 +52,13 @@ loop-again : tie.Need-loop-again Inv-loop μ-loop
 loop-again c =
     let a = c .before .before .before .before .before .before .before .args in
     let l = c .before .before .before .loop in
-    (omega arith, pairs-step (a .b .now) (a .p) (a .p + a .k .gap) (a .p + 8 - a .k .gap) (a .p + 8) (a .k) (l .i) (l .any) _ _ (omega arith) (c .before .pair-at .ensures) (c .pair-at2 .ensures) (l .inv .1))
+    (omega arith, tried-next (a .b .now) (a .p) (a .k) (l .inv .1) (omega arith) (c .before .pair-at .ensures) (c .pair-at2 .ensures))
 
 returns : tie.Need-returns Inv-loop μ-loop
 returns c =
     let a = c .before .before .before .before .before .args in
     let l = c .before .loop in
-    pairs-end (a .b .now) (a .p) (a .p + a .k .gap) (a .p + 8 - a .k .gap) (a .p + 8) (a .k) (l .i) (l .any) (omega arith) (l .inv .1)
+    tried-all (a .b .now) (a .p) (a .k) (l .inv .1) (omega arith)
 
 pub slot-passes-spec : {M : Type 1} → statement M
 slot-passes-spec =

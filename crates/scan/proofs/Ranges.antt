@@ -1,0 +1,105 @@
+-- The number kinds as one test: what is prepared, and one comparison.
+use Prim.Native.Nat.{ℕ, _+_, _-_, _%_, _^_, _≤_, _<_}
+use native.Mathlib.Omega.{arith}
+use mathlib.Core.Path.{_≡_, refl}
+use mathlib.Core.Bool.{Bool, true, false, _&&_}
+use mathlib.Core.Logic.{_⊎_, inl, inr}
+use mathlib.Core.List.{List}
+use lib.ListN.{length}
+use lib.Dec.{leb, ltb, eqb}
+use borrow.Author.Tests.{le-leb, lt-leb, leb-true, eq-eqb, eqb-true, ltb-true}
+use Rattle.strategy.specs.Bools.{both, and-parts, iff-eq, same?, eqb-ne}
+use Rattle.catalogue.specs.Format.{blankNumber, textLimit}
+use Rattle.predicate.specs.Kinds.{rangeKind, numberBlankKind, equalsKind, containsKind, textBlankKind, plainKind}
+use Rattle.predicate.specs.Meaning.{inRange, numberBlank, lowOf, highOf, numberTest}
+use Rattle.predicate.specs.Payload.{rangeFits, operandFits}
+use Rattle.scan.specs.declared.test.Test.{Test}
+use Rattle.scan.specs.Met.{Prepared, within}
+
+-- the distance from low, wrapped, is at most the width just from low to low + width
+pub within-wraps : (low width n r : ℕ) → r < 2 ^ 32 → low + width < 2 ^ 32 → (r + low) % 2 ^ 32 ≡ n → leb r width ≡ within low width n
+within-wraps low width n r small fits e = iff-eq (leb r width) (within low width n) to from
+  where
+    to : leb r width ≡ true → within low width n ≡ true
+    to t = let l : r ≤ width = leb-true r width t in both (le-leb low n (omega arith)) (le-leb n (low + width) (omega arith))
+
+    from : within low width n ≡ true → leb r width ≡ true
+    from t =
+        let p = and-parts (leb low n) (leb n (low + width)) t in
+        let l : low ≤ n = leb-true low n (p .0) in
+        let h : n ≤ low + width = leb-true n (low + width) (p .1) in
+        le-leb r width (omega arith)
+
+-- what an operand that fits its kind is
+
+pub range-fits : (kind : ℕ) (o : List ℕ) → operandFits kind o ≡ true → kind ≡ rangeKind → (length o ≡ 8) × (lowOf o ≤ highOf o) × (highOf o < blankNumber)
+unfolding operandFits rangeFits
+range-fits kind o h e =
+    let p = and-parts (eqb (length o) 8) (leb (lowOf o) (highOf o) && ltb (highOf o) blankNumber) (rw (eq-eqb kind rangeKind e) at h) in
+    let q = and-parts (leb (lowOf o) (highOf o)) (ltb (highOf o) blankNumber) (p .1) in
+    (eqb-true (length o) 8 (p .0), leb-true (lowOf o) (highOf o) (q .0), ltb-true (highOf o) blankNumber (q .1))
+
+pub blank-fits : (kind : ℕ) (o : List ℕ) → operandFits kind o ≡ true → kind ≡ numberBlankKind → length o ≡ 0
+unfolding operandFits
+blank-fits kind o h e = eqb-true (length o) 0 (rw e at h)
+
+pub text-fits : (kind : ℕ) (o : List ℕ) → operandFits kind o ≡ true → equalsKind ≤ kind → kind ≤ containsKind → (0 < length o) × (length o ≤ textLimit)
+unfolding operandFits
+text-fits kind o h l m =
+    let p = and-parts (leb 1 (length o)) (leb (length o) textLimit)
+    (rw (eqb-ne kind rangeKind (λ e. omega arith), eqb-ne kind numberBlankKind (λ e. omega arith), eqb-ne kind textBlankKind (λ e. omega arith)) at h) in
+    let s : 1 ≤ length o = leb-true 1 (length o) (p .0) in
+    (omega arith, leb-true (length o) textLimit (p .1))
+
+-- a range, and the blank as a range of one number
+
+in-range : (low high n : ℕ) → low ≤ high → high < blankNumber → within low (high - low) n ≡ inRange low high n
+in-range low high n l h = go (same? n blankNumber)
+  where
+    top : low + (high - low) ≡ high
+    top = omega arith
+
+    go : (n ≡ blankNumber) ⊎ (n ≡ blankNumber → ⊥) → within low (high - low) n ≡ inRange low high n
+    go (inl e) = rw (top, eq-eqb n blankNumber e) (out (leb low n))
+      where
+        out : (p : Bool) → (p && leb n high) ≡ false
+        out true = lt-leb n high (omega arith)
+        out false = refl
+    go (inr ne) = rw (top, eqb-ne n blankNumber ne)
+
+is-blank : (n : ℕ) → within blankNumber 0 n ≡ numberBlank n
+is-blank n = iff-eq (within blankNumber 0 n) (numberBlank n) to from
+  where
+    to : within blankNumber 0 n ≡ true → numberBlank n ≡ true
+    to t =
+        let p = and-parts (leb blankNumber n) (leb n (blankNumber + 0)) t in
+        let l : blankNumber ≤ n = leb-true blankNumber n (p .0) in
+        let h : n ≤ blankNumber + 0 = leb-true n (blankNumber + 0) (p .1) in
+        eq-eqb n blankNumber (omega arith)
+
+    from : numberBlank n ≡ true → within blankNumber 0 n ≡ true
+    from t = let e : n ≡ blankNumber = eqb-true n blankNumber t in both (le-leb blankNumber n (omega arith)) (le-leb n (blankNumber + 0) (omega arith))
+
+-- the prepared test of a number kind
+module _ {kind : ℕ} {o : List ℕ} {t : Test} (P : Prepared kind o t) (fits : operandFits (plainKind kind) o ≡ true) (number : plainKind kind ≤ numberBlankKind) where
+  each : ((plainKind kind ≡ rangeKind) ⊎ (plainKind kind ≡ numberBlankKind))
+  each = go (same? (plainKind kind) rangeKind)
+    where
+      go : (plainKind kind ≡ rangeKind) ⊎ (plainKind kind ≡ rangeKind → ⊥) → (plainKind kind ≡ rangeKind) ⊎ (plainKind kind ≡ numberBlankKind)
+      go (inl e) = inl e
+      go (inr ne) = inr (omega arith)
+
+  pub width-fits : t .low + t .width < 2 ^ 32
+  width-fits = go each
+    where
+      go : (plainKind kind ≡ rangeKind) ⊎ (plainKind kind ≡ numberBlankKind) → t .low + t .width < 2 ^ 32
+      go (inl e) = let p = P .range e in let f = range-fits (plainKind kind) o fits e in omega arith
+      go (inr e) = let p = P .blank e in omega arith
+
+  pub number-means : (n : ℕ) → within (t .low) (t .width) n ≡ numberTest (plainKind kind) o n
+  unfolding numberTest
+  number-means n = go each
+    where
+      go : (plainKind kind ≡ rangeKind) ⊎ (plainKind kind ≡ numberBlankKind) → within (t .low) (t .width) n ≡ numberTest (plainKind kind) o n
+      go (inl e) = let p = P .range e in let f = range-fits (plainKind kind) o fits e in rw (p .0, p .1, e) (in-range (lowOf o) (highOf o) n (f .1) (f .2))
+      go (inr e) = let p = P .blank e in rw (p .0, p .1, e) (is-blank n)

@@ -1,0 +1,142 @@
+-- From the rows as they lie in the bytes to the column that they show.
+use Prim.Native.Nat.{ℕ, _+_, _-_, _*_, _^_, _≤_, _<_}
+use native.Mathlib.Omega.{arith}
+use mathlib.Core.Path.{_≡_, refl, sym, ap, _∙_}
+use mathlib.Core.Bool.{Bool, true, false, not}
+use mathlib.Core.List.{List, []}
+use lib.ListN.{length, getD, take, drop}
+use lib.Dec.{leb, eqb}
+use lib.Bits.{bitXor}
+use borrow.Author.Tests.{lt-ltb, le-ltb, le-leb, lt-leb, leb-true}
+use Rattle.strategy.specs.Bools.{and-parts, eqb-eq}
+use Rattle.fields.specs.Numbers.{numberAt}
+use Rattle.catalogue.specs.Format.{numberTag, numberSize, textTag, textLimit}
+use Rattle.catalogue.specs.Catalogue.{Column, numbers, texts}
+use Rattle.catalogue.specs.Slots.{textAt}
+use Rattle.catalogue.specs.Layout.{Shows, HasRow, NumberIs, TextIs}
+use Rattle.catalogue.proofs.Rows.{number-is, text-is}
+use Rattle.predicate.specs.declared.answer.Answer.{Answer}
+use Rattle.predicate.specs.declared.answer.Answer.the-variants.{No, Yes}
+use Rattle.predicate.specs.Kinds.{numberBlankKind, containsKind, textBlankKind, oppositeFrom, plainKind}
+use Rattle.predicate.specs.Meaning.{answerOf, opposite, truth, textBlank, numberTest, textTest, plainOf, outcomeOf}
+use Rattle.predicate.specs.Payload.{kindFits}
+use Rattle.predicate.proofs.OutcomeLaws.{number-row, text-row}
+use Rattle.sets.specs.Kept.{KeptBy, Sifted}
+use Rattle.sets.specs.KeptLaws.{sift-kept, kept-same, kept-others}
+use Rattle.filters.specs.Block.{DueRows, slotOf, textOf}
+use Rattle.filters.specs.Filter.{SiftedTexts}
+use Rattle.scan.specs.declared.test.Test.{Test}
+use Rattle.scan.specs.Met.{ShownRows, HasRows, MetAt, PlainMetAt, within}
+use Rattle.scan.proofs.Ranges.{text-fits, width-fits, number-means}
+
+abbrev pub numberOf : List ℕ → (start row : ℕ) → ℕ
+numberOf b start row = numberAt b (start + numberSize * row) numberSize
+
+-- a row's value in the bytes is that of the column
+
+text-shown : (b : List ℕ) (start row rows : ℕ) (ts : List (List ℕ)) → Shows b rows textTag start (texts ts) → row < rows → textOf b start row ≡ getD ts row []
+unfolding textAt
+text-shown b start row rows ts s l =
+    let at = slotOf start row in
+    let n : getD b at 0 ≡ at + 1 + getD b at 0 - (at + 1) = omega arith in
+    ap (λ (k : ℕ). take k (drop (at + 1) b)) n ∙ text-is b start row at (getD b at 0) refl refl rows ts s l
+
+module _ {b : List ℕ} {start row : ℕ} where
+  pub number-value : HasRow b numberTag start row → (n : ℕ) → NumberIs b start row n → n ≡ numberOf b start row
+  number-value (rows, numbers ns, s, l) n value = value rows ns s l ∙ sym (number-is b start row (numberOf b start row) refl rows ns s l)
+  number-value (rows, texts ts, s, l) n value = let z : numberTag ≡ textTag = s .0 in absurd (omega arith)
+
+  pub text-value : HasRow b textTag start row → (t : List ℕ) → TextIs b start row t → t ≡ textOf b start row
+  text-value (rows, numbers ns, s, l) t value = let z : textTag ≡ numberTag = s .0 in absurd (omega arith)
+  text-value (rows, texts ts, s, l) t value = value rows ts s l ∙ sym (text-shown b start row rows ts s l)
+
+-- the tag of a kind's columns
+
+number-kind : (tag kind : ℕ) → kindFits tag kind ≡ true → kind ≤ numberBlankKind → tag ≡ numberTag
+unfolding kindFits
+number-kind tag kind h l = eqb-eq tag numberTag (rw (le-leb kind numberBlankKind l) at h)
+
+text-kind : (tag kind : ℕ) → kindFits tag kind ≡ true → numberBlankKind < kind → (kind ≤ textBlankKind) × (tag ≡ textTag)
+unfolding kindFits
+text-kind tag kind h l =
+    let p = and-parts (leb kind textBlankKind) (eqb tag textTag) (rw (lt-leb kind numberBlankKind l) at h) in
+    (leb-true kind textBlankKind (p .0), eqb-eq tag textTag (p .1))
+
+truth-of : (p : Bool) → truth (answerOf p) ≡ p
+truth-of true = refl
+truth-of false = refl
+
+truth-opposite : (a : Answer) → not (truth a) ≡ truth (opposite a)
+truth-opposite No = refl
+truth-opposite Yes = refl
+
+-- one predicate, of the plain kind `kind`
+module _ {b : List ℕ} {start base : ℕ} {t : Test} {o : List ℕ} {due kind : ℕ} (k : kind ≡ plainKind (t .kind)) where
+  -- the due rows, as the leaves take them
+  pub due-numbers : HasRows b start base t o due → kind ≤ numberBlankKind → DueRows b numberTag start base due
+  due-numbers (rows, tag, c, R) l d m =
+      number-row b tag start (base + d) (number-kind tag (plainKind (t .kind)) (R .kind-fits) (omega arith)) (rows, c, R .shown, R .inside d m)
+
+  pub due-width : HasRows b start base t o due → kind ≤ numberBlankKind → t .low + t .width < 2 ^ 32
+  due-width (rows, tag, c, R) l = width-fits (R .prepared) (R .operand-fits) (omega arith)
+
+  pub due-texts : HasRows b start base t o due → numberBlankKind < kind → DueRows b textTag start base due
+  due-texts (rows, tag, c, R) l d m =
+      let f = text-kind tag (plainKind (t .kind)) (R .kind-fits) (omega arith) in
+      text-row b tag start (base + d) (λ e. omega arith) (rows, c, R .shown, R .inside d m)
+
+  -- the kinds with an operand: its size, and its two bytes as the filter takes them
+  pub due-operand : HasRows b start base t o due → numberBlankKind < kind → (kind ≡ textBlankKind → ⊥) → (kind ≤ containsKind) × (0 < length o) × (length o ≤ textLimit)
+  due-operand (rows, tag, c, R) l ne =
+      let f = text-kind tag (plainKind (t .kind)) (R .kind-fits) (omega arith) in
+      let m : plainKind (t .kind) ≤ containsKind = omega arith in
+      let s = text-fits (plainKind (t .kind)) o (R .operand-fits) (omega arith) m in
+      (omega arith, s .0, s .1)
+
+  module _ (may : ℕ) (l : numberBlankKind < kind) (ne : kind ≡ textBlankKind → ⊥) (S : SiftedTexts b start base kind (length o) (t .first) (t .second) due may) where
+    sifted : (rows tag : ℕ) (c : Column) → ShownRows b start base t o due rows tag c → Sifted (λ d. textTest kind o (textOf b start (base + d))) due may
+    sifted rows tag c R = let f = due-operand (rows, tag, c, R) l ne in S o refl (R .prepared .bytes (omega arith) (omega arith))
+
+    pub due-sifted : HasRows b start base t o due → DueRows b textTag start base may
+    due-sifted (rows, tag, c, R) d e = due-texts (rows, tag, c, R) l d (sifted rows tag c R .within d e)
+
+  -- and what they answer, as the column has it
+  module _ (r : ℕ) where
+    pub numbers-met : kind ≤ numberBlankKind → KeptBy (λ d. within (t .low) (t .width) (numberOf b start (base + d))) due r → PlainMetAt b start base t o due r
+    numbers-met l K rows tag (numbers ns) R =
+        kept-same _ _ due r
+        (λ d m. number-means (R .prepared) (R .operand-fits) (omega arith) (numberOf b start (base + d))
+        ∙ ap (numberTest (plainKind (t .kind)) o) (number-is b start (base + d) (numberOf b start (base + d)) refl rows ns (refl, R .shown .1, R .shown .2) (R .inside d m))
+        ∙ sym (truth-of (numberTest (plainKind (t .kind)) o (getD ns (base + d) 0)))) K
+    numbers-met l K rows tag (texts ts) R =
+        let e = number-kind tag (plainKind (t .kind)) (R .kind-fits) (omega arith) in let f : tag ≡ textTag = R .shown .0 in absurd (omega arith)
+
+    pub texts-met : numberBlankKind < kind → KeptBy (λ d. textTest kind o (textOf b start (base + d))) due r → PlainMetAt b start base t o due r
+    texts-met l K rows tag (numbers ns) R =
+        let e = text-kind tag (plainKind (t .kind)) (R .kind-fits) (omega arith) in let f : tag ≡ numberTag = R .shown .0 in absurd (omega arith)
+    texts-met l K rows tag (texts ts) R =
+        kept-same _ _ due r
+        (λ d m. ap (λ (j : ℕ). textTest j o (textOf b start (base + d))) k
+        ∙ ap (textTest (plainKind (t .kind)) o) (text-shown b start (base + d) rows ts (refl, R .shown .1, R .shown .2, R .shown .3) (R .inside d m))
+        ∙ sym (truth-of (textTest (plainKind (t .kind)) o (getD ts (base + d) [])))) K
+
+    pub blanks-met : kind ≡ textBlankKind → KeptBy (λ d. textBlank (textOf b start (base + d))) due r → PlainMetAt b start base t o due r
+    unfolding textTest
+    blanks-met e K = texts-met (omega arith) (kept-same _ (λ d. textTest kind o (textOf b start (base + d))) due r (λ d m. rw e) K)
+
+    pub sifted-met : (may : ℕ) → numberBlankKind < kind → (kind ≡ textBlankKind → ⊥) → SiftedTexts b start base kind (length o) (t .first) (t .second) due may
+        → KeptBy (λ d. textTest kind o (textOf b start (base + d))) may r → PlainMetAt b start base t o due r
+    sifted-met may l ne S K rows tag c R = texts-met l (sift-kept r (sifted may l ne S rows tag c R) K) rows tag c R
+
+-- a kind below the opposites, and an opposite one
+module _ {b : List ℕ} {start base : ℕ} {t : Test} {o : List ℕ} {due : ℕ} (r : ℕ) (K : PlainMetAt b start base t o due r) where
+  pub plain-met : t .kind < oppositeFrom → MetAt b start base t o due r
+  unfolding outcomeOf
+  plain-met h rows tag c R = rw (lt-ltb (t .kind) oppositeFrom h) (K rows tag c R)
+
+  pub opposite-met : oppositeFrom ≤ t .kind → MetAt b start base t o due (bitXor due r)
+  unfolding outcomeOf
+  opposite-met h rows tag c R =
+      rw (le-ltb (t .kind) oppositeFrom h)
+      (kept-same _ _ due (bitXor due r) (λ d m. truth-opposite (plainOf c (plainKind (t .kind)) o (base + d)))
+      (kept-others (λ d. truth (plainOf c (plainKind (t .kind)) o (base + d))) due r (K rows tag c R)))

@@ -1,0 +1,36 @@
+-- `plain_met_at` meets its contract: each leaf answers as the column has it.
+use native.Mathlib.Omega.{arith}
+use Rattle.scan.proofs.Shown.{due-numbers, due-width, due-texts, due-operand, due-sifted, numbers-met, blanks-met, sifted-met}
+use borrow.Author.Needs.{needs}
+use Rattle.scan.proofs.met.plain_met_at.Statement.{statement}
+use Rattle.scan.proofs.met.plain_met_at.Tie as tie
+
+plain-kind-requires : tie.Need-plain-kind-requires
+plain-kind-requires c κs = search needs
+
+numbers-within-requires : tie.Need-numbers-within-requires
+numbers-within-requires c κs = let k = c .before .plain-kind .ensures in (due-numbers k (c .before .before .before .before .before .pre .1) (c .if1 .taken), due-width k (c .before .before .before .before .before .pre .1) (c .if1 .taken))
+
+returns : tie.Need-returns
+returns c = numbers-met (c .before .before .plain-kind .ensures) _ (c .before .if1 .taken) (c .numbers-within .ensures)
+
+texts-blank-requires : tie.Need-texts-blank-requires
+texts-blank-requires c κs = due-texts (c .before .before .plain-kind .ensures) (c .before .before .before .before .before .before .pre .1) (c .before .if1 .left)
+
+returns-2 : tie.Need-returns-2
+returns-2 c = blanks-met (c .before .before .before .plain-kind .ensures) _ (c .before .if2 .taken) (c .texts-blank .ensures)
+
+sift-requires : tie.Need-sift-requires
+sift-requires c κs =
+    let k = c .before .before .plain-kind .ensures in
+    let o = due-operand k (c .before .before .before .before .before .before .pre .1) (c .before .if1 .left) (c .if2 .left) in
+    (due-texts k (c .before .before .before .before .before .before .pre .1) (c .before .if1 .left), omega arith, o .0, o .1, o .2)
+
+texts-that-pass-requires : tie.Need-texts-that-pass-requires
+texts-that-pass-requires c κs = (c .before .before .before .before .before .before .before .pre .0, due-sifted (c .before .before .before .plain-kind .ensures) _ (c .before .before .if1 .left) (c .before .if2 .left) (c .sift .ensures) (c .before .before .before .before .before .before .before .pre .1))
+
+returns-3 : tie.Need-returns-3
+returns-3 c = sifted-met (c .before .before .before .before .plain-kind .ensures) _ _ (c .before .before .before .if1 .left) (c .before .before .if2 .left) (c .before .sift .ensures) (c .texts-that-pass .ensures)
+
+pub plain-met-at-spec : {M : Type 1} → statement M
+plain-met-at-spec = tie.close (tie.spec plain-kind-requires numbers-within-requires returns texts-blank-requires returns-2 sift-requires texts-that-pass-requires returns-3)

@@ -1,0 +1,32 @@
+// A number predicate at the due rows.
+ghost use mathlib.Core.Path.{_≡_};
+ghost use Prim.Native.Nat.{_+_, _*_, _^_, _<_};
+ghost use Rattle.fields.specs.Numbers.{numberAt};
+ghost use Rattle.catalogue.specs.Format.{numberTag, numberSize};
+ghost use Rattle.sets.specs.Kept.{KeptBy};
+ghost use Rattle.filters.specs.Block.{DueRows};
+ghost use Rattle.scan.specs.Met.{within};
+
+// Whether n is low or one of the numbers after it, as many as width: one comparison.
+fn is_within(low: u32, width: u32, n: u32) -> bool
+    requires { ⌜ low + width < 2 ^ 32 ⌝ }
+    ensures { λ r. ⌜ r ≡ within low width n ⌝ }
+{
+    std::num::wrapping_sub_u32(n, low) <= width
+}
+
+pub fn numbers_within(b: &[u8], start: usize, base: usize, low: u32, width: u32, due: u64) -> u64
+    requires { ⌜ DueRows (now b) numberTag start base due × (low + width < 2 ^ 32) ⌝ }
+    ensures { λ r. ⌜ KeptBy (λ d. within low width (numberAt (now (b .entry)) (start + numberSize * (base + d)) numberSize)) due r ⌝ }
+{
+    let mut left = due;
+    let mut met: u64 = 0;
+    while left != 0 {
+        let row = base + fields::number::widen(sets::first(left));
+        let next = sets::rest(left);
+        let n = catalogue::column::number_at(b, start, row);
+        met = met | sets::kept(is_within(low, width, n), left ^ next);
+        left = next;
+    }
+    met
+}

@@ -1,0 +1,49 @@
+// A text predicate at the due rows.
+ghost use Prim.Native.Nat.{_+_};
+ghost use Rattle.catalogue.specs.Format.{textTag};
+ghost use Rattle.predicate.specs.Meaning.{textTest, textBlank};
+ghost use Rattle.predicate.specs.Outcome.{Folds};
+ghost use Rattle.sets.specs.Kept.{KeptBy};
+ghost use Rattle.filters.specs.Block.{DueRows, textOf};
+
+pub fn texts_blank(b: &[u8], start: usize, base: usize, due: u64) -> u64
+    requires { ⌜ DueRows (now b) textTag start base due ⌝ }
+    ensures { λ r. ⌜ KeptBy (λ d. textBlank (textOf (now (b .entry)) start (base + d))) due r ⌝ }
+{
+    let mut left = due;
+    let mut met: u64 = 0;
+    while left != 0 {
+        let row = base + fields::number::widen(sets::first(left));
+        let next = sets::rest(left);
+        let text = catalogue::column::text_at(b, start, row);
+        met = met | sets::kept(text.len() == 0, left ^ next);
+        left = next;
+    }
+    met
+}
+
+// The test of a kind below the opposites, each text handed on as a part.
+pub fn texts_that_pass(
+    table: &[u8],
+    b: &[u8],
+    start: usize,
+    base: usize,
+    kind: u8,
+    operand: &[u8],
+    due: u64,
+) -> u64
+    requires { ⌜ Folds (now table) × DueRows (now b) textTag start base due ⌝ }
+    ensures { λ r. ⌜ KeptBy (λ d. textTest kind (now (operand .entry)) (textOf (now (b .entry)) start (base + d))) due r ⌝ }
+{
+    let mut left = due;
+    let mut met: u64 = 0;
+    while left != 0 {
+        let row = base + fields::number::widen(sets::first(left));
+        let next = sets::rest(left);
+        let text = catalogue::column::text_at(b, start, row);
+        let passes = predicate::text::text_test(table, kind, operand, text);
+        met = met | sets::kept(passes, left ^ next);
+        left = next;
+    }
+    met
+}
