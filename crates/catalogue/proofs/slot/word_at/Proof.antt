@@ -117,7 +117,9 @@ add-result-7 : tie.Need-add-result-7
 add-result-7 c = search needs
 
 returns : tie.Need-returns
-returns c = omega (arith, word-eight (c .before .before .before .before .before .before .before .before .before .before .before .before .before .before .before .before .before .args .b .now) (c .before .before .before .before .before .before .before .before .before .before .before .before .before .before .before .before .before .args .at), c .before .before .before .before .before .before .before .before .before .before .before .before .before .before .widen64 .ensures .0, c .before .before .before .before .before .before .before .before .before .before .before .before .widen642 .ensures .0, c .before .before .before .before .before .before .before .before .before .before .widen643 .ensures .0, c .before .before .before .before .before .before .before .before .widen644 .ensures .0, c .before .before .before .before .before .before .widen645 .ensures .0, c .before .before .before .before .widen646 .ensures .0, c .before .before .widen647 .ensures .0, c .widen648 .ensures .0)
+returns c =
+    let a = c .before .before .before .before .before .before .before .before .before .before .before .before .before .before .before .before .before in
+    omega (arith, word-eight (a .args .b .now) (a .args .at))
 
 pub word-at-spec : {M : Type 1} → statement M
 word-at-spec =
