@@ -1,4 +1,4 @@
-// What a planned predicate gives: its answer at a row.
+// What a planned predicate gives: its answer at a row, and the due rows of a block at which it is met.
 use crate::table::Plan;
 use predicate::answer::Answer;
 ghost use mathlib.Core.Path.{_≡_};
@@ -7,7 +7,7 @@ ghost use lib.ListN.{length};
 ghost use Rattle.predicate.specs.Outcome.{Folds};
 ghost use Rattle.query.specs.Format.{predicateLimit};
 ghost use Rattle.plan.specs.Plan.{planSize, accessAt};
-ghost use Rattle.plan.specs.Access.{HasOutcome, AnswerIs};
+ghost use Rattle.plan.specs.Access.{HasOutcome, AnswerIs, HasOutcomes, MetIs};
 
 // The answer of predicate c at a row.
 pub fn answer_of(
@@ -28,4 +28,26 @@ pub fn answer_of(
     let from = plan[i + 3];
     let to = from + plan[i + 4];
     predicate::outcome::outcome_at(fold, catalogue, tag, start, kind, &q[from..to], row)
+}
+
+// The due rows of a block at which predicate c is taken for yes: bit d is row base + d.
+pub fn met_of(
+    fold: &[u8],
+    catalogue: &[u8],
+    q: &[u8],
+    plan: &[usize],
+    c: usize,
+    base: usize,
+    due: u64,
+) -> u64
+    requires { ⌜ Folds (now fold) × (c < predicateLimit) × (length (now plan) ≡ planSize) × HasOutcomes (now catalogue) (now q) (accessAt (now plan) c) base due ⌝ }
+    ensures { λ r. ⌜ MetIs (now (catalogue .entry)) (now (q .entry)) (accessAt (now (plan .entry)) c) base due r ⌝ }
+{
+    let i = Plan::WIDTH * c;
+    let start = plan[i + 1];
+    let kind = fields::number::narrow(plan[i + 2]);
+    let from = plan[i + 3];
+    let to = from + plan[i + 4];
+    let test = scan::test::prepare(fold, kind, &q[from..to]);
+    scan::met::met_at(fold, catalogue, start, base, test, &q[from..to], due)
 }

@@ -54,8 +54,8 @@ same-self : (B : Block) (P : List ℕ) → SameBeside B P P
 same-self B P = record { size = refl; bytes = λ h. h; beside = λ c e l w. refl }
 
 module _ (T : Task) (B : Block) where
-  pub block-start : {Z L P : List ℕ} → ((c : ℕ) → getD Z c 0 ≡ 0) → Filled (B .start) (B .rows) Z L → Once (turnsOf T) → Unmarked B P → Working T B 0 L 0 P P
-  block-start {Z} {L} {P} z F o U = record {
+  pub block-start : (Z L P : List ℕ) → ((c : ℕ) → getD Z c 0 ≡ 0) → Filled (B .start) (B .rows) Z L → Once (turnsOf T) → Unmarked B P → Working T B 0 L 0 P P
+  block-start Z L P z F o U = record {
     rows = λ d l. ap (work (T .query .tree) (told T (B .base + d)) (turnsOf T))
         (row-same (fun-ext (λ c. live c d)) (fun-ext (λ c. U .blank c d l)) (member-none d));
     once = o;
@@ -100,17 +100,17 @@ module _ (T : Task) (B : Block) where
     blank-here = W .blank (getD (turnsOf T) i 0) (subst (Among (getD (turnsOf T) i 0)) (sym at) (inl refl))
 
     -- the rows after the turn, if each is what the turn makes of it
-    taken : {sel′ : ℕ} {N P′ : List ℕ}
+    taken : (sel′ : ℕ) (N P′ : List ℕ)
         → ((d : ℕ) → d < blockRows → turn (T .query .tree) (told T (B .base + d)) (getD (turnsOf T) i 0) (rowNow B L sel P d) ≡ rowNow B N sel′ P′ d)
         → (d : ℕ) → d < blockRows → work (T .query .tree) (told T (B .base + d)) (drop (i + 1) (turnsOf T)) (rowNow B N sel′ P′ d) ≡ rowOf T B d
-    taken {sel′} {N} {P′} t d l =
+    taken sel′ N P′ t d l =
         ap (work (T .query .tree) (told T (B .base + d)) (drop (i + 1) (turnsOf T))) (sym (t d l))
         ∙ sym (work-place (T .query .tree) (told T (B .base + d)) (turnsOf T) i (rowNow B L sel P d) lt) ∙ W .rows d l
 
     -- due nowhere
     pub block-idle : getD L (getD (turnsOf T) i 0) 0 ≡ 0 → Working T B (i + 1) L sel P₀ P
     block-idle e = record {
-      rows = taken (λ d l. turn-idle (T .query .tree) (told T (B .base + d)) (getD (turnsOf T) i 0) (rowNow B L sel P d) (ap (λ (x : ℕ). member x d) e ∙ member-none d));
+      rows = taken sel L P (λ d l. turn-idle (T .query .tree) (told T (B .base + d)) (getD (turnsOf T) i 0) (rowNow B L sel P d) (ap (λ (x : ℕ). member x d) e ∙ member-none d));
       once = once-at .1;
       blank = λ k m. W .blank k (among-later k m);
       same = W .same;
@@ -171,7 +171,7 @@ module _ (T : Task) (B : Block) where
 
       pub block-turn : Working T B (i + 1) N (bitOr sel (bitAnd passed met)) P₀ P′
       block-turn = record {
-        rows = taken turned;
+        rows = taken (bitOr sel (bitAnd passed met)) N P′ turned;
         once = once-at .1;
         blank = λ k m d l. beside k (B .base + d) (in-line d l) (λ q. absurd (once-at .0 (subst (λ (x : ℕ). Among x (drop (i + 1) (turnsOf T))) q m)))
             ∙ W .blank k (among-later k m) d l;

@@ -82,6 +82,25 @@ sort-end {P} {x} {left} {met} S e d =
     none true = refl
     none false = refl
 
+-- what the rest has lost is the lowest number alone
+module _ {left t next : ℕ} (F : First left t) (R : Rest left next) where
+  one : (d : ℕ) → member (bitXor left next) d ≡ eqb d t
+  one d = ap (λ (z : ℕ). member z d) (R .taken ∙ ap oneSet (sym (F .lowest-is))) ∙ member-one t d
+
+  pub rest-member : (d : ℕ) → member next d ≡ cond (eqb d t) false (member left d)
+  unfolding xor
+  rest-member d = back (member left d) (member next d) (eqb d t) (sym (member-xor left next d) ∙ one d) (at (same? d t))
+    where
+      at : (d ≡ t) ⊎ (d ≡ t → ⊥) → (eqb d t ≡ true → member left d ≡ true)
+      at (inl q) e = rw q (F .among)
+      at (inr ne) e = clash e (eqb-ne d t ne)
+
+      back : (l n q : Bool) → xor l n ≡ q → (q ≡ true → l ≡ true) → n ≡ cond q false l
+      back true true q e f = rw (← e)
+      back true false q e f = rw (← e)
+      back false true q e f = clash (f (sym e)) refl
+      back false false q e f = rw (← e)
+
 -- the number at hand is t, at whatever width w the code has it
 module _ {P : ℕ → Bool} {x left met t w : ℕ} (S : Sorting P x left met) (F : First left t) (w-is : w ≡ t) where
   pub sort-among : member x w ≡ true
@@ -89,28 +108,11 @@ module _ {P : ℕ → Bool} {x left met t w : ℕ} (S : Sorting P x left met) (F
 
   -- `next` is the rest, p the test's answer, and `more` what is met
   module _ {next : ℕ} (R : Rest left next) where
-    one : (d : ℕ) → member (bitXor left next) d ≡ eqb d t
-    one d = ap (λ (z : ℕ). member z d) (R .taken ∙ ap oneSet (sym (F .lowest-is))) ∙ member-one t d
-
-    pub rest-member : (d : ℕ) → member next d ≡ cond (eqb d t) false (member left d)
-    unfolding xor
-    rest-member d = back (member left d) (member next d) (eqb d t) (sym (member-xor left next d) ∙ one d) (at (same? d t))
-      where
-        at : (d ≡ t) ⊎ (d ≡ t → ⊥) → (eqb d t ≡ true → member left d ≡ true)
-        at (inl q) e = rw q (F .among)
-        at (inr ne) e = clash e (eqb-ne d t ne)
-
-        back : (l n q : Bool) → xor l n ≡ q → (q ≡ true → l ≡ true) → n ≡ cond q false l
-        back true true q e f = rw (← e)
-        back true false q e f = rw (← e)
-        back false true q e f = clash (f (sym e)) refl
-        back false false q e f = rw (← e)
-
     pub sort-next : {p : Bool} {more : ℕ} → p ≡ P w → more ≡ cond p (bitXor left next) 0 → Sorting P x next (bitOr met more)
     sort-next {p} {more} e m = record {
       small = let l = R .less in let s = S .small in omega arith;
-      within = λ d y. S .within d (left-of (eqb d t) (member left d) (sym (rest-member d) ∙ y));
-      sorted = λ d. ap₂ (λ (k l : Bool). k || (l && P d)) (member-or met more d ∙ ap (λ (b : Bool). member met d || b) (met-member d)) (rest-member d) ∙ go d (same? d t) ∙ S .sorted d;
+      within = λ d y. S .within d (left-of (eqb d t) (member left d) (sym (rest-member F R d) ∙ y));
+      sorted = λ d. ap₂ (λ (k l : Bool). k || (l && P d)) (member-or met more d ∙ ap (λ (b : Bool). member met d || b) (met-member d)) (rest-member F R d) ∙ go d (same? d t) ∙ S .sorted d;
     }
       where
         left-of : (q l : Bool) → cond q false l ≡ true → l ≡ true
@@ -122,7 +124,7 @@ module _ {P : ℕ → Bool} {x left met t w : ℕ} (S : Sorting P x left met) (F
         kept-member false z d = member-none d
 
         met-member : (d : ℕ) → member more d ≡ (p && eqb d t)
-        met-member d = ap (λ (z : ℕ). member z d) m ∙ kept-member p (bitXor left next) d ∙ ap (λ (b : Bool). p && b) (one d)
+        met-member d = ap (λ (z : ℕ). member z d) m ∙ kept-member p (bitXor left next) d ∙ ap (λ (b : Bool). p && b) (one F R d)
 
         here : (k q : Bool) → ((k || (q && true)) || false) ≡ (k || (true && q))
         here true q = refl
