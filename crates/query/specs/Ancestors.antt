@@ -2,7 +2,7 @@
 use Prim.Native.Nat.{ℕ, zero, suc, _+_, _-_, _*_, _≤_, _<_}
 use mathlib.Core.Path.{_≡_}
 use mathlib.Core.List.{List, [], _∷_, _++_}
-use lib.ListN.{getD}
+use lib.ListN.{length, getD}
 use Rattle.strategy.specs.Climb.{Group}
 use Rattle.query.specs.Format.{predicateLimit, depthLimit}
 use Rattle.query.specs.Decode.{settling}
@@ -69,6 +69,15 @@ IsSpan n A i = (getD A i 0 ≤ getD A (i + 1) 0) × (getD A (i + 1) 0 ≤ n)
 -- every ancestor of the first n predicates is a span of predicates below n
 abbrev pub Spans : (n : ℕ) → (table : List ℕ) → Type 0
 Spans n A = (c k : ℕ) → c < n → k < heightAt A c → IsSpan n A (ancestorPlace c k)
+
+-- what closing a group asks: its predicates from `a` up to `m` are the last ones read, and each has room for one ancestor more
+pub record Closable (a m : ℕ) (A : List ℕ) : Type 0 where
+  pub order : a ≤ m
+  pub few : m ≤ predicateLimit
+  pub sized : length A ≡ ancestorsSize
+  pub low : Low m A
+  pub under : Under a m 1 A
+  pub spans : Spans m A
 
 -- one ancestor more, the group of the predicates from `a` up to `m`, for those from `a` up to `k`
 pub record Closed (a k m tag : ℕ) (A A′ : List ℕ) : Type 0 where

@@ -2,11 +2,7 @@
 // of each the first predicate, the end of its predicates and its tag.
 use crate::format::Group;
 use crate::table::Predicate;
-ghost use Prim.Native.Nat.{_≤_};
-ghost use mathlib.Core.Path.{_≡_};
-ghost use lib.ListN.{length};
-ghost use Rattle.query.specs.Format.{predicateLimit};
-ghost use Rattle.query.specs.Ancestors.{ancestorsSize, Low, Under, Spans, Closed};
+ghost use Rattle.query.specs.Ancestors.{Closable, Closed};
 
 pub struct Ancestors;
 
@@ -29,10 +25,7 @@ impl Ancestors {
 
 // Closes the group of the predicates from a up to m: one ancestor more for each of them.
 pub fn close_group(ancestors: &mut [u8], a: usize, m: usize, tag: u8)
-    requires { ⌜ (a ≤ m) × (m ≤ predicateLimit) × (length (now ancestors) ≡ ancestorsSize) ⌝ }
-    requires { ⌜ Low m (now ancestors) ⌝ }
-    requires { ⌜ Under a m 1 (now ancestors) ⌝ }
-    requires { ⌜ Spans m (now ancestors) ⌝ }
+    requires { ⌜ Closable a m (now ancestors) ⌝ }
     ensures { λ _. ⌜ Closed a m m tag (now (ancestors .entry)) (now (ancestors .exit)) ⌝ }
 {
     let first = fields::number::narrow(a);

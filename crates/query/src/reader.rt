@@ -12,7 +12,7 @@ pub enum Progress {
 }
 
 // The member at a place inside an enclosing end, with n predicates before it and so many more groups allowed; places[c] is
-// where the field of predicate c begins.
+// where the field of predicate c begins, line c of ancestors tells the groups around it.
 pub fn read_member(
     tags: &[u8],
     q: &[u8],

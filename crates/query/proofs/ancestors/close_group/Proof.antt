@@ -4,7 +4,7 @@ use native.Mathlib.Omega.{arith}
 use Prim.Native.Nat.{_-_, _≤_, _<_}
 use mathlib.Core.Path.{_≡_, refl}
 use lib.ListN.{length, length-set}
-use Rattle.query.specs.Format.{depthLimit}
+use Rattle.query.specs.Format.{predicateLimit, depthLimit}
 use Rattle.query.specs.Ancestors.{ancestorsSize, heightAt, Closed}
 use Rattle.query.proofs.AncestorLaws.{closed-none, closed-more}
 use Rattle.query.proofs.ancestors.close_group.Statement.{statement}
@@ -16,30 +16,32 @@ Inv-loop ancestors₀ a m tag first end c₀ ancestors c = (a ≤ c) × (c ≤ m
 abbrev μ-loop : tie.MeasureT-loop
 μ-loop ancestors₀ a m tag first end c₀ ancestors c = m - c
 
-room : (c : tie.After-slice-known2 Inv-loop μ-loop) → heightAt (c .before .before .loop .ancestors) (c .before .before .loop .c) < depthLimit
+-- inside the loop c is a predicate of the group, with room for one ancestor more
+room : (c : tie.After-slice-known2 Inv-loop μ-loop) → let l = c .before .before .loop in (heightAt (l .ancestors) (l .c) < depthLimit) × (l .c < predicateLimit)
 room c =
+    let p = c .before .before .before .before .before .before .pre in
     let l = c .before .before .loop in
     let s = l .inv .3 .same-after (l .c) (omega arith) in
-    let u = c .before .before .before .before .before .before .pre .1 .1 .0 (l .c) (omega arith) (omega arith) in
-    omega arith
+    let u = p .under (l .c) (omega arith) (omega arith) in
+    (omega arith, omega (arith, p .few))
 
 narrow-requires : tie.Need-narrow-requires Inv-loop μ-loop
-narrow-requires c κs = search needs
+narrow-requires c κs = let p = c .before .pre in omega (arith, p .order, p .few)
 
 narrow-requires-2 : tie.Need-narrow-requires-2 Inv-loop μ-loop
-narrow-requires-2 c κs = search needs
+narrow-requires-2 c κs = omega (arith, c .before .before .pre .few)
 
 loop-holds : tie.Need-loop-holds Inv-loop μ-loop
-loop-holds c = (omega arith, omega arith, c .before .before .before .pre .0 .2, closed-none _ _ _ _ (c .before .before .before .pre .1 .0) (c .before .before .before .pre .1 .1 .1))
+loop-holds c = let p = c .before .before .before .pre in (omega arith, p .order, p .sized, closed-none _ _ _ _ (p .low) (p .spans))
 
 mul-line : tie.Need-mul-line Inv-loop μ-loop
-mul-line c = search needs
+mul-line c = omega (arith, c .before .before .before .before .before .pre .few)
 
 slice-read-height : tie.Need-slice-read-height Inv-loop μ-loop
-slice-read-height c = search needs
+slice-read-height c = omega (arith, room c)
 
 add-i : tie.Need-add-i Inv-loop μ-loop
-add-i c = search needs
+add-i c = omega (arith, room c)
 
 widen-requires : tie.Need-widen-requires Inv-loop μ-loop
 widen-requires c κs = search needs
@@ -75,7 +77,7 @@ slice-write-ancestors-4 : tie.Need-slice-write-ancestors-4 Inv-loop μ-loop
 slice-write-ancestors-4 c = simp length-set (omega (arith, room (c .before)))
 
 add-c : tie.Need-add-c Inv-loop μ-loop
-add-c c = search needs
+add-c c = omega (arith, room (c .before))
 
 loop-less : tie.Need-loop-less Inv-loop μ-loop
 loop-less c = search needs
@@ -88,7 +90,7 @@ loop-again c =
       omega arith,
       omega arith,
       search needs,
-      closed-more (l .ancestors) (a .a) (l .c) (a .m) (a .tag) _ _ _ _ refl (omega arith) (c .before .before .before .before .before .narrow .ensures) (c .before .before .before .before .narrow2 .ensures) h (omega arith) _ (omega arith) (omega arith) (l .inv .3),
+      closed-more (l .ancestors) (a .a) (l .c) (a .m) (a .tag) _ _ _ _ refl (omega arith) (c .before .before .before .before .before .narrow .ensures) (c .before .before .before .before .narrow2 .ensures) (h .0) (omega arith) _ (omega arith) (omega arith) (l .inv .3),
     )
 
 same-length : tie.Need-same-length Inv-loop μ-loop

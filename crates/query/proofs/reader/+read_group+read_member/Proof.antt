@@ -169,7 +169,14 @@ read-member-close-group-requires t c κs =
     let k = g .kept in
     let p = c .before .before .before .before .before .before .before .before .before .before .before .before .before .before .before .before .before .before .before .before .pre .1 in
     let w = rw (c .before .before .next .given .1) at (g .ensures .within) in
-    ((w .more, w .few, omega (arith, p .ancestors)), (w .low, (λ k i j. (let u = w .under k i j in omega (arith, p .deep)), w .spans)))
+    record {
+      order = w .more;
+      few = w .few;
+      sized = omega (arith, p .ancestors);
+      low = w .low;
+      under = λ k i j. (let u = w .under k i j in omega (arith, p .deep));
+      spans = w .spans;
+    }
 
 read-member-same-length : (t : ℕ) → read-member-lts.Need-same-length (member-claims t) (read-member-at t) read-member.Post
 read-member-same-length t c = search needs

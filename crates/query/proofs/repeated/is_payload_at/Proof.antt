@@ -17,7 +17,10 @@ head-requires-2 : tie.Need-head-requires-2
 head-requires-2 c κs = search needs
 
 returns : tie.Need-returns
-returns c = other-head (c .before .before .before .before .before .args .payload .now) (c .before .before .before .before .before .args .q .now) (c .before .before .before .before .before .args .at + headerSize) (fieldEnd (c .before .before .before .before .before .args .q .now) (c .before .before .before .before .before .args .at)) (c .before .before .before .before .before .pre .0) (c .before .before .before .before .before .pre .1) (c .before .before .before .before .before .pre .2) _ _ (c .before .before .head .ensures) (c .before .head2 .ensures) (c .if1 .taken)
+returns c =
+    let a = c .before .before .before .before .before .args in
+    let p = c .before .before .before .before .before .pre in
+    other-head (a .payload .now) (a .q .now) (a .at + headerSize) (fieldEnd (a .q .now) (a .at)) (p .0) (p .1) (p .2) _ _ (c .before .before .head .ensures) (c .before .head2 .ensures) (c .if1 .taken)
 
 field-end-requires : tie.Need-field-end-requires
 field-end-requires c κs = search needs
@@ -35,7 +38,10 @@ same-bytes-requires : tie.Need-same-bytes-requires
 same-bytes-requires c κs = search needs
 
 returns-2 : tie.Need-returns-2
-returns-2 c = same-part (c .before .before .before .before .before .before .before .before .args .payload .now) (c .before .before .before .before .before .before .before .before .args .q .now) (c .before .before .before .before .before .before .before .before .args .at + headerSize) (fieldEnd (c .before .before .before .before .before .before .before .before .args .q .now) (c .before .before .before .before .before .before .before .before .args .at)) (c .before .before .before .before .before .before .before .before .pre .0) (c .before .before .before .before .before .before .before .before .pre .1) (c .before .before .before .before .before .before .before .before .pre .2) _ (rw (c .before .before .field-end .ensures) at (c .same-bytes .ensures))
+returns-2 c =
+    let a = c .before .before .before .before .before .before .before .before .args in
+    let p = c .before .before .before .before .before .before .before .before .pre in
+    same-part (a .payload .now) (a .q .now) (a .at + headerSize) (fieldEnd (a .q .now) (a .at)) (p .0) (p .1) (p .2) _ (rw (c .before .before .field-end .ensures) at (c .same-bytes .ensures))
 
 pub is-payload-at-spec : {M : Type 1} → statement M
 is-payload-at-spec =

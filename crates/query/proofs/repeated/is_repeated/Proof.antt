@@ -29,7 +29,10 @@ is-payload-at-requires : tie.Need-is-payload-at-requires Inv-loop μ-loop
 is-payload-at-requires c κs = let p = c .before .before .before .before .before .before .pre .1 .placed (c .before .before .loop .left - 1) (omega arith) in (c .before .before .before .before .before .before .pre .0, p .0, p .1)
 
 returns : tie.Need-returns Inv-loop μ-loop
-returns c = repeated-at (c .before .before .before .before .before .before .before .before .args .payload .now) (c .before .before .before .before .before .before .before .before .args .q .now) (c .before .before .before .before .before .before .before .before .args .places .now) _ (c .before .before .before .before .loop .left - 1) (same-shown (c .before .before .before .before .before .before .before .before .args .q .now) (c .before .before .before .before .before .before .before .before .args .places .now) (c .before .before .before .before .loop .left - 1) (c .before .before .before .before .before .before .before .before .pre .1 .placed (c .before .before .before .before .loop .left - 1) (omega arith)) (c .before .before .before .before .before .before .before .before .args .payload .now) _ (c .before .is-payload-at .ensures)) _ (omega arith) (c .if1 .taken)
+returns c =
+    let a = c .before .before .before .before .before .before .before .before .args in
+    let l = c .before .before .before .before .loop in
+    repeated-at (a .payload .now) (a .q .now) (a .places .now) _ (l .left - 1) (same-shown (a .q .now) (a .places .now) (l .left - 1) (c .before .before .before .before .before .before .before .before .pre .1 .placed (l .left - 1) (omega arith)) (a .payload .now) _ (c .before .is-payload-at .ensures)) _ (omega arith) (c .if1 .taken)
 
 sub-left : tie.Need-sub-left Inv-loop μ-loop
 sub-left c = search needs
@@ -38,7 +41,10 @@ loop-less : tie.Need-loop-less Inv-loop μ-loop
 loop-less c = search needs
 
 loop-again : tie.Need-loop-again Inv-loop μ-loop
-loop-again c = (omega arith, unlike-more (c .before .before .before .before .before .before .before .before .args .payload .now) (c .before .before .before .before .before .before .before .before .args .q .now) (c .before .before .before .before .before .before .before .before .args .places .now) _ (c .before .before .before .before .loop .left - 1) (same-shown (c .before .before .before .before .before .before .before .before .args .q .now) (c .before .before .before .before .before .before .before .before .args .places .now) (c .before .before .before .before .loop .left - 1) (c .before .before .before .before .before .before .before .before .pre .1 .placed (c .before .before .before .before .loop .left - 1) (omega arith)) (c .before .before .before .before .before .before .before .before .args .payload .now) _ (c .before .is-payload-at .ensures)) _ _ _ (omega arith) (omega arith) (c .before .before .before .before .loop .inv .1) (c .if1 .left))
+loop-again c =
+    let a = c .before .before .before .before .before .before .before .before .args in
+    let l = c .before .before .before .before .loop in
+    (omega arith, unlike-more (a .payload .now) (a .q .now) (a .places .now) _ (l .left - 1) (same-shown (a .q .now) (a .places .now) (l .left - 1) (c .before .before .before .before .before .before .before .before .pre .1 .placed (l .left - 1) (omega arith)) (a .payload .now) _ (c .before .is-payload-at .ensures)) _ _ _ (omega arith) (omega arith) (l .inv .1) (c .if1 .left))
 
 returns-2 : tie.Need-returns-2 Inv-loop μ-loop
 returns-2 c = let e : c .before .loop .left ≡ 0 = omega arith in sym (repeated-none _ _ _ _ (rw e at (c .before .loop .inv .1)))
