@@ -19,7 +19,7 @@ use Rattle.bitmaps.specs.BitLaws.{or-false, below-more}
 use Rattle.bitmaps.specs.BitmapLaws.{bits-bitmap, bitmaps-one}
 use Rattle.bitmaps.specs.Table.{lineSize, lineBits, linesOf, Holds, within}
 
-zeros : (n i : ℕ) → _≡_ {A = ℕ} (getD (replicate n 0) i 0) 0
+pub zeros : (n i : ℕ) → _≡_ {A = ℕ} (getD (replicate n 0) i 0) 0
 zeros n i = go (which (ltb i n))
   where
     go : (ltb i n ≡ true) ⊎ (ltb i n ≡ false) → _≡_ {A = ℕ} (getD (replicate n 0) i 0) 0

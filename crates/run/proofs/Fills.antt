@@ -1,14 +1,13 @@
 -- The loop that makes predicates live: those still to come are in `left`.
-use Prim.Native.Nat.{ℕ, _^_, _<_}
-use native.Mathlib.Omega.{arith}
+use Prim.Native.Nat.{ℕ, _<_}
 use mathlib.Core.Path.{_≡_, refl, sym, ap, _∙_}
-use mathlib.Core.Bool.{Bool, true, false, _&&_, _||_, not, cond}
+use mathlib.Core.Bool.{Bool, true, false, _&&_, not, cond}
 use mathlib.Core.Logic.{_⊎_, inl, inr}
 use mathlib.Core.List.{List}
 use lib.ListN.{length, length-set, getD, set}
 use lib.Seq.{getD-set-same, getD-set-other}
 use lib.Dec.{eqb}
-use Rattle.strategy.specs.Bools.{which, same?, eqb-self, eqb-ne}
+use Rattle.strategy.specs.Bools.{clash, same?, eqb-self, eqb-ne}
 use Rattle.sets.specs.Set.{member}
 use Rattle.sets.specs.SetLaws.{member-none}
 use Rattle.sets.specs.Kept.{First, Rest}
@@ -35,19 +34,17 @@ fill-end {start} {rows} {left} {L} {N} F e c =
     all true = refl
     all false = refl
 
-pub fill-next : {start rows left t next : ℕ} {L N : List ℕ} → Filling start rows left L N → First left t → Rest left next → t < length N
-    → Filling start rows next L (set N t rows)
-fill-next {start} {rows} {left} {t} {next} {L} {N} F T R h = record {
+-- the next of them is t, which the code has at another width as w
+pub fill-next : {start rows left t next : ℕ} {L N : List ℕ} (w : ℕ) → w ≡ t → Filling start rows left L N → First left t → Rest left next → t < length N
+    → Filling start rows next L (set N w rows)
+fill-next {start} {rows} {left} {t} {next} {L} {N} w w-is F T R h = rw w-is (record {
   size = length-set N t rows ∙ F .size;
   words = λ c. go c (same? c t);
   within = λ c e. F .within c (still (eqb c t) (member left c) (sym (rest-member T R c) ∙ e));
-}
+})
   where
     still : (q l : Bool) → cond q false l ≡ true → l ≡ true
-    still true l y = absurd (false-not-true y)
-      where
-        false-not-true : false ≡ true → ⊥
-        false-not-true z = let w : _≡_ {A = ℕ} 0 1 = cc in omega arith
+    still true l y = clash y refl
     still false l y = y
 
     go : (c : ℕ) → (c ≡ t) ⊎ (c ≡ t → ⊥) → getD (set N t rows) c 0 ≡ cond (member start c && not (member next c)) rows (getD L c 0)

@@ -1,10 +1,12 @@
 -- Laws of updates and of membership.
-use Prim.Native.Nat.{ℕ}
+use Prim.Native.Nat.{ℕ, zero, suc, _<_}
+use native.Mathlib.Omega.{arith}
 use mathlib.Core.Path.{_≡_, refl, sym, _∙_, subst, fun-ext}
 use mathlib.Core.Bool.{Bool, true, false, cond}
 use mathlib.Core.Logic.{_⊎_, inl, inr}
 use mathlib.Core.List.{List, [], _∷_}
 use lib.Dec.{eqb}
+use lib.ListN.{length, getD}
 use Rattle.strategy.specs.Bools.{clash, not-true, or-cases, or-right, eqb-self, eqb-eq, eqb-ne, same?}
 use Rattle.strategy.specs.Assignment.{Assignment, update, Among, elem, AgreeOff}
 
@@ -75,3 +77,9 @@ elem-among c (d ∷ ds) h =
 
 pub elem-no : (c : ℕ) (l : List ℕ) → (Among c l → ⊥) → elem c l ≡ false
 elem-no c l n = not-true (elem c l) (λ e. n (elem-among c l e))
+
+-- what stands at a place of a list is one of it
+pub among-at : (l : List ℕ) (i : ℕ) → i < length l → Among (getD l i 0) l
+among-at [] i h = absurd (omega arith)
+among-at (c ∷ cs) zero h = inl refl
+among-at (c ∷ cs) (suc i) h = inr (among-at cs i (omega arith))

@@ -2,14 +2,14 @@
 use Prim.Native.Nat.{ℕ, _+_, _≤_, _<_}
 use native.Mathlib.Omega.{arith}
 use mathlib.Core.Path.{_≡_, refl, sym, ap, _∙_}
-use mathlib.Core.Bool.{Bool, true, false, cond}
+use mathlib.Core.Bool.{Bool, true, false, not, cond}
 use mathlib.Core.Logic.{_⊎_, inl, inr}
 use mathlib.Core.List.{List, [], _∷_, _++_}
 use lib.Dec.{ltb}
 use Rattle.strategy.specs.Bools.{which, clash, not-of-true, ltb-lt, ltb-le}
 use Rattle.strategy.specs.Tree.{Tree, leaf, group, Forest, none, more, settles, size, sizes, InRun}
 use Rattle.strategy.specs.TreeLaws.{settles-yes, settles-no}
-use Rattle.strategy.specs.Live.{Live, Step, meets, probed, through, settle, settleIn}
+use Rattle.strategy.specs.Live.{Live, Step, inRun, without, meets, probed, through, settle, settleIn}
 use Rattle.strategy.specs.LiveLaws.{without-in, meets-none, through-settles, through-asks, through-stopped}
 use Rattle.strategy.specs.Climb.{Group, enclosing, enclosingIn, climb}
 
@@ -67,3 +67,24 @@ climb-empties (group k f) c v live l e d h =
     let q = climb-append v (enclosingIn f 0 c) (record { absorbing = k; first = 0; count = sizes f } ∷ []) (probed c live) in
     ap (λ (x : Step). x .live d) q
     ∙ through-empties k v 0 (sizes f) (climb v (enclosingIn f 0 c) (probed c live)) (ap (λ (x : Step). x .settled) (sym q) ∙ e) d (omega arith)
+
+-- a climb makes nothing live
+through-less : (k v : Bool) (i n : ℕ) (s : Step) (d : ℕ) → (through k v i n s) .live d ≡ true → s .live d ≡ true
+unfolding through without
+through-less k v i n s d = go (s .settled) (settles k v)
+  where
+    out : (p q : Bool) → cond p false q ≡ true → q ≡ true
+    out true q h = clash h refl
+    out false q h = h
+
+    go : (p q : Bool) → (cond p (cond q (record { live = without i n (s .live); settled = true }) (record { live = s .live; settled = not (meets i n (s .live)) })) s) .live d ≡ true
+        → s .live d ≡ true
+    go true true h = out (inRun i n d) (s .live d) h
+    go true false h = h
+    go false q h = h
+
+pub climb-less : (v : Bool) (gs : List Group) (s : Step) (d : ℕ) → (climb v gs s) .live d ≡ true → s .live d ≡ true
+unfolding climb
+climb-less v [] s d h = h
+climb-less v (g ∷ gs) s d h =
+    through-less (g .absorbing) v (g .first) (g .count) s d (climb-less v gs (through (g .absorbing) v (g .first) (g .count) s) d h)
