@@ -20,6 +20,7 @@ fn slot_passes(b: &[u8], p: usize, low: u8, high: u8, k: Pair) -> bool
     fits & crate::pair::pair_at(b, at, at + k.gap, k) != 0
 }
 
+// The due rows whose slots pass.
 pub fn front_rows(b: &[u8], start: usize, base: usize, low: u8, high: u8, k: Pair, due: u64) -> u64
     requires { ⌜ DueRows (now b) textTag start base due × (k .gap ≤ 8) ⌝ }
     ensures { λ r. ⌜ KeptBy (λ d. frontPasses (now (b .entry)) (slotOf start (base + d)) low high k) due r ⌝ }

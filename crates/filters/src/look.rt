@@ -29,10 +29,11 @@ pub fn passes(look: Look, x: u8) -> u8
 pub fn look_of(c: u8) -> Look
     ensures { λ r. ⌜ MayFold c r ⌝ }
 {
+    let mask = c & 32;
     Look {
-        mask: c & 32,
+        mask,
         value: c,
-        mask2: c & 32,
+        mask2: mask,
         value2: c,
     }
 }

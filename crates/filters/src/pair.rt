@@ -12,7 +12,7 @@ pub struct Pair {
     pub second: Look,
 }
 
-// The place of the second byte in an operand of so many bytes.
+// The place of the second byte in an operand of so many bytes: at most eight, so that two windows of 16 cover a slot.
 pub fn gap_of(size: usize) -> usize
     requires { ⌜ 0 < size ⌝ }
     ensures { λ r. ⌜ (r ≡ gapOf size) × (r < size) × (r ≤ 8) ⌝ }

@@ -30,13 +30,6 @@ pub fn sift(
     if kind == Kind::EQUALS {
         return crate::front::front_rows(b, start, base, low, low, k, due);
     }
-    crate::front::front_rows(
-        b,
-        start,
-        base,
-        low,
-        fields::number::narrow(Text::LIMIT),
-        k,
-        due,
-    )
+    let high = fields::number::narrow(Text::LIMIT);
+    crate::front::front_rows(b, start, base, low, high, k, due)
 }

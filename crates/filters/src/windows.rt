@@ -10,7 +10,8 @@ ghost use Rattle.sets.specs.Kept.{KeptBy};
 ghost use Rattle.filters.specs.Block.{DueRows, slotOf};
 ghost use Rattle.filters.specs.Filter.{windowsPass};
 
-// The slot at p. The first window of first bytes begins with the slot, the second window of second bytes ends with it.
+// The slot at p. The pair's two places run from p and q on in the first window, from r and s on in the second, which ends
+// with the slot.
 fn slot_passes(b: &[u8], p: usize, k: Pair) -> bool
     requires { ⌜ (p + slotSize ≤ length (now b)) × (k .gap ≤ 8) ⌝ }
     ensures { λ r. ⌜ r ≡ windowsPass (now (b .entry)) p k ⌝ }
@@ -29,6 +30,7 @@ fn slot_passes(b: &[u8], p: usize, k: Pair) -> bool
     any != 0
 }
 
+// The due rows whose slots pass.
 pub fn windows_rows(b: &[u8], start: usize, base: usize, k: Pair, due: u64) -> u64
     requires { ⌜ DueRows (now b) textTag start base due × (k .gap ≤ 8) ⌝ }
     ensures { λ r. ⌜ KeptBy (λ d. windowsPass (now (b .entry)) (slotOf start (base + d)) k) due r ⌝ }

@@ -15,6 +15,7 @@ fn is_within(low: u32, width: u32, n: u32) -> bool
     std::num::wrapping_sub_u32(n, low) <= width
 }
 
+// The due rows whose numbers are among those.
 pub fn numbers_within(b: &[u8], start: usize, base: usize, low: u32, width: u32, due: u64) -> u64
     requires { ⌜ DueRows (now b) numberTag start base due × (low + width < 2 ^ 32) ⌝ }
     ensures { λ r. ⌜ KeptBy (λ d. within low width (numberAt (now (b .entry)) (start + numberSize * (base + d)) numberSize)) due r ⌝ }

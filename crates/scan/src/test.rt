@@ -25,10 +25,11 @@ pub fn prepare(table: &[u8], kind: u8, operand: &[u8]) -> Test
     if plain == Kind::RANGE {
         let low = fields::number::four_bytes(operand, 0);
         let high = fields::number::four_bytes(operand, Number::SIZE);
+        let width = high - low;
         return Test {
             kind,
             low,
-            width: high - low,
+            width,
             first: 0,
             second: 0,
         };

@@ -6,6 +6,7 @@ ghost use Rattle.predicate.specs.Outcome.{Folds};
 ghost use Rattle.sets.specs.Kept.{KeptBy};
 ghost use Rattle.filters.specs.Block.{DueRows, textOf};
 
+// The due rows whose texts are blank.
 pub fn texts_blank(b: &[u8], start: usize, base: usize, due: u64) -> u64
     requires { ⌜ DueRows (now b) textTag start base due ⌝ }
     ensures { λ r. ⌜ KeptBy (λ d. textBlank (textOf (now (b .entry)) start (base + d))) due r ⌝ }
@@ -22,7 +23,7 @@ pub fn texts_blank(b: &[u8], start: usize, base: usize, due: u64) -> u64
     met
 }
 
-// The test of a kind below the opposites, each text handed on as a part.
+// The due rows whose texts pass the test of a kind below the opposites, each text handed on as a part.
 pub fn texts_that_pass(
     table: &[u8],
     b: &[u8],

@@ -3,7 +3,8 @@ use Prim.Native.Nat.{ℕ, _^_, _<_}
 use mathlib.Core.Path.{_≡_}
 use mathlib.Core.Bool.{Bool, true, _&&_, _||_}
 use lib.Bits.{bitXor}
-use Rattle.sets.specs.Set.{member, oneSet, lowest}
+use lib.Count.{trailingZeros}
+use Rattle.sets.specs.Set.{member, oneSet}
 
 -- r holds the numbers of x that P keeps
 abbrev pub KeptBy : (P : ℕ → Bool) → (x r : ℕ) → Type 0
@@ -14,7 +15,11 @@ pub record Sifted (P : ℕ → Bool) (x r : ℕ) : Type 0 where
   pub within : (d : ℕ) → member r d ≡ true → member x d ≡ true
   pub no-fewer : (d : ℕ) → member x d ≡ true → P d ≡ true → member r d ≡ true
 
--- t is the lowest number of x
+-- the lowest number of a set of numbers below 64 that has one
+abbrev pub lowest : ℕ → ℕ
+lowest x = trailingZeros 64 x
+
+-- t is the lowest number of x, and one of it
 pub record First (x t : ℕ) : Type 0 where
   pub lowest-is : t ≡ lowest x
   pub below : t < 64

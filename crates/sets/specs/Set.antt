@@ -3,7 +3,6 @@ use Prim.Native.Nat.{ℕ, _-_, _/_, _%_, _^_}
 use mathlib.Core.Bool.{Bool}
 use lib.Dec.{eqb}
 use lib.Bits.{bitAnd, bitOr, bitXor}
-use lib.Count.{trailingZeros}
 
 unfoldable pub member : ℕ → ℕ → Bool
 member x d = eqb (x / 2 ^ d % 2) 1
@@ -22,7 +21,3 @@ setMinus x m = bitXor x (bitAnd x m)
 -- `x` with `d`
 abbrev pub setWith : ℕ → ℕ → ℕ
 setWith x d = bitOr x (oneSet d)
-
--- the lowest number of a set of numbers below 64 that has one
-abbrev pub lowest : ℕ → ℕ
-lowest x = trailingZeros 64 x

@@ -26,19 +26,38 @@ widen-requires : tie.Need-widen-requires Inv-loop μ-loop
 widen-requires c κs = search needs
 
 add-row : tie.Need-add-row Inv-loop μ-loop
-add-row c = let h = has-text _ _ _ (c .before .before .before .before .before .pre .0 _ (sort-among (c .before .before .before .loop .inv) (c .before .first .ensures) (c .widen .ensures .0))) in omega arith
+add-row c =
+    let s = c .before .before .before .loop .inv in
+    let f = c .before .first .ensures in
+    let w = c .widen .ensures .0 in
+    let h = has-text _ _ _ (c .before .before .before .before .before .pre .0 _ (sort-among s f w)) in
+    omega arith
 
 rest-requires : tie.Need-rest-requires Inv-loop μ-loop
 rest-requires c κs = omega arith
 
 mul-slot-passes : tie.Need-mul-slot-passes Inv-loop μ-loop
-mul-slot-passes c = let h = has-text _ _ _ (c .before .before .before .before .before .before .pre .0 _ (sort-among (c .before .before .before .before .loop .inv) (c .before .before .first .ensures) (c .before .widen .ensures .0))) in omega arith
+mul-slot-passes c =
+    let s = c .before .before .before .before .loop .inv in
+    let f = c .before .before .first .ensures in
+    let w = c .before .widen .ensures .0 in
+    let h = has-text _ _ _ (c .before .before .before .before .before .before .pre .0 _ (sort-among s f w)) in
+    omega arith
 
 add-slot-passes : tie.Need-add-slot-passes Inv-loop μ-loop
-add-slot-passes c = let h = has-text _ _ _ (c .before .before .before .before .before .before .pre .0 _ (sort-among (c .before .before .before .before .loop .inv) (c .before .before .first .ensures) (c .before .widen .ensures .0))) in omega arith
+add-slot-passes c =
+    let s = c .before .before .before .before .loop .inv in
+    let f = c .before .before .first .ensures in
+    let w = c .before .widen .ensures .0 in
+    let h = has-text _ _ _ (c .before .before .before .before .before .before .pre .0 _ (sort-among s f w)) in
+    omega arith
 
 slot-passes-requires : tie.Need-slot-passes-requires Inv-loop μ-loop
-slot-passes-requires c κs = (has-text _ _ _ (c .before .before .before .before .before .before .pre .0 _ (sort-among (c .before .before .before .before .loop .inv) (c .before .before .first .ensures) (c .before .widen .ensures .0))) .0, c .before .before .before .before .before .before .pre .1)
+slot-passes-requires c κs =
+    let s = c .before .before .before .before .loop .inv in
+    let f = c .before .before .first .ensures in
+    let w = c .before .widen .ensures .0 in
+    (has-text _ _ _ (c .before .before .before .before .before .before .pre .0 _ (sort-among s f w)) .0, c .before .before .before .before .before .before .pre .1)
 
 kept-requires : tie.Need-kept-requires Inv-loop μ-loop
 kept-requires c κs = search needs

@@ -2,7 +2,6 @@
 use native.Mathlib.Omega.{arith}
 use Rattle.scan.proofs.Ranges.{within-wraps}
 use borrow.Author.Needs.{needs}
-use borrow.Author.Needs.{needs}
 use Rattle.scan.proofs.number.is_within.Statement.{statement}
 use Rattle.scan.proofs.number.is_within.Tie as tie
 

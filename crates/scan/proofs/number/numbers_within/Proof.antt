@@ -27,13 +27,22 @@ widen-requires : tie.Need-widen-requires Inv-loop μ-loop
 widen-requires c κs = search needs
 
 add-row : tie.Need-add-row Inv-loop μ-loop
-add-row c = let h = has-number _ _ _ (c .before .before .before .before .before .pre .0 _ (sort-among (c .before .before .before .loop .inv) (c .before .first .ensures) (c .widen .ensures .0))) in omega arith
+add-row c =
+    let s = c .before .before .before .loop .inv in
+    let f = c .before .first .ensures in
+    let w = c .widen .ensures .0 in
+    let h = has-number _ _ _ (c .before .before .before .before .before .pre .0 _ (sort-among s f w)) in
+    omega arith
 
 rest-requires : tie.Need-rest-requires Inv-loop μ-loop
 rest-requires c κs = omega arith
 
 number-at-requires : tie.Need-number-at-requires Inv-loop μ-loop
-number-at-requires c κs = c .before .before .before .before .before .before .pre .0 _ (sort-among (c .before .before .before .before .loop .inv) (c .before .before .first .ensures) (c .before .widen .ensures .0))
+number-at-requires c κs =
+    let s = c .before .before .before .before .loop .inv in
+    let f = c .before .before .first .ensures in
+    let w = c .before .widen .ensures .0 in
+    c .before .before .before .before .before .before .pre .0 _ (sort-among s f w)
 
 is-within-requires : tie.Need-is-within-requires Inv-loop μ-loop
 is-within-requires c κs = c .before .before .before .before .before .before .before .pre .1
@@ -46,9 +55,12 @@ loop-less c = c .before .before .before .rest .ensures .less
 
 loop-again : tie.Need-loop-again Inv-loop μ-loop
 loop-again c =
+    let s = c .before .before .before .before .before .before .before .loop .inv in
+    let f = c .before .before .before .before .before .first .ensures in
+    let w = c .before .before .before .before .widen .ensures .0 in
     let a = c .before .before .before .before .before .before .before .before .before .args in
-    let here = c .before .before .before .before .before .before .before .before .before .pre .0 _ (sort-among (c .before .before .before .before .before .before .before .loop .inv) (c .before .before .before .before .before .first .ensures) (c .before .before .before .before .widen .ensures .0)) in
-    sort-next (c .before .before .before .before .before .before .before .loop .inv) (c .before .before .before .before .before .first .ensures) (c .before .before .before .before .widen .ensures .0) (c .before .before .before .rest .ensures) (c .before .is-within .ensures ∙ ap (within (a .low) (a .width)) (number-value here _ (c .before .before .number-at .ensures))) (c .kept .ensures)
+    let row = c .before .before .before .before .before .before .before .before .before .pre .0 _ (sort-among s f w) in
+    sort-next s f w (c .before .before .before .rest .ensures) (c .before .is-within .ensures ∙ ap (within (a .low) (a .width)) (number-value row _ (c .before .before .number-at .ensures))) (c .kept .ensures)
 
 returns : tie.Need-returns Inv-loop μ-loop
 returns c = sort-end (c .before .loop .inv) (omega arith)

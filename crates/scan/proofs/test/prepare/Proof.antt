@@ -5,7 +5,6 @@ use lib.ListN.{getD}
 use Rattle.predicate.specs.Meaning.{fold}
 use Rattle.scan.proofs.Ranges.{range-fits, blank-fits, text-fits}
 use borrow.Author.Needs.{needs}
-use borrow.Author.Needs.{needs}
 use Rattle.scan.proofs.test.prepare.Statement.{statement}
 use Rattle.scan.proofs.test.prepare.Tie as tie
 
@@ -13,26 +12,45 @@ plain-kind-requires : tie.Need-plain-kind-requires
 plain-kind-requires c κs = search needs
 
 four-bytes-requires : tie.Need-four-bytes-requires
-four-bytes-requires c κs = let f = range-fits _ _ (c .before .before .before .before .pre .1) (sym (c .before .plain-kind .ensures) ∙ c .if1 .taken) in omega arith
+four-bytes-requires c κs =
+    let k = c .before .plain-kind .ensures in
+    let f = range-fits _ _ (c .before .before .before .before .pre .1) (sym k ∙ c .if1 .taken) in
+    omega arith
 
 four-bytes-requires-2 : tie.Need-four-bytes-requires-2
-four-bytes-requires-2 c κs = let f = range-fits _ _ (c .before .before .before .before .before .pre .1) (sym (c .before .before .plain-kind .ensures) ∙ c .before .if1 .taken) in omega arith
+four-bytes-requires-2 c κs =
+    let k = c .before .before .plain-kind .ensures in
+    let f = range-fits _ _ (c .before .before .before .before .before .pre .1) (sym k ∙ c .before .if1 .taken) in
+    omega arith
 
-sub-t9 : tie.Need-sub-t9
-sub-t9 c = let f = range-fits _ _ (c .before .before .before .before .before .before .pre .1) (sym (c .before .before .before .plain-kind .ensures) ∙ c .before .before .if1 .taken) in omega arith
+sub-width : tie.Need-sub-width
+sub-width c =
+    let k = c .before .before .before .plain-kind .ensures in
+    let f = range-fits _ _ (c .before .before .before .before .before .before .pre .1) (sym k ∙ c .before .before .if1 .taken) in
+    omega arith
 
 returns : tie.Need-returns
 returns c =
     let k = c .before .before .before .plain-kind .ensures in
     let z = c .before .before .if1 .taken in
-    record { kind-is = refl; range = λ e. (c .before .four-bytes .ensures, omega arith); blank = λ e. absurd (omega arith); bytes = λ l h. absurd (omega arith) }
+    record {
+      kind-is = refl;
+      range = λ e. (c .before .four-bytes .ensures, omega arith);
+      blank = λ e. absurd (omega arith);
+      bytes = λ l h. absurd (omega arith);
+    }
 
 returns-2 : tie.Need-returns-2
 returns-2 c =
     let k = c .before .before .plain-kind .ensures in
     let ne = c .before .if1 .left in
     let none = c .if2 .taken in
-    record { kind-is = refl; range = λ e. absurd (omega arith); blank = λ e. (refl, refl); bytes = λ l h. (let f = text-fits _ _ (c .before .before .before .before .before .pre .1) l h in absurd (omega arith)) }
+    record {
+      kind-is = refl;
+      range = λ e. absurd (omega arith);
+      blank = λ e. (refl, refl);
+      bytes = λ l h. (let f = text-fits _ _ (c .before .before .before .before .before .pre .1) l h in absurd (omega arith));
+    }
 
 gap-of-requires : tie.Need-gap-of-requires
 gap-of-requires c κs = search needs
@@ -51,14 +69,18 @@ fold-byte-requires-2 c κs = search needs
 
 returns-3 : tie.Need-returns-3
 returns-3 c =
+    let p = c .before .before .before .before .before .before .before .before .before .before in
     let k = c .before .before .before .before .before .before .before .plain-kind .ensures in
     let ne = c .before .before .before .before .before .before .if1 .left in
     let some = c .before .before .before .before .before .if2 .left in
     record {
       kind-is = refl;
       range = λ e. absurd (omega arith);
-      blank = λ e. (let f = blank-fits _ _ (c .before .before .before .before .before .before .before .before .before .before .pre .1) e in absurd (omega arith));
-      bytes = λ l h. record { first-is = c .before .before .fold-byte .ensures; second-is = c .fold-byte2 .ensures ∙ ap (λ j. fold (getD (c .before .before .before .before .before .before .before .before .before .before .args .operand .now) j 0)) (c .before .before .before .before .gap-of .ensures .0) };
+      blank = λ e. (let f = blank-fits _ _ (p .pre .1) e in absurd (omega arith));
+      bytes = λ l h. record {
+        first-is = c .before .before .fold-byte .ensures;
+        second-is = c .fold-byte2 .ensures ∙ ap (λ j. fold (getD (p .args .operand .now) j 0)) (c .before .before .before .before .gap-of .ensures .0);
+      };
     }
 
 pub prepare-spec : {M : Type 1} → statement M
@@ -68,7 +90,7 @@ prepare-spec =
     plain-kind-requires
     four-bytes-requires
     four-bytes-requires-2
-    sub-t9
+    sub-width
     returns
     returns-2
     gap-of-requires
