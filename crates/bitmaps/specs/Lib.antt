@@ -9,4 +9,3 @@ pub mod WordLaws
 pub mod BitmapLaws
 pub mod Table
 pub mod TableLaws
-pub mod BlockLaws

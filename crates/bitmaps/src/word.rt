@@ -4,9 +4,9 @@ ghost use Prim.Native.Nat.{_+_, _≤_};
 ghost use lib.ListN.{length};
 ghost use Rattle.bitmaps.specs.Word.{wordSize, WordPut, rowsSet};
 
-pub struct Block;
+pub struct Word;
 
-impl Block {
+impl Word {
     pub const ROWS: usize = 64;
 }
 
@@ -29,7 +29,7 @@ pub fn put_word(table: &mut [u8], at: usize, x: u64)
 pub fn rows_of(left: usize) -> u64
     ensures { λ r. ⌜ r ≡ rowsSet left ⌝ }
 {
-    if Block::ROWS <= left {
+    if Word::ROWS <= left {
         return sets::below(64);
     }
     sets::below(fields::number::narrow(left))

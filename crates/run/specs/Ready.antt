@@ -5,7 +5,6 @@ use mathlib.Core.Bool.{true}
 use mathlib.Core.List.{List}
 use lib.ListN.{length}
 use Rattle.catalogue.specs.Format.{rowLimit}
-use Rattle.predicate.specs.Outcome.{Folds}
 use Rattle.strategy.specs.Tree.{size, Numbered, NonEmpty}
 use Rattle.strategy.specs.Order.{isOrder}
 use Rattle.strategy.specs.Climb.{enclosing}
@@ -17,19 +16,17 @@ use Rattle.run.specs.Run.{Task, predicateAt, turnsOf}
 
 -- the slices that a run reads
 pub record Given : Type 0 where
-  pub fold : List ℕ
   pub catalogue : List ℕ
   pub question : List ℕ
   pub turns : List ℕ
   pub plan : List ℕ
   pub ancestors : List ℕ
 
-abbrev pub given : (fold catalogue question turns plan ancestors : List ℕ) → Given
-given F b q turns P A = record { fold = F; catalogue = b; question = q; turns = turns; plan = P; ancestors = A }
+abbrev pub given : (catalogue question turns plan ancestors : List ℕ) → Given
+given b q turns P A = record { catalogue = b; question = q; turns = turns; plan = P; ancestors = A }
 
 -- they show the task, whose query has n predicates
 pub record Ready (G : Given) (n : ℕ) (T : Task) : Type 0 where
-  pub folds : Folds (G .fold)
   pub short : T .catalogue .rows ≤ rowLimit
   pub few : n ≤ predicateLimit
   pub turns : G .turns ≡ turnsOf T

@@ -7,14 +7,15 @@ use mathlib.Core.List.{List}
 use lib.ListN.{length, getD}
 use Rattle.fields.specs.Numbers.{Bytes}
 use Rattle.strategy.specs.Row.{Row, begin, work}
-use Rattle.sets.specs.Set.{member}
+use Rattle.sets.specs.Set.{member, belowSet}
 use Rattle.bitmaps.specs.Bit.{bit}
 use Rattle.bitmaps.specs.Bitmap.{bytesFor, bitmap, bitmaps}
-use Rattle.bitmaps.specs.Table.{lineSize, lineBits, linesOf}
+use Rattle.bitmaps.specs.Table.{lineSize, lineBits, linesOf, Holds}
 use Rattle.bitmaps.specs.Word.{blockRows}
 use Rattle.query.specs.Format.{predicateLimit}
 use Rattle.plan.specs.Access.{RowsIn}
 use Rattle.run.specs.declared.block.Block.{Block}
+use Rattle.run.specs.declared.rows.Extent.{Extent}
 use Rattle.run.specs.Run.{Task, turnsOf, told, isSelected, isProbed}
 use Rattle.run.specs.Ready.{Given, Ready}
 
@@ -58,3 +59,25 @@ BlockReady G B = (n : ℕ) × (T : Task) × Ready G n T × BlockIn B (T .catalog
 
 abbrev pub BlockWorked : Given → Block → (selected : ℕ) → (before after : List ℕ) → Type 0
 BlockWorked G B selected P P′ = (n : ℕ) (T : Task) → Ready G n T → BlockIn B (T .catalogue .rows) → BlockDone T B selected P P′
+
+-- a table of so many lines with no bit set
+abbrev pub Empty : (lines : ℕ) → (table : List ℕ) → Type 0
+Empty lines T = Holds (λ c e. false) lines T
+
+-- a run's own tables hold at the front of their lines the bitmaps of document 01
+pub record Worked (T : Task) (n : ℕ) (selected probes : List ℕ) : Type 0 where
+  pub selected-size : length selected ≡ lineSize
+  pub selected-bitmap : linesOf (bytesFor (T .catalogue .rows)) selected 1 ≡ bitmap (isSelected T) (T .catalogue .rows)
+  pub probes-size : length probes ≡ predicateLimit * lineSize
+  pub probes-bitmaps : linesOf (bytesFor (T .catalogue .rows)) probes n ≡ bitmaps (isProbed T) n (T .catalogue .rows)
+
+-- all rows of the task, with all its predicates live at first
+pub record ExtentOf (E : Extent) (n : ℕ) (T : Task) : Type 0 where
+  pub rows : E .rows ≡ T .catalogue .rows
+  pub start : E .start ≡ belowSet n
+
+abbrev pub RowsReady : Given → Extent → Type 0
+RowsReady G E = (n : ℕ) × (T : Task) × Ready G n T × ExtentOf E n T
+
+abbrev pub RowsWorked : Given → Extent → (selected probes : List ℕ) → Type 0
+RowsWorked G E S P = (n : ℕ) (T : Task) → Ready G n T → ExtentOf E n T → Worked T n S P

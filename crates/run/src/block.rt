@@ -3,6 +3,7 @@ use bitmaps::copy::Line;
 use query::table::Predicate;
 ghost use mathlib.Core.Path.{_≡_};
 ghost use lib.ListN.{length};
+ghost use Rattle.predicate.specs.Outcome.{Folds};
 ghost use Rattle.query.specs.Format.{predicateLimit};
 ghost use Rattle.run.specs.Ready.{given};
 ghost use Rattle.run.specs.Worked.{Filled, Unmarked, BlockReady, BlockWorked};
@@ -38,9 +39,8 @@ pub fn work_block(
     block: Block,
     probes: &mut [u8],
 ) -> u64
-    requires { ⌜ BlockReady (given (now fold) (now catalogue) (now question) (now turns) (now plan) (now ancestors)) block ⌝ }
-    requires { ⌜ Unmarked block (now probes) ⌝ }
-    ensures { λ r. ⌜ BlockWorked (given (now (fold .entry)) (now (catalogue .entry)) (now (question .entry)) (now (turns .entry)) (now (plan .entry)) (now (ancestors .entry))) block r (now (probes .entry)) (now (probes .exit)) ⌝ }
+    requires { ⌜ Folds (now fold) × BlockReady (given (now catalogue) (now question) (now turns) (now plan) (now ancestors)) block × Unmarked block (now probes) ⌝ }
+    ensures { λ r. ⌜ BlockWorked (given (now (catalogue .entry)) (now (question .entry)) (now (turns .entry)) (now (plan .entry)) (now (ancestors .entry))) block r (now (probes .entry)) (now (probes .exit)) ⌝ }
 {
     let base = block.base;
     let rows = block.rows;

@@ -13,7 +13,7 @@ use Rattle.run.proofs.block.work_block.Tie as tie
 
 abbrev Inv-loop : tie.InvT-loop
 Inv-loop fold catalogue question turns plan ancestors probes₀ base rows start live₀ selected₀ i₀ probes live selected i =
-    Turning (given fold catalogue question turns plan ancestors) (record { base = base; rows = rows; start = start }) i live selected probes₀ probes
+    Turning (given catalogue question turns plan ancestors) (record { base = base; rows = rows; start = start }) i live selected probes₀ probes
 
 abbrev μ-loop : tie.MeasureT-loop
 μ-loop fold catalogue question turns plan ancestors probes₀ base rows start live₀ selected₀ i₀ probes live selected i = length turns - i
@@ -28,7 +28,7 @@ loop-holds : tie.Need-loop-holds Inv-loop μ-loop
 loop-holds c =
     let f = c .before .fill in
     let e = c .before .before .before .before .before .before .before .before .before .before in
-    turning-start (replicate predicateLimit 0) (f .last .0) (e .args .probes .now) (zeros predicateLimit) (search needs) (f .ensures) (e .pre .1)
+    turning-start (replicate predicateLimit 0) (f .last .0) (e .args .probes .now) (zeros predicateLimit) (search needs) (f .ensures) (e .pre .2)
 
 shared-slice-read-widen : tie.Need-shared-slice-read-widen Inv-loop μ-loop
 shared-slice-read-widen c = search needs
@@ -43,7 +43,7 @@ mul-due : tie.Need-mul-due Inv-loop μ-loop
 mul-due c = search needs
 
 array-read-due : tie.Need-array-read-due Inv-loop μ-loop
-array-read-due c = turn-few (c .before .before .before .loop .inv) (c .widen .result) (c .widen .ensures .0) (omega arith) (c .before .before .before .before .before .before .before .before .before .before .before .before .before .before .pre .0)
+array-read-due c = turn-few (c .before .before .before .loop .inv) (c .widen .result) (c .widen .ensures .0) (omega arith) (c .before .before .before .before .before .before .before .before .before .before .before .before .before .before .pre .1)
 
 loop-less : tie.Need-loop-less Inv-loop μ-loop
 loop-less c = search needs
@@ -53,29 +53,30 @@ loop-again c = turning-idle (c .before .before .before .before .loop .inv) (c .b
 
 met-of-requires : tie.Need-met-of-requires Inv-loop μ-loop
 met-of-requires c κs =
-    let e = c .before .before .before .before .before .before .before .before .before .before .before .before .before .before .before .pre .0 in
+    let p = c .before .before .before .before .before .before .before .before .before .before .before .before .before .before .before .pre in
+    let e = p .1 in
     let l = c .before .before .before .before .loop .inv in
     let w = c .before .widen in
-    (e .2 .folds, turn-few l (w .result) (w .ensures .0) (omega arith) e, e .2 .plan-size, turn-outcomes l (w .result) (w .ensures .0) (omega arith) e)
+    (p .0, turn-few l (w .result) (w .ensures .0) (omega arith) e, e .2 .plan-size, turn-outcomes l (w .result) (w .ensures .0) (omega arith) e)
 
 mul-put-word : tie.Need-mul-put-word Inv-loop μ-loop
 mul-put-word c = search needs
 
 add-put-word : tie.Need-add-put-word Inv-loop μ-loop
 add-put-word c =
-    let e = c .before .before .before .before .before .before .before .before .before .before .before .before .before .before .before .before .before .pre .0 in
+    let e = c .before .before .before .before .before .before .before .before .before .before .before .before .before .before .before .before .before .pre .1 in
     let i = e .3 .inside in
     let w = c .before .before .before .widen .ensures .1 in
     search needs
 
 put-word-requires : tie.Need-put-word-requires Inv-loop μ-loop
-put-word-requires c κs = let w = c .before .before .before .widen in turn-room (c .before .before .before .before .before .before .loop .inv) (w .result) (w .ensures .0) (omega arith) (c .before .before .before .before .before .before .before .before .before .before .before .before .before .before .before .before .before .pre .0) (c .before .before .before .before .before .before .before .before .before .before .before .before .before .before .before .before .before .pre .1)
+put-word-requires c κs = let w = c .before .before .before .widen in turn-room (c .before .before .before .before .before .before .loop .inv) (w .result) (w .ensures .0) (omega arith) (c .before .before .before .before .before .before .before .before .before .before .before .before .before .before .before .before .before .pre .1) (c .before .before .before .before .before .before .before .before .before .before .before .before .before .before .before .before .before .pre .2)
 
 mul-live : tie.Need-mul-live Inv-loop μ-loop
 mul-live c = search needs
 
 array-write-live : tie.Need-array-write-live Inv-loop μ-loop
-array-write-live c = let w = c .before .before .before .before .before .before .widen in turn-few (c .before .before .before .before .before .before .before .before .before .loop .inv) (w .result) (w .ensures .0) (omega arith) (c .before .before .before .before .before .before .before .before .before .before .before .before .before .before .before .before .before .before .before .before .pre .0)
+array-write-live c = let w = c .before .before .before .before .before .before .widen in turn-few (c .before .before .before .before .before .before .before .before .before .loop .inv) (w .result) (w .ensures .0) (omega arith) (c .before .before .before .before .before .before .before .before .before .before .before .before .before .before .before .before .before .before .before .before .pre .1)
 
 slice-aggregate-climb-rows : tie.Need-slice-aggregate-climb-rows Inv-loop μ-loop
 slice-aggregate-climb-rows c = search needs
@@ -84,7 +85,7 @@ climb-rows-requires : tie.Need-climb-rows-requires Inv-loop μ-loop
 climb-rows-requires c κs =
     let w = c .before .before .before .before .before .before .before .widen in
     let l = c .before .before .before .before .before .before .before .before .before .before .loop in
-    turn-ancestors (l .inv) (w .result) (w .ensures .0) (omega arith) (c .before .before .before .before .before .before .before .before .before .before .before .before .before .before .before .before .before .before .before .before .before .pre .0) _ (length-set (l .live) (w .result) 0 ∙ l .inv .words)
+    turn-ancestors (l .inv) (w .result) (w .ensures .0) (omega arith) (c .before .before .before .before .before .before .before .before .before .before .before .before .before .before .before .before .before .before .before .before .before .pre .1) _ (length-set (l .live) (w .result) 0 ∙ l .inv .words)
 
 loop-less-2 : tie.Need-loop-less-2 Inv-loop μ-loop
 loop-less-2 c = search needs
@@ -94,7 +95,7 @@ loop-again-2 c =
     let l = c .before .before .before .before .before .before .before .before .before .before .before .before .loop in
     let w = c .before .before .before .before .before .before .before .before .before .widen in
     let p = c .before .climb-rows in
-    let few = turn-few (l .inv) (w .result) (w .ensures .0) (omega arith) (c .before .before .before .before .before .before .before .before .before .before .before .before .before .before .before .before .before .before .before .before .before .before .before .pre .0) in
+    let few = turn-few (l .inv) (w .result) (w .ensures .0) (omega arith) (c .before .before .before .before .before .before .before .before .before .before .before .before .before .before .before .before .before .before .before .before .before .before .before .pre .1) in
     let s = l .inv .words in
     turning-next (l .inv) (w .result) (w .ensures .0) (omega arith) (c .before .before .before .before .before .before .before .met-of .result) (p .result) (p .last .1 .1 .0) (c .before .before .before .before .before .put-word .last .0) (omega arith)
     (c .before .before .before .before .before .before .before .met-of .ensures) (c .before .before .before .before .before .put-word .ensures) (p .ensures)
