@@ -1,10 +1,12 @@
 -- Every accepted query is well-formed; the depth by induction over readings.
 use Prim.Native.Nat.{ℕ, zero, suc, _+_, _≤_, _<_}
 use native.Mathlib.Omega.{arith}
-use mathlib.Core.Path.{_≡_}
+use mathlib.Core.Path.{_≡_, sym, subst}
 use mathlib.Core.List.{List, [], _∷_}
-use lib.ListN.{length, getD}
+use lib.ListN.{length, getD, drop}
 use Rattle.fields.specs.Decoded.{accepted}
+use Rattle.fields.specs.Numbers.{Bytes}
+use Rattle.fields.proofs.ByteLaws.{bytes-take, bytes-drop}
 use Rattle.catalogue.specs.Catalogue.{Catalogue}
 use Rattle.strategy.specs.Tree.{Tree, Forest}
 use Rattle.predicate.specs.Meaning.{Predicate}
@@ -41,7 +43,7 @@ shallow tags q = record {
   on-more = λ at end around earlier t ps next f rest last h r l. let i = h l in let j = r l in omega arith;
 }
 
-module _ (c : Catalogue) (q : List ℕ) (Q : Query) (is : decodeQuery c q ≡ accepted Q) where
+module _ (c : Catalogue) (q : List ℕ) (bytes : Bytes q) (Q : Query) (is : decodeQuery c q ≡ accepted Q) where
   tagged : decodeTagged (tagsOf c) q ≡ accepted Q
   unfolding decodeQuery
   tagged = is
@@ -49,6 +51,9 @@ module _ (c : Catalogue) (q : List ℕ) (Q : Query) (is : decodeQuery c q ≡ ac
   -- each condition passes the check, and its operand stands at its place in the query
   each-fits : (i : ℕ) (other : Predicate) → i < length (Q .predicates) → Fits (tagsOf c) q (getD (Q .predicates) i other)
   each-fits = each-at (Fits (tagsOf c) q) (Q .predicates) (decoded-sound (tagsOf c) q Q tagged .each)
+
+  operand-bytes : (p : Predicate) → Fits (tagsOf c) q p → Bytes (p .operand)
+  operand-bytes p f = subst Bytes (sym (f .bytes)) (bytes-take (drop (p .place) q) (length (p .operand)) (bytes-drop q (p .place) bytes))
 
   pub query-well-formed : WellFormed c Q
   query-well-formed =
@@ -63,6 +68,7 @@ module _ (c : Catalogue) (q : List ℕ) (Q : Query) (is : decodeQuery c q ≡ ac
         full = s .full;
         shallow = omega arith;
         valid = λ i other l. passes-valid c (getD (Q .predicates) i other) (each-fits i other l .valid);
+        bytes = λ i other l. operand-bytes (getD (Q .predicates) i other) (each-fits i other l);
         distinct = accepted-distinct (tagsOf c) q Q tagged;
         placed = accepted-placed (tagsOf c) q Q tagged;
       }

@@ -8,7 +8,9 @@ use mathlib.Core.List.{List, []}
 use lib.ListN.{length, getD, length-append}
 use lib.Seq.{take-length}
 use Rattle.fields.specs.Decoded.{accepted}
+use Rattle.fields.specs.Numbers.{Bytes}
 use Rattle.fields.specs.Header.{headerSize}
+use Rattle.fields.proofs.ByteLaws.{bytes-drop}
 use Rattle.catalogue.specs.Catalogue.{Catalogue}
 use Rattle.strategy.specs.Tree.{Tree, leaf, group, Forest, none, more, size, sizes, Numbered, Numbereds, HasMember, NonEmpty, NonEmpties, relabel, relabels}
 use Rattle.predicate.specs.Meaning.{Predicate}
@@ -88,22 +90,26 @@ mutual
   counts-from (more t f) at =
       length-append (predicatesFrom at t) (predicatesFroms (at + length (encode t)) f) ∙ ap₂ _+_ (count-from t at) (counts-from f (at + length (encode t)))
 
+-- what a payload's property gives its predicate holds of each predicate
+module _ (R : List ℕ → Type 0) (P : Predicate → Type 0) (gives : (place : ℕ) (payload : List ℕ) → R payload → P (predicateOf place payload)) where
+  mutual
+    unfolding predicatesFrom
+
+    each-from : (t : Tree (List ℕ)) (at : ℕ) → EachLeaf R t → Each P (predicatesFrom at t)
+    each-from (leaf x) at h = (gives (at + headerSize + payloadHead) x h, tt)
+    each-from (group k f) at h = eaches-from f (at + headerSize) h
+
+    eaches-from : (f : Forest (List ℕ)) (at : ℕ) → EachLeaves R f → Each P (predicatesFroms at f)
+    eaches-from none at h = tt
+    eaches-from (more t f) at h =
+        each-append P (predicatesFrom at t) (predicatesFroms (at + length (encode t)) f) (each-from t at (h .0)) (eaches-from f (at + length (encode t)) (h .1))
+
 module _ (tags : List ℕ) where
   abbrev Valid : List ℕ → Type 0
   Valid payload = validPayload tags payload ≡ true
 
-  mutual
-    unfolding predicatesFrom
-
-    valid-from : (t : Tree (List ℕ)) (at : ℕ) → EachLeaf Valid t → Each (λ p. Valid (payloadOf p)) (predicatesFrom at t)
-    valid-from (leaf x) at h = (rw (payload-again tags (at + headerSize + payloadHead) x h) h, tt)
-    valid-from (group k f) at h = valids-from f (at + headerSize) h
-
-    valids-from : (f : Forest (List ℕ)) (at : ℕ) → EachLeaves Valid f → Each (λ p. Valid (payloadOf p)) (predicatesFroms at f)
-    valids-from none at h = tt
-    valids-from (more t f) at h =
-        each-append (λ p. Valid (payloadOf p)) (predicatesFrom at t) (predicatesFroms (at + length (encode t)) f)
-        (valid-from t at (h .0)) (valids-from f (at + length (encode t)) (h .1))
+  valid-again : (place : ℕ) (payload : List ℕ) → Valid payload → Valid (payloadOf (predicateOf place payload))
+  valid-again place payload h = rw (payload-again tags place payload h) h
 
   -- the payloads at the numbers are those of the tree, and the places are right
   module _ (all : List Predicate) where
@@ -129,7 +135,7 @@ module _ (tags : List ℕ) where
           (ap₂ more (a .0) (b .0), (a .1, rw (a .0) (b .1)))
 
 module _ (c : Catalogue) (t : Tree (List ℕ)) (full : NonEmpty t) (shallow : depth t ≤ depthLimit) (few : size t ≤ predicateLimit)
-    (valid : EachLeaf (λ payload. validPayload (tagsOf c) payload ≡ true) t) (distinct : Distinct (predicatesFrom 0 t)) where
+    (valid : EachLeaf (λ payload. validPayload (tagsOf c) payload ≡ true) t) (bytes : EachLeaf Bytes t) (distinct : Distinct (predicatesFrom 0 t)) where
   pub query-payloads : payloads (queryOf t) ≡ t
   query-payloads = tree-from (tagsOf c) (predicatesFrom 0 t) t 0 0 valid (take-length (predicatesFrom 0 t)) .0
 
@@ -146,7 +152,10 @@ module _ (c : Catalogue) (t : Tree (List ℕ)) (full : NonEmpty t) (shallow : de
         full = full-from t 0 full;
         shallow = omega arith;
         valid = λ i other l. passes-valid c (getD (predicatesFrom 0 t) i other)
-            (each-at (λ p. validPayload (tagsOf c) (payloadOf p) ≡ true) (predicatesFrom 0 t) (valid-from (tagsOf c) t 0 valid) i other l);
+            (each-at (λ p. validPayload (tagsOf c) (payloadOf p) ≡ true) (predicatesFrom 0 t)
+            (each-from (Valid (tagsOf c)) (λ p. validPayload (tagsOf c) (payloadOf p) ≡ true) (valid-again (tagsOf c)) t 0 valid) i other l);
+        bytes = each-at (λ p. Bytes (p .operand)) (predicatesFrom 0 t)
+            (each-from Bytes (λ p. Bytes (p .operand)) (λ place payload. bytes-drop payload payloadHead) t 0 bytes);
         distinct = distinct;
         placed = tree-from (tagsOf c) (predicatesFrom 0 t) t 0 0 valid (take-length (predicatesFrom 0 t)) .1;
       }
