@@ -37,7 +37,7 @@ module _ (t : List ℕ) (k : ℕ) (h : k / 8 < length t) where
       go (inr z) = rw (eqb-ne (j % 8) (k % 8) z, eqb-ne j k (λ q. z (ap (λ (x : ℕ). x % 8) q)))
 
   bits : (j : ℕ) → bit marked j ≡ (bit t j || eqb j k)
-  unfolding bit
+  unfolding bit member
   bits j = go (same? (j / 8) (k / 8))
     where
       go : (j / 8 ≡ k / 8) ⊎ (j / 8 ≡ k / 8 → ⊥) → member (getD marked (j / 8) 0) (j % 8) ≡ (member (getD t (j / 8) 0) (j % 8) || eqb j k)

@@ -27,7 +27,7 @@ zeros n i = go (which (ltb i n))
     go (inr y) = List·getD-eq-default (replicate n 0) 0 (omega (arith, length-replicate {A = ℕ} n 0, ltb-le i n y))
 
 pub holds-none : (lines : ℕ) → Holds (λ c e. false) lines (replicate (lines * lineSize) 0)
-unfolding bit
+unfolding bit member
 holds-none lines = record {
   size = length-replicate (lines * lineSize) 0;
   bytes = λ i. rw (zeros (lines * lineSize) i) (omega arith);
@@ -108,7 +108,7 @@ module _ (f : ℕ → Bool) (row : ℕ) (t : List ℕ) (h : Holds (within (λ c.
       (holds-mark 0 row k h (subst (λ (p : ℕ). Marked t p t′) z m))
 
 line-bit : (t : List ℕ) (c e : ℕ) → bit (drop (c * lineSize) t) e ≡ bit t (c * lineBits + e)
-unfolding bit
+unfolding bit member
 line-bit t c e =
     let q : (c * lineBits + e) / 8 ≡ c * lineSize + e / 8 = omega arith in
     let r : (c * lineBits + e) % 8 ≡ e % 8 = omega arith in
