@@ -14,17 +14,16 @@ use Rattle.catalogue.specs.Encode.{encodeCatalogue}
 use Rattle.catalogue.proofs.EncodedBytes.{catalogue-bytes}
 use Rattle.catalogue.proofs.Exactly as catalogue
 use Rattle.query.specs.Encode.{encode, payloads}
+use Rattle.query.specs.Decode.{payloadOf}
+use Rattle.query.specs.WellFormed.{ValidPredicate}
+use Rattle.query.proofs.Payloads.{payload-again}
+use Rattle.query.proofs.ValidLaws.{valid-passes, passes-valid}
 use Rattle.query.proofs.EncodedBytes.{query-bytes}
 use Rattle.query.proofs.Exactly as question
 use Rattle.predicate.specs.declared.answer.Answer.{Answer as Outcome}
-use Rattle.catalogue.specs.Encode.{encodeCatalogue}
-use Rattle.catalogue.proofs.EncodedBytes.{catalogue-bytes}
-use Rattle.catalogue.proofs.Exactly as catalogue
-use Rattle.query.specs.Encode.{encode, payloads}
-use Rattle.query.proofs.EncodedBytes.{query-bytes}
-use Rattle.query.proofs.Exactly as question
 use Rattle.predicate.specs.declared.answer.Answer.the-variants.{No, Yes}
-use Rattle.predicate.specs.Meaning.{outcome}
+use Rattle.predicate.specs.Meaning.{Predicate, outcome}
+use Rattle.predicate.specs.Payload.{tagsOf, validPayload, predicateOf}
 use Rattle.strategy.specs.Bools.{not-true, and-parts, ltb-yes, ltb-lt}
 use Rattle.strategy.specs.Assignment.{Assignment, Among}
 use Rattle.strategy.specs.Tree.{eval, size}
@@ -44,7 +43,7 @@ use Rattle.searchroom.specs.Refusals.{noSuchPlace}
 use Rattle.searchroom.specs.Input.{Input}
 use Rattle.searchroom.specs.Answers.{outcomeNumber}
 use Rattle.searchroom.specs.Run.{rowCount, predicateCount, selection, probes, foundCount, lookCount}
-use Rattle.searchroom.specs.Demands.{after, Reads, RunningOrder, lineBytes, Kept, FirstBroken, pattern, treeValue, listedLine, looksLine, Demand1CatalogueForm, Demand1QuestionForm, Demand1FormsWritten, Demand1WrittenOnce, Demand1Number, Demand1Refused, Demand1Accepted, Demand1Limits, Demand1Catalogue, Demand1Question, Demand1Outcome, Demand2Tree, Demand2Listed, Demand2Looks, Demand2Further, Demand2Counts, Demand2Tally, Demand3, Demand3Ours, Demand3Run}
+use Rattle.searchroom.specs.Demands.{after, Reads, RunningOrder, lineBytes, Kept, FirstBroken, pattern, treeValue, listedLine, looksLine, Demand1CatalogueForm, Demand1QuestionForm, Demand1Payload, Demand1FormsWritten, Demand1WrittenOnce, Demand1Number, Demand1Refused, Demand1Accepted, Demand1Limits, Demand1Catalogue, Demand1Question, Demand1Outcome, Demand2Tree, Demand2Listed, Demand2Looks, Demand2Further, Demand2Counts, Demand2Tally, Demand3, Demand3Ours, Demand3Run}
 use Rattle.searchroom.proofs.DemandLaws.{catalogue-refusal, query-refusal, is-catalogue, is-question, reads-input, broken-input, broken-range, unpacked}
 use Rattle.searchroom.proofs.DemandTables.{sum-le, line-of, line-count, front-old, order-plain, held, traced-due, probed-due, found-count, look-count, look-count-le, look-count-rows, selection-length, listed-line, probes-length, looks-line}
 use Rattle.searchroom.proofs.DemandRuns.{Cases, kept-run, broken-run, broken-number, run-cases, broken-gives, kept-gives}
@@ -56,6 +55,19 @@ demand-1-catalogue-form b bytes = (λ C. catalogue.accepted-exactly b C bytes, c
 
 pub demand-1-question-form : Demand1QuestionForm
 demand-1-question-form C q bytes = (λ Q. question.accepted-exactly C q Q bytes, question.refused-exactly C q bytes)
+
+pub demand-1-payload : Demand1Payload
+demand-1-payload C payload = (to, from)
+  where
+    to : validPayload (tagsOf C) payload ≡ true → (p : Predicate) × ValidPredicate C p × (payload ≡ payloadOf p)
+    to h =
+        let p : Predicate = predicateOf 0 payload in
+        let e : payloadOf p ≡ payload = payload-again (tagsOf C) 0 payload h in
+        let v : validPayload (tagsOf C) (payloadOf p) ≡ true = rw e h in
+        (p, passes-valid C p v, sym e)
+
+    from : (p : Predicate) × ValidPredicate C p × (payload ≡ payloadOf p) → validPayload (tagsOf C) payload ≡ true
+    from (p, v, e) = rw e (valid-passes C p v)
 
 pub demand-1-forms-written : Demand1FormsWritten
 demand-1-forms-written C formed = (

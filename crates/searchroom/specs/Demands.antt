@@ -15,12 +15,13 @@ use Rattle.catalogue.specs.Catalogue.{Catalogue}
 use Rattle.catalogue.specs.Decode.{decodeCatalogue}
 use Rattle.catalogue.specs.Encode.{encodeCatalogue}
 use Rattle.catalogue.specs.Formed.{Formed}
-use Rattle.predicate.specs.Meaning.{outcome}
+use Rattle.predicate.specs.Meaning.{Predicate, outcome}
+use Rattle.predicate.specs.Payload.{tagsOf, validPayload}
 use Rattle.query.specs.Query.{Query}
 use Rattle.query.specs.Depth.{depth}
-use Rattle.query.specs.Decode.{decodeQuery}
+use Rattle.query.specs.Decode.{payloadOf, decodeQuery}
 use Rattle.query.specs.Encode.{encode, payloads}
-use Rattle.query.specs.WellFormed.{WellFormed}
+use Rattle.query.specs.WellFormed.{ValidPredicate, WellFormed}
 use Rattle.strategy.specs.Tree.{Tree, leaf, Forest, none, more, all, any, eval}
 use Rattle.strategy.specs.Assignment.{Assignment, Among}
 use Rattle.strategy.specs.Order.{occurrences}
@@ -157,6 +158,12 @@ Demand1QuestionForm =
     (C : Catalogue) (q : List ℕ) → Bytes q
     → ((Q : Query) → (decodeQuery C q ≡ accepted Q) ↔ IsQuestion C q Q)
     × (((e : ℕ) × (decodeQuery C q ≡ refused e)) ↔ ((Q : Query) → IsQuestion C q Q → ⊥))
+
+-- "11, payload under two bytes, no such column, unknown kind, kind not fitting the column, or operand of wrong length or range": the check of a
+-- payload passes exactly the valid conditions
+abbrev pub Demand1Payload : Type 0
+Demand1Payload =
+    (C : Catalogue) (payload : List ℕ) → (validPayload (tagsOf C) payload ≡ true) ↔ ((p : Predicate) × ValidPredicate C p × (payload ≡ payloadOf p))
 
 -- so every catalogue as document 01 allows, and every question on it, has bytes that are accepted: no engine that declines one of them passes
 abbrev pub Demand1FormsWritten : Type 0
