@@ -13,6 +13,7 @@ use Rattle.fields.proofs.Laws.{number-of-bytes}
 use Rattle.catalogue.specs.Encode.{encodeCatalogue}
 use Rattle.catalogue.proofs.EncodedBytes.{catalogue-bytes}
 use Rattle.catalogue.proofs.Exactly as catalogue
+use Rattle.catalogue.proofs.Refusals.{catalogue-refusal}
 use Rattle.query.specs.Encode.{encode, payloads}
 use Rattle.query.specs.Decode.{payloadOf}
 use Rattle.query.specs.WellFormed.{ValidPredicate}
@@ -20,6 +21,7 @@ use Rattle.query.proofs.Payloads.{payload-again}
 use Rattle.query.proofs.ValidLaws.{valid-passes, passes-valid}
 use Rattle.query.proofs.EncodedBytes.{query-bytes}
 use Rattle.query.proofs.Exactly as question
+use Rattle.query.proofs.Refusals.{query-refusal}
 use Rattle.predicate.specs.declared.answer.Answer.{Answer as Outcome}
 use Rattle.predicate.specs.declared.answer.Answer.the-variants.{No, Yes}
 use Rattle.predicate.specs.Meaning.{Predicate, outcome}
@@ -44,7 +46,7 @@ use Rattle.searchroom.specs.Input.{Input}
 use Rattle.searchroom.specs.Answers.{outcomeNumber}
 use Rattle.searchroom.specs.Run.{rowCount, predicateCount, selection, probes, foundCount, lookCount}
 use Rattle.searchroom.specs.Demands.{after, Reads, RunningOrder, lineBytes, Kept, FirstBroken, pattern, treeValue, listedLine, looksLine, Demand1CatalogueForm, Demand1QuestionForm, Demand1Payload, Demand1FormsWritten, Demand1WrittenOnce, Demand1Number, Demand1Refused, Demand1Accepted, Demand1Limits, Demand1Catalogue, Demand1Question, Demand1Outcome, Demand2Tree, Demand2Listed, Demand2Looks, Demand2Further, Demand2Counts, Demand2Tally, Demand3, Demand3Ours, Demand3Run}
-use Rattle.searchroom.proofs.DemandLaws.{catalogue-refusal, query-refusal, is-catalogue, is-question, reads-input, broken-input, broken-range, unpacked}
+use Rattle.searchroom.proofs.DemandLaws.{is-catalogue, is-question, reads-input, broken-input, broken-range, unpacked}
 use Rattle.searchroom.proofs.DemandTables.{sum-le, line-of, line-count, front-old, order-plain, held, traced-due, probed-due, found-count, look-count, look-count-le, look-count-rows, selection-length, listed-line, probes-length, looks-line}
 use Rattle.searchroom.proofs.DemandRuns.{Cases, kept-run, broken-run, broken-number, run-cases, broken-gives, kept-gives}
 
