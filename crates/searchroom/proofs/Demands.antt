@@ -45,7 +45,7 @@ use Rattle.searchroom.specs.Refusals.{noSuchPlace}
 use Rattle.searchroom.specs.Input.{Input}
 use Rattle.searchroom.specs.Answers.{outcomeNumber}
 use Rattle.searchroom.specs.Run.{rowCount, predicateCount, selection, probes, foundCount, lookCount}
-use Rattle.searchroom.specs.Demands.{after, Reads, RunningOrder, lineBytes, Kept, FirstBroken, pattern, treeValue, listedLine, looksLine, Demand1CatalogueForm, Demand1QuestionForm, Demand1Payload, Demand1FormsWritten, Demand1WrittenOnce, Demand1Number, Demand1Refused, Demand1Accepted, Demand1Limits, Demand1Catalogue, Demand1Question, Demand1Outcome, Demand2Tree, Demand2Listed, Demand2Looks, Demand2Further, Demand2Counts, Demand2Tally, Demand3, Demand3Ours, Demand3Run}
+use Rattle.searchroom.specs.Demands.{after, Reads, RunningOrder, lineBytes, Kept, FirstBroken, pattern, treeValue, listedLine, looksLine, Demand1CatalogueForm, Demand1QuestionForm, Demand1Payload, Demand1FormsWritten, Demand1WrittenOnce, Demand1Number, Demand1Refused, Demand1Accepted, Demand1Limits, Demand1Catalogue, Demand1Question, Demand1Outcome, Demand2Tree, Demand2Listed, Demand2Looks, Demand2Further, Demand2Counts, Demand2Tally, Demand3, Demand3Ours, Demand3Count, Demand3Run}
 use Rattle.searchroom.proofs.DemandLaws.{is-catalogue, is-question, reads-input, broken-input, broken-range, unpacked}
 use Rattle.searchroom.proofs.DemandTables.{sum-le, line-of, line-count, front-old, order-plain, held, traced-due, probed-due, found-count, look-count, look-count-le, look-count-rows, selection-length, listed-line, probes-length, looks-line}
 use Rattle.searchroom.proofs.DemandRuns.{Cases, kept-run, broken-run, broken-number, run-cases, broken-gives, kept-gives}
@@ -218,6 +218,12 @@ demand-3-ours b q i r order o a = (
   λ c. rw (ours-run b q i r order o a) (traced-due i order o a c),
   query-right (i .query .tree) (r .1 .0 .numbered) order (of-tree b q i r order o) a,
 )
+
+pub demand-3-count : Demand3Count
+demand-3-count b q i r order o =
+    look-count-rows i order o
+    ∙ sum-same (λ e. length (predicates (trace (treeValue i) (pattern i e) order))) (λ e. length (probesOf (ours (treeValue i) order) (pattern i e) order)) (rowCount i)
+    (λ e l. ap (λ (s : State). length (predicates s)) (sym (ours-run b q i r order o (pattern i e))))
 
 pub demand-3-run : Demand3Run
 demand-3-run l i k way R = (looks, count)

@@ -291,6 +291,12 @@ Demand3Ours =
     → ((c : ℕ) → Among c (probes (ours (treeValue i) order) a order) ↔ LookDue i order a c)
     × (answerOf (ours (treeValue i) order) a order ≡ treeValue i a)
 
+-- "A way's looks over all the entries are the sum of the numbers of its looks on each.": those of ours are the look count
+abbrev pub Demand3Count : Type 0
+Demand3Count =
+    (b q : List ℕ) (i : Input) → Reads b q i → (order : List ℕ) → RunningOrder i order
+    → lookCount i order ≡ sumOf (λ e. length (probes (ours (treeValue i) order) (pattern i e) order)) (rowCount i)
+
 -- "For every accepted run and every such way for its question and order, the looks registered on an entry are among those the way makes there,
 -- and the look count is at most the way's looks over all the entries."
 abbrev pub Demand3Run : Type 0
