@@ -6,6 +6,7 @@ use mathlib.Core.Path.{_≡_, refl, ap, _∙_, subst}
 use mathlib.Core.Logic.{_⊎_, inl, inr}
 use mathlib.Core.List.{List}
 use lib.ListN.{length, getD, set, length-set}
+use lib.Dec.{eqb}
 use lib.Seq.{getD-set-same, getD-set-other}
 use Rattle.strategy.specs.Bools.{same?}
 use Rattle.fields.specs.Numbers.{Bytes}
@@ -14,7 +15,13 @@ use Rattle.bitmaps.specs.Bit.{bit}
 use Rattle.bitmaps.specs.BitLaws.{bit-at}
 use Rattle.bitmaps.specs.Word.{blockRows, wordSize, WordPut}
 use Rattle.bitmaps.specs.WordLaws.{byte-member}
-use Rattle.bitmaps.proofs.Marks.{set-bytes}
+
+set-bytes : (t : List ℕ) (i x : ℕ) → i < length t → x < 256 → Bytes t → Bytes (set t i x)
+set-bytes t i x h l b j = go (same? j i)
+  where
+    go : (j ≡ i) ⊎ (j ≡ i → ⊥) → getD (set t i x) j 0 < 256
+    go (inl y) = rw (y, getD-set-same t i x 0 h) l
+    go (inr z) = rw (getD-set-other t i j x 0 z) (b j)
 
 module _ (t : List ℕ) (at x : ℕ) where
   abbrev byteOf : ℕ → ℕ
@@ -56,7 +63,7 @@ module _ (t : List ℕ) (at x : ℕ) where
 
     elsewhere : (j : ℕ) → (j < at * 8) ⊎ (at * 8 + blockRows ≤ j) → bit (stored 8) j ≡ bit t j
     unfolding bit
-    elsewhere j o = ap (λ (y : ℕ). member y (j % 8)) (stored-elsewhere 8 (j / 8) (side o))
+    elsewhere j o = ap (λ (y : ℕ). eqb (y / 2 ^ (j % 8) % 2) 1) (stored-elsewhere 8 (j / 8) (side o))
       where
         side : (j < at * 8) ⊎ (at * 8 + blockRows ≤ j) → (j / 8 < at) ⊎ (at + 8 ≤ j / 8)
         side (inl l) = inl (omega arith)

@@ -99,7 +99,7 @@ ones-member k x h = ap ones (binary-member k x h) ∙ ones-binary (member x) k
 
 -- the bits of byte i
 pub bit-at : (t : List ℕ) (i j : ℕ) → j < 8 → bit t (i * 8 + j) ≡ member (getD t i 0) j
-unfolding bit
+unfolding bit member
 bit-at t i j l =
     let q : (i * 8 + j) / 8 ≡ i = omega arith in
     let r : (i * 8 + j) % 8 ≡ j = omega arith in
@@ -109,7 +109,7 @@ bit-first : (x : ℕ) (xs : List ℕ) (e : ℕ) → e < 8 → bit (x ∷ xs) e �
 bit-first x xs e l = let q : 0 * 8 + e ≡ e = omega arith in sym (ap (bit (x ∷ xs)) q) ∙ bit-at (x ∷ xs) 0 e l
 
 bit-rest : (x : ℕ) (xs : List ℕ) (e : ℕ) → bit (x ∷ xs) (8 + e) ≡ bit xs e
-unfolding bit
+unfolding bit member
 bit-rest x xs e =
     let q : (8 + e) / 8 ≡ suc (e / 8) = omega arith in
     let r : (8 + e) % 8 ≡ e % 8 = omega arith in

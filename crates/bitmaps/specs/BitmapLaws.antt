@@ -50,7 +50,7 @@ module _ (f : ℕ → Bool) (rows : ℕ) where
 
   -- the row rule: bit e is f e for e below `rows`, every other bit is zero
   pub bitmap-bit : (e : ℕ) → bit (bitmap f rows) e ≡ (ltb e rows && f e)
-  unfolding bit
+  unfolding bit member
   bitmap-bit e = go (which (ltb (e / 8) (bytesFor rows)))
     where
       go : (ltb (e / 8) (bytesFor rows) ≡ true) ⊎ (ltb (e / 8) (bytesFor rows) ≡ false) → member (getD (bitmap f rows) (e / 8) 0) (e % 8) ≡ (ltb e rows && f e)

@@ -6,7 +6,7 @@ use lib.ListN.{length, getD}
 use lib.Dec.{leb, eqb}
 use Rattle.fields.specs.declared.header.Header.{Header}
 use Rattle.fields.specs.declared.header.Header.the-variants.{Cut, Field}
-use Rattle.fields.specs.Decoded.{Decoded, refused, accepted}
+use Rattle.fields.specs.Decoded.{Decoded, refused, accepted, mapped}
 use Rattle.fields.specs.Numbers.{numberAt}
 use Rattle.fields.specs.Header.{headerAt}
 use Rattle.catalogue.specs.declared.column.ColumnField.{ColumnField}
@@ -47,8 +47,7 @@ columnOf b rows (Field tag start end) =
     (field.Refused notColumn))
 
 abbrev pub putBefore : Column → Decoded (List Column) → Decoded (List Column)
-putBefore c (refused e) = refused e
-putBefore c (accepted cs) = accepted (c ∷ cs)
+putBefore c d = mapped (λ cs. c ∷ cs) d
 
 -- a column's values before those of the columns after it
 abbrev pub columnThen : List ℕ → (rows : ℕ) → ColumnField → (ℕ → Decoded (List Column)) → Decoded (List Column)
@@ -62,8 +61,7 @@ columnsAt b rows zero at = cond (eqb at (length b)) (accepted []) (refused bytes
 columnsAt b rows (suc n) at = columnThen b rows (columnOf b rows (headerAt b at (length b))) (λ next. columnsAt b rows n next)
 
 abbrev pub withRows : ℕ → Decoded (List Column) → Decoded Catalogue
-withRows rows (refused e) = refused e
-withRows rows (accepted cs) = accepted (record { rows = rows; columns = cs })
+withRows rows d = mapped (λ cs. record { rows = rows; columns = cs }) d
 
 abbrev pub firstThen : List ℕ → First → Decoded Catalogue
 firstThen b (first.Refused e) = refused e

@@ -2,8 +2,9 @@
 use Prim.Native.Nat.{ℕ, zero, suc, _*_, _≤_}
 use native.Mathlib.Nat.{mul-le-mul-right}
 use native.Mathlib.Omega.{arith}
-use mathlib.Core.Path.{_≡_, sym, ap, ap₂, _∙_}
-use mathlib.Core.Logic.{inl, inr}
+use mathlib.Core.Path.{_≡_, refl, sym, ap, ap₂, _∙_}
+use mathlib.Core.Bool.{Bool, true, false}
+use mathlib.Core.Logic.{_⊎_, inl, inr}
 use mathlib.Core.List.{List}
 use lib.ListN.{length, replicate}
 use Rattle.fields.specs.Decoded.{Decoded, refused, accepted}
@@ -13,13 +14,16 @@ use Rattle.catalogue.specs.Decode.{decodeCatalogue}
 use Rattle.catalogue.specs.declared.layout.Layout.{Layout}
 use Rattle.catalogue.specs.Layout.{LaidOut}
 use Rattle.query.specs.Format.{predicateLimit}
+use Rattle.strategy.specs.Order.{isOrder}
 use Rattle.bitmaps.specs.Bitmap.{bytesFor}
 use Rattle.searchroom.specs.Word.{numberIn, firstIn, thirdIn}
-use Rattle.searchroom.specs.Input.{Input}
-use Rattle.searchroom.specs.Run.{Ran, ran, rowCount, predicateCount, foundCount, lookCount, counterSize}
-use Rattle.searchroom.specs.Demands.{Lent, Reads, Kept, FirstBroken, badForm, badOrder, badTables, badTally}
-use Rattle.searchroom.proofs.DemandLaws.{reads-input, broken-input}
-use Rattle.searchroom.proofs.DemandRuns.{Cases, run-cases, kept-gives, broken-gives, broken-number}
+use Rattle.searchroom.specs.Refusals.{notOrder}
+use Rattle.searchroom.specs.Input.{Input, decodeInput}
+use Rattle.searchroom.specs.Run.{Ran, ran, rowCount, predicateCount, foundCount, lookCount, counterSize, runOn, runOf}
+use Rattle.searchroom.specs.Demands.{Lent, Reads, FormBroken, Kept, FirstBroken, badForm, badOrder, badTables, badTally}
+use Rattle.searchroom.proofs.DemandLaws.{Decodes, decoded-input, reads-input, broken-input, decoded-cases}
+use Rattle.searchroom.proofs.DemandTables.{order-plain}
+use Rattle.searchroom.proofs.DemandRuns.{kept-gives, broken-gives, broken-number}
 use Rattle.register.specs.Register as register
 use Rattle.register.specs.Writing.{roomFor}
 use Rattle.consultation.specs.Consultation.{listedSize, looksSize, consultationRun, registerOfRun, registerAfter, consultationOf, longest}
@@ -52,8 +56,11 @@ module _ (b q order : List ℕ) where
   abbrev written : (rows n : ℕ) → List ℕ
   written rows n = registerOfRun rows n after
 
+  decoded-text : (i : Input) → decodeInput b q ≡ accepted i → consultationOf b q order ≡ written (rowCount i) (predicateCount i)
+  decoded-text i e = ap (λ (d : Decoded Input). registerAfter d after) e
+
   read-text : (i : Input) → Reads b q i → consultationOf b q order ≡ written (rowCount i) (predicateCount i)
-  read-text i r = ap (λ (d : Decoded Input). registerAfter d after) (reads-input b q i r)
+  read-text i r = decoded-text i (reads-input b q i r)
 
   -- in the words of the demands page: the counts and the tables of a run in which no check fails, and the number of the first that fails
   pub kept-text : (i : Input) → Kept lent i
@@ -74,19 +81,29 @@ module _ (b q order : List ℕ) where
       go (badTables i s o n z) = read i s
       go (badTally i s o t n z) = read i s
 
+  not-order : (i : Input) → decodeInput b q ≡ accepted i → isOrder (predicateCount i) order ≡ false → numberIn (after .word) ≡ notOrder
+  unfolding runOf runOn
+  not-order i d h = rw (d, h)
+
   module _ (rows : ℕ) (l : Layout) (laid : LaidOut b l (decodeCatalogue b)) (r : rows ≡ l .rows) where
-    same-rows : (i : Input) → Reads b q i → rows ≡ rowCount i
-    same-rows i s = let h : LaidOut b l (accepted (i .catalogue)) = rw (s .0) at laid in r ∙ h .1
+    same-rows : (i : Input) → Decodes b q i → rows ≡ rowCount i
+    same-rows i d = let h : LaidOut b l (accepted (i .catalogue)) = rw (d .0) at laid in r ∙ h .1
 
     -- an accepted order has as many bytes as the question has conditions, and a refusal's register shows none
     written-is : written rows (length order) ≡ consultationOf b q order
-    written-is = go (run-cases lent)
+    written-is = forms (decoded-cases b q)
       where
-        go : Cases lent → written rows (length order) ≡ consultationOf b q order
-        go (inl x) = ap₂ written (same-rows (x .0) (x .1 .forms)) (x .1 .order .0) ∙ sym (read-text (x .0) (x .1 .forms))
-        go (inr x) =
-            refused-text rows (length order) (x .0) after (broken-gives lent (x .0) (x .1) .1) (broken-number lent (x .0) (x .1) .0)
-            ∙ sym (broken-text (x .0) (x .1))
+        orders : (i : Input) → Decodes b q i → (x : Bool) → isOrder (predicateCount i) order ≡ x → written rows (length order) ≡ consultationOf b q order
+        orders i d true h = ap₂ written (same-rows i d) (order-plain (predicateCount i) order .0 h .0) ∙ sym (decoded-text i (decoded-input b q i d))
+        orders i d false h =
+            let z = not-order i (decoded-input b q i d) h in
+            refused-text rows (length order) notOrder after z (omega arith)
+            ∙ sym (decoded-text i (decoded-input b q i d) ∙ refused-text (rowCount i) (predicateCount i) notOrder after z (omega arith))
+
+        forms : ((i : Input) × Decodes b q i) ⊎ ((e : ℕ) × FormBroken b q e) → written rows (length order) ≡ consultationOf b q order
+        forms (inl (i, d)) = orders i d (isOrder (predicateCount i) order) refl
+        forms (inr (e, x)) =
+            refused-text rows (length order) e after (broken-gives lent e (badForm x) .1) (broken-number lent e (badForm x) .0) ∙ sym (broken-text e (badForm x))
 
     pub consulted : (listed looks tally out new : List ℕ) (w n : ℕ) → ran w listed looks tally ≡ after
         → register.Printed (registerOfRun rows (length order) (ran w listed looks tally)) out n new → register.Printed (consultationOf b q order) out n new

@@ -2,12 +2,12 @@
 use Prim.Native.Nat.{ℕ, _+_, _-_, _≤_}
 use mathlib.Core.Bool.{cond}
 use mathlib.Core.Path.{_≡_}
-use mathlib.Core.List.{List}
-use lib.ListN.{getD}
+use mathlib.Core.List.{List, _∷_, _++_}
+use lib.ListN.{length, getD}
 use lib.Dec.{ltb}
 use Rattle.fields.specs.declared.header.Header.{Header}
 use Rattle.fields.specs.declared.header.Header.the-variants.{Cut, Field}
-use Rattle.fields.specs.Numbers.{numberAt}
+use Rattle.fields.specs.Numbers.{numberAt, bytesOf}
 
 abbrev pub headerSize : ℕ
 headerSize = 3
@@ -27,3 +27,7 @@ headerAt b at end =
 abbrev pub Inside : (at end : ℕ) → Header → Type 0
 Inside at end Cut = Unit {0}
 Inside at end (Field tag start stop) = (start ≡ at + headerSize) × (start ≤ stop) × (stop ≤ end)
+
+-- the same field written: "a one-byte tag, a two-byte length, then that many bytes"
+unfoldable pub fieldOf : (tag : ℕ) → (payload : List ℕ) → List ℕ
+fieldOf tag payload = tag ∷ (bytesOf 2 (length payload) ++ payload)

@@ -8,11 +8,11 @@ use lib.ListN.{length, getD, take, drop, length-drop}
 use lib.Seq.{take-all}
 use lib.Dec.{ltb, leb}
 use borrow.Author.Tests.{lt-ltb, le-leb, le-ltb, lt-leb, eq-eqb, ltb-true, leb-true, eqb-true}
-use Rattle.catalogue.specs.Catalogue.{Catalogue, Column, numbers, texts}
+use Rattle.catalogue.specs.Catalogue.{Column, numbers, texts}
 use Rattle.catalogue.specs.Layout.{Shows}
 use Rattle.predicate.specs.Kinds.{plainKind}
 use Rattle.predicate.specs.Outcome.{HasRange}
-use Rattle.predicate.specs.Payload.{tagOf, tagsIn, tagsOf, payloadHead, columnByte, kindByte, operandOf, kindFits, rangeFits, operandFits, validPayload, predicateOf, Fits}
+use Rattle.predicate.specs.Payload.{tagOf, tagsIn, payloadHead, columnByte, kindByte, operandOf, kindFits, rangeFits, operandFits, validPayload}
 use Rattle.fields.proofs.Conjunctions.{and-left, and-right}
 
 module _ (tags payload : List ℕ) where
@@ -89,13 +89,3 @@ shown-tag b rows tag start (texts ts) s = s .0
 pub tag-small : (c : Column) → tagOf c < 256
 tag-small (numbers ns) = omega arith
 tag-small (texts ts) = omega arith
-
-pub valid-fits : (c : Catalogue) (place : ℕ) (payload : List ℕ) → validPayload (tagsOf c) payload ≡ true → Fits c (predicateOf place payload)
-valid-fits c place payload h =
-    let valid : Valid (tagsOf c) payload = valid-payload (tagsOf c) payload h in
-    let column-in : columnByte payload < length (c .columns) = rw tags-length at (valid .column-in) in
-    record {
-      column-in = column-in;
-      kind-fits = rw (tags-at (c .columns) (columnByte payload) (numbers []) column-in) at (valid .kind-fits);
-      range = range-size (plainKind (kindByte payload)) (operandOf payload) (valid .operand-fits);
-    }

@@ -1,8 +1,7 @@
 -- A condition's payload, "column byte, kind byte, operand", and the part of refusal 11 that concerns one payload:
 -- "payload under two bytes, no such column, unknown kind, kind not fitting the column, or operand of wrong length or range".
-use Prim.Native.Nat.{ℕ, _≤_, _<_}
-use mathlib.Core.Path.{_≡_}
-use mathlib.Core.Bool.{Bool, true, _&&_, _||_, cond}
+use Prim.Native.Nat.{ℕ}
+use mathlib.Core.Bool.{Bool, _&&_, _||_, cond}
 use mathlib.Core.List.{List, [], _∷_}
 use lib.ListN.{length, getD, drop}
 use lib.Dec.{ltb, leb, eqb}
@@ -10,7 +9,6 @@ use Rattle.catalogue.specs.Format.{numberTag, textTag, blankNumber, textLimit}
 use Rattle.catalogue.specs.Catalogue.{Catalogue, Column, numbers, texts}
 use Rattle.predicate.specs.Kinds.{rangeKind, numberBlankKind, textBlankKind, plainKind}
 use Rattle.predicate.specs.Meaning.{Predicate, rangeSize, lowOf, highOf}
-use Rattle.predicate.specs.Outcome.{HasRange}
 
 -- the tag of a column in the catalogue's format
 abbrev pub tagOf : Column → ℕ
@@ -64,9 +62,3 @@ validPayload tags payload =
     (ltb (columnByte payload) (length tags) &&
     (kindFits (getD tags (columnByte payload) 0) (plainKind (kindByte payload)) &&
     operandFits (plainKind (kindByte payload)) (operandOf payload)))
-
--- what the check gives to whoever works the predicate out
-pub record Fits (c : Catalogue) (p : Predicate) : Type 0 where
-  pub column-in : p .column < length (c .columns)
-  pub kind-fits : kindFits (tagOf (getD (c .columns) (p .column) (numbers []))) (plainKind (p .kind)) ≡ true
-  pub range : HasRange (plainKind (p .kind)) (p .operand)

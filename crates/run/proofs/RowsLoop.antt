@@ -1,5 +1,6 @@
 -- The loop over the blocks of a run: what its tables hold of the rows worked so far, and what one block more adds.
-use Prim.Native.Nat.{ℕ, _+_, _-_, _*_, _/_, _%_, _≤_, _<_, min}
+use Prim.Native.Nat.{ℕ, _+_, _-_, _*_, _/_, _%_, _^_, _≤_, _<_, min}
+use native.Mathlib.Nat.{zero-div}
 use native.Mathlib.Omega.{arith}
 use mathlib.Core.Path.{_≡_, refl, sym, ap, ap₂, _∙_, subst}
 use mathlib.Core.Bool.{Bool, true, false, _&&_, and-false}
@@ -17,7 +18,7 @@ use Rattle.strategy.specs.TraceLaws.{trace-among}
 use Rattle.strategy.specs.Tree.{eval, size}
 use Rattle.strategy.specs.RowLaws.{work-row}
 use Rattle.sets.specs.Set.{member}
-use Rattle.sets.specs.SetLaws.{member-none, member-below}
+use Rattle.sets.specs.SetLaws.{member-below}
 use Rattle.bitmaps.specs.Bit.{bit}
 use Rattle.bitmaps.specs.Table.{lineSize, lineBits, Holds, within}
 use Rattle.bitmaps.specs.TableLaws.{holds-same, holds-bitmap, holds-bitmaps}
@@ -84,9 +85,13 @@ module _ (f : ℕ → ℕ → Bool) (base : ℕ) {lines : ℕ} {t : List ℕ} (t
   pub holds-next : Holds (before (base + blockRows) f) lines t′
   holds-next = record { size = size ∙ h .size; bytes = bytes (h .bytes); bits = λ c e l k. next-bit c e l k (which (ltb e base)) (which (ltb e (base + blockRows))) }
 
+-- past the end of a table no bit is set
 bit-past : (t : List ℕ) (k : ℕ) → length t ≤ k / 8 → bit t k ≡ false
 unfolding bit
-bit-past t k h = let z : getD t (k / 8) 0 ≡ 0 = List·getD-eq-default t 0 h in ap (λ (x : ℕ). member x (k % 8)) z ∙ member-none (k % 8)
+bit-past t k h =
+    let z : getD t (k / 8) 0 ≡ 0 = List·getD-eq-default t 0 h in
+    let w : 0 / 2 ^ (k % 8) ≡ 0 = zero-div (2 ^ (k % 8)) in
+    rw (z, w)
 
 -- ONE BLOCK
 

@@ -16,8 +16,8 @@ use Rattle.searchroom.specs.declared.word.Answer.the-variants.{Refused, 
 use Rattle.searchroom.specs.Refusals.{notOrder, tableTooShort, counterRefused}
 use Rattle.searchroom.specs.Input.{Input}
 use Rattle.searchroom.specs.Run.{rowCount, predicateCount, foundCount, lookCount, tablesFit, counterFits, accept, refuse, runOn, runOf}
-use Rattle.searchroom.specs.Demands.{Gives, Lent, after, Reads, FormBroken, RunningOrder, TablesFit, TallyFits, Kept, FirstBroken, badForm, badOrder, badTables, badTally}
-use Rattle.searchroom.proofs.DemandLaws.{reads-input, broken-input, input-cases, broken-range, reads-limited, reads-sound, unpacked}
+use Rattle.searchroom.specs.Demands.{Gives, Lent, InBytes, after, Reads, FormBroken, RunningOrder, TablesFit, TallyFits, Kept, FirstBroken, badForm, badOrder, badTables, badTally}
+use Rattle.searchroom.proofs.DemandLaws.{reads-input, broken-input, input-cases, broken-range, unpacked}
 use Rattle.searchroom.proofs.DemandTables.{count-le, order-plain, found-count, look-count-le}
 
 -- the tests of `runOf` are the page's sentences
@@ -82,8 +82,8 @@ module _ (l : Lent) where
   abbrev pub Cases : Type 0
   Cases = ((i : Input) × Kept l i) ⊎ ((e : ℕ) × FirstBroken l e)
 
-  pub run-cases : Cases
-  run-cases = forms (input-cases (l .catalogue) (l .question))
+  pub run-cases : InBytes l → Cases
+  run-cases bytes = forms (input-cases (l .catalogue) (l .question) (bytes .0) (bytes .1))
     where
       counter : (i : Input) → Reads (l .catalogue) (l .question) i → RunningOrder i (l .order) → TablesFit i (l .listed) (l .looks)
           → (b : Bool) → counterFits (l .tally) (lookCount i (l .order)) ≡ b → Cases
@@ -107,7 +107,7 @@ module _ (l : Lent) where
 
   pub kept-gives : (i : Input) → Kept l i → Gives (after l .word) 0 (foundCount i) 0 (lookCount i (l .order))
   kept-gives i k =
-      let C = reads-limited (l .catalogue) (l .question) i (k .forms) in
-      let Q = reads-sound (l .catalogue) (l .question) i (k .forms) in
+      let C = k .forms .0 .0 in
+      let Q = k .forms .1 .0 in
       rw (kept-run i k) (unpacked (Accepted (foundCount i) 0 (lookCount i (l .order)))
-      (omega (arith, found-count i, count-le (isSelected (i .catalogue) (i .query)) (rowCount i), look-count-le i (l .order) 2048 (C .0))))
+      (omega (arith, found-count i, count-le (isSelected (i .catalogue) (i .query)) (rowCount i), look-count-le i (l .order) 2048 (C .rows-few), C .rows-few, Q .few)))

@@ -25,7 +25,7 @@ use Rattle.bitmaps.specs.BitmapLaws.{bitmap-length, bitmap-bytes, bitmap-bit, b
 use Rattle.run.specs.Run.{isSelected, traceAt, isProbed}
 use Rattle.searchroom.specs.Input.{Input}
 use Rattle.searchroom.specs.Run.{rowCount, predicateCount, selection, probes, foundCount, lookCount}
-use Rattle.searchroom.specs.Demands.{RunningOrder, pattern, treeValue, LookDue, RowOf, listedRow, looksRow}
+use Rattle.searchroom.specs.Demands.{RunningOrder, pattern, treeValue, LookDue, LineOf, listedLine, looksLine}
 
 -- SUMS
 
@@ -88,10 +88,10 @@ unfolding elem
 count-elem [] n o b = sum-zero (λ c. 0) n (λ c l. refl)
 count-elem (d ∷ ds) n o b = count-more (λ c. elem c ds) d n (b d (inl refl)) (elem-no d ds (o .0)) ∙ ap suc (count-elem ds n (o .1) (λ c m. b c (inr m)))
 
--- ROWS OF BITS
+-- LINES
 
-pub row-of : (P : ℕ → Type 0) (f : ℕ → Bool) (rows : ℕ) → ((e : ℕ) → (f e ≡ true) ↔ P e) → RowOf P rows (bitmap f rows)
-row-of P f rows h = record {
+pub line-of : (P : ℕ → Type 0) (f : ℕ → Bool) (rows : ℕ) → ((e : ℕ) → (f e ≡ true) ↔ P e) → LineOf P rows (bitmap f rows)
+line-of P f rows h = record {
   size = bitmap-length f rows;
   bytes = bitmap-bytes f rows;
   bits = λ e l. let q : bit (bitmap f rows) e ≡ f e = inside e l in (λ x. h e .0 (sym q ∙ x), λ p. q ∙ h e .1 p);
@@ -101,8 +101,8 @@ row-of P f rows h = record {
     inside : (e : ℕ) → e < rows → bit (bitmap f rows) e ≡ f e
     inside e l = bitmap-bit f rows e ∙ ap (λ (b : Bool). b && f e) (ltb-yes e rows l)
 
-pub row-count : (f : ℕ → Bool) (rows : ℕ) → countOf (bit (bitmap f rows)) rows ≡ countOf f rows
-row-count f rows = count-same (bit (bitmap f rows)) f rows (λ e l. bitmap-bit f rows e ∙ ap (λ (b : Bool). b && f e) (ltb-yes e rows l))
+pub line-count : (f : ℕ → Bool) (rows : ℕ) → countOf (bit (bitmap f rows)) rows ≡ countOf f rows
+line-count f rows = count-same (bit (bitmap f rows)) f rows (λ e l. bitmap-bit f rows e ∙ ap (λ (b : Bool). b && f e) (ltb-yes e rows l))
 
 -- bytes put at the front of a table
 module _ (new old : List ℕ) (s : ℕ) (e : length new ≡ s) where
@@ -203,18 +203,18 @@ module _ (i : Input) where
   unfolding selection
   selection-length = bitmap-length (isSelected (i .catalogue) (i .query)) (rowCount i)
 
-  pub listed-row : (listed : List ℕ) → listedRow i (putFront (selection i) listed) ≡ bitmap (isSelected (i .catalogue) (i .query)) (rowCount i)
+  pub listed-line : (listed : List ℕ) → listedLine i (putFront (selection i) listed) ≡ bitmap (isSelected (i .catalogue) (i .query)) (rowCount i)
   unfolding selection
-  listed-row listed = front-new (selection i) listed (bytesFor (rowCount i)) selection-length
+  listed-line listed = front-new (selection i) listed (bytesFor (rowCount i)) selection-length
 
   module _ (order : List ℕ) where
     pub probes-length : length (probes i order) ≡ predicateCount i * bytesFor (rowCount i)
     unfolding probes
     probes-length = bitmaps-length (isProbed (i .catalogue) (i .query) order) (predicateCount i) (rowCount i)
 
-    pub looks-row : (looks : List ℕ) (c : ℕ) → c < predicateCount i
-        → looksRow i (putFront (probes i order) looks) c ≡ bitmap (isProbed (i .catalogue) (i .query) order c) (rowCount i)
+    pub looks-line : (looks : List ℕ) (c : ℕ) → c < predicateCount i
+        → looksLine i (putFront (probes i order) looks) c ≡ bitmap (isProbed (i .catalogue) (i .query) order c) (rowCount i)
     unfolding probes
-    looks-row looks c l =
+    looks-line looks c l =
         front-line (probes i order) looks (bytesFor (rowCount i)) (predicateCount i) c probes-length l
         ∙ bitmaps-line (isProbed (i .catalogue) (i .query) order) (predicateCount i) (rowCount i) c l

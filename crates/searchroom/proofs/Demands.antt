@@ -10,9 +10,22 @@ use lib.ListN.{length}
 use lib.Dec.{ltb}
 use Rattle.fields.specs.Numbers.{numberAt}
 use Rattle.fields.proofs.Laws.{number-of-bytes}
+use Rattle.catalogue.specs.Encode.{encodeCatalogue}
+use Rattle.catalogue.proofs.EncodedBytes.{catalogue-bytes}
+use Rattle.catalogue.proofs.Exactly as catalogue
+use Rattle.catalogue.proofs.Refusals.{catalogue-refusal}
+use Rattle.query.specs.Encode.{encode, payloads}
+use Rattle.query.specs.Decode.{payloadOf}
+use Rattle.query.specs.WellFormed.{ValidPredicate}
+use Rattle.query.proofs.Payloads.{payload-again}
+use Rattle.query.proofs.ValidLaws.{valid-passes, passes-valid}
+use Rattle.query.proofs.EncodedBytes.{query-bytes}
+use Rattle.query.proofs.Exactly as question
+use Rattle.query.proofs.Refusals.{query-refusal}
 use Rattle.predicate.specs.declared.answer.Answer.{Answer as Outcome}
 use Rattle.predicate.specs.declared.answer.Answer.the-variants.{No, Yes}
-use Rattle.predicate.specs.Meaning.{outcome}
+use Rattle.predicate.specs.Meaning.{Predicate, outcome}
+use Rattle.predicate.specs.Payload.{tagsOf, validPayload, predicateOf}
 use Rattle.strategy.specs.Bools.{not-true, and-parts, ltb-yes, ltb-lt}
 use Rattle.strategy.specs.Assignment.{Assignment, Among}
 use Rattle.strategy.specs.Tree.{eval, size}
@@ -32,15 +45,46 @@ use Rattle.searchroom.specs.Refusals.{noSuchPlace}
 use Rattle.searchroom.specs.Input.{Input}
 use Rattle.searchroom.specs.Answers.{outcomeNumber}
 use Rattle.searchroom.specs.Run.{rowCount, predicateCount, selection, probes, foundCount, lookCount}
-use Rattle.searchroom.specs.Demands.{after, Reads, RunningOrder, rowBytes, Kept, FirstBroken, pattern, treeValue, listedRow, looksRow, Demand1Number, Demand1Refused, Demand1Accepted, Demand1Limits, Demand1Catalogue, Demand1Question, Demand1Outcome, Demand2Tree, Demand2Listed, Demand2Looks, Demand2Further, Demand2Counts, Demand2Tally, Demand3, Demand3Ours, Demand3Run}
-use Rattle.searchroom.proofs.DemandLaws.{catalogue-limited, query-sound, reads-input, broken-input, broken-range, reads-limited, reads-sound, reads-shallow, unpacked}
-use Rattle.searchroom.proofs.DemandTables.{sum-le, row-of, row-count, front-old, order-plain, held, traced-due, probed-due, found-count, look-count, look-count-le, look-count-rows, selection-length, listed-row, probes-length, looks-row}
+use Rattle.searchroom.specs.Demands.{after, Reads, RunningOrder, lineBytes, Kept, FirstBroken, pattern, treeValue, listedLine, looksLine, Demand1CatalogueForm, Demand1QuestionForm, Demand1Payload, Demand1FormsWritten, Demand1WrittenOnce, Demand1Number, Demand1Refused, Demand1Accepted, Demand1Limits, Demand1Catalogue, Demand1Question, Demand1Outcome, Demand2Tree, Demand2Listed, Demand2Looks, Demand2Further, Demand2Counts, Demand2Tally, Demand3, Demand3Ours, Demand3Count, Demand3Run}
+use Rattle.searchroom.proofs.DemandLaws.{is-catalogue, is-question, reads-input, broken-input, broken-range, unpacked}
+use Rattle.searchroom.proofs.DemandTables.{sum-le, line-of, line-count, front-old, order-plain, held, traced-due, probed-due, found-count, look-count, look-count-le, look-count-rows, selection-length, listed-line, probes-length, looks-line}
 use Rattle.searchroom.proofs.DemandRuns.{Cases, kept-run, broken-run, broken-number, run-cases, broken-gives, kept-gives}
 
--- DEMAND 1
+-- DEMAND 1: WHAT IS ACCEPTED
+
+pub demand-1-catalogue-form : Demand1CatalogueForm
+demand-1-catalogue-form b bytes = (λ C. catalogue.accepted-exactly b C bytes, catalogue.refused-exactly b bytes)
+
+pub demand-1-question-form : Demand1QuestionForm
+demand-1-question-form C q bytes = (λ Q. question.accepted-exactly C q Q bytes, question.refused-exactly C q bytes)
+
+pub demand-1-payload : Demand1Payload
+demand-1-payload C payload = (to, from)
+  where
+    to : validPayload (tagsOf C) payload ≡ true → (p : Predicate) × ValidPredicate C p × (payload ≡ payloadOf p)
+    to h =
+        let p : Predicate = predicateOf 0 payload in
+        let e : payloadOf p ≡ payload = payload-again (tagsOf C) 0 payload h in
+        let v : validPayload (tagsOf C) (payloadOf p) ≡ true = rw e h in
+        (p, passes-valid C p v, sym e)
+
+    from : (p : Predicate) × ValidPredicate C p × (payload ≡ payloadOf p) → validPayload (tagsOf C) payload ≡ true
+    from (p, v, e) = rw e (valid-passes C p v)
+
+pub demand-1-forms-written : Demand1FormsWritten
+demand-1-forms-written C formed = (
+  catalogue-bytes C formed,
+  is-catalogue (encodeCatalogue C) C (formed, refl),
+  λ Q well. (query-bytes C formed Q well, is-question C (encode (payloads Q)) Q (well, refl)),
+)
+
+pub demand-1-written-once : Demand1WrittenOnce
+demand-1-written-once = (catalogue.encode-once, question.encode-once)
+
+-- DEMAND 1: THE CALLS
 
 pub demand-1-number : Demand1Number
-demand-1-number l e p = (λ h. go h (run-cases l), λ x. broken-gives l e x .1)
+demand-1-number l bytes e p = (λ h. go h (run-cases l bytes), λ x. broken-gives l e x .1)
   where
     go : after l .word % 2 ^ 8 ≡ e → Cases l → FirstBroken l e
     go h (inl x) = absurd (omega (arith, kept-gives l (x .0) (x .1) .1))
@@ -52,7 +96,7 @@ demand-1-refused l e x =
     (broken-gives l e x, ap (λ (s : _). s .listed) r, ap (λ (s : _). s .looks) r, ap (λ (s : _). s .tally) r)
 
 pub demand-1-accepted : Demand1Accepted
-demand-1-accepted l = (λ h. go h (run-cases l), λ x. kept-gives l (x .0) (x .1) .1)
+demand-1-accepted l bytes = (λ h. go h (run-cases l bytes), λ x. kept-gives l (x .0) (x .1) .1)
   where
     go : after l .word % 2 ^ 8 ≡ 0 → Cases l → (i : Input) × Kept l i
     go h (inl x) = x
@@ -60,18 +104,18 @@ demand-1-accepted l = (λ h. go h (run-cases l), λ x. kept-gives l (x .0) (x .1
 
 pub demand-1-catalogue : Demand1Catalogue
 demand-1-catalogue b = (
-  λ e h. let s : (1 ≤ e) × (e ≤ 6) = rw h at (catalogue-limited b) in
+  λ e h. let s = catalogue-refusal b e h in
       rw h (unpacked (Refused e) (omega arith)),
-  λ C h. let s : (C .rows ≤ 2048) × (1 ≤ length (C .columns)) × (length (C .columns) ≤ 16) = rw h at (catalogue-limited b) in
-      rw h (unpacked (Accepted (C .rows) (length (C .columns)) 0) (omega arith)),
+  λ C h. let s = h .0 in
+      rw (is-catalogue b C h) (unpacked (Accepted (C .rows) (length (C .columns)) 0) (omega (arith, s .rows-few, s .few))),
 )
 
 pub demand-1-question : Demand1Question
 demand-1-question b q = (
   λ e x. let s = broken-range b q e x in
       rw (broken-input b q e x) (unpacked (Refused e) (omega arith)),
-  λ i r. let Q = reads-sound b q i r in
-      rw (reads-input b q i r) (unpacked (Accepted (predicateCount i) 0 0) (omega arith)),
+  λ i r. let Q = r .1 .0 in
+      rw (reads-input b q i r) (unpacked (Accepted (predicateCount i) 0 0) (omega (arith, Q .few))),
 )
 
 pub demand-1-outcome : Demand1Outcome
@@ -96,9 +140,9 @@ demand-1-outcome b q entry c = (
 
 pub demand-1-limits : Demand1Limits
 demand-1-limits = (
-  λ b e h. rw h at (catalogue-limited b),
-  λ C q e h. rw h at (query-sound C q),
-  λ b q i r. let C = reads-limited b q i r in let Q = reads-sound b q i r in (C .0, C .1, C .2, Q .some, Q .few, reads-shallow b q i r),
+  catalogue-refusal,
+  query-refusal,
+  λ b q i r. let C = r .0 .0 in let Q = r .1 .0 in (C .rows-few, C .some, C .few, Q .some, Q .few, Q .shallow),
 )
 
 -- DEMAND 2
@@ -110,24 +154,24 @@ demand-2-tree a = (λ c. refl, all-none a, all-more a, any-none a, any-more a)
 pub demand-2-listed : Demand2Listed
 unfolding isSelected
 demand-2-listed l i k =
-    rw (kept-run l i k, listed-row i (l .listed)) (row-of (λ e. treeValue i (pattern i e) ≡ true) (isSelected (i .catalogue) (i .query)) (rowCount i) (λ e. (λ x. x, λ x. x)))
+    rw (kept-run l i k, listed-line i (l .listed)) (line-of (λ e. treeValue i (pattern i e) ≡ true) (isSelected (i .catalogue) (i .query)) (rowCount i) (λ e. (λ x. x, λ x. x)))
 
 pub demand-2-looks : Demand2Looks
 demand-2-looks l i k c m =
-    rw (kept-run l i k, looks-row i (l .order) (l .looks) c m)
-    (row-of _ (isProbed (i .catalogue) (i .query) (l .order) c) (rowCount i) (λ e. probed-due i (l .order) (k .order) c e))
+    rw (kept-run l i k, looks-line i (l .order) (l .looks) c m)
+    (line-of _ (isProbed (i .catalogue) (i .query) (l .order) c) (rowCount i) (λ e. probed-due i (l .order) (k .order) c e))
 
 pub demand-2-counts : Demand2Counts
 demand-2-counts l i k = rw (← found, ← looked) (kept-gives l i k)
   where
-    found : foundCount i ≡ countOf (bit (listedRow i (after l .listed))) (rowCount i)
-    found = rw (kept-run l i k, listed-row i (l .listed)) (found-count i ∙ sym (row-count (isSelected (i .catalogue) (i .query)) (rowCount i)))
+    found : foundCount i ≡ countOf (bit (listedLine i (after l .listed))) (rowCount i)
+    found = rw (kept-run l i k, listed-line i (l .listed)) (found-count i ∙ sym (line-count (isSelected (i .catalogue) (i .query)) (rowCount i)))
 
-    looked : lookCount i (l .order) ≡ sumOf (λ c. countOf (bit (looksRow i (after l .looks) c)) (rowCount i)) (predicateCount i)
+    looked : lookCount i (l .order) ≡ sumOf (λ c. countOf (bit (looksLine i (after l .looks) c)) (rowCount i)) (predicateCount i)
     looked =
         look-count i (l .order)
-        ∙ sum-same (λ c. countOf (isProbed (i .catalogue) (i .query) (l .order) c) (rowCount i)) (λ c. countOf (bit (looksRow i (after l .looks) c)) (rowCount i)) (predicateCount i)
-        (λ c m. rw (kept-run l i k, looks-row i (l .order) (l .looks) c m) (sym (row-count (isProbed (i .catalogue) (i .query) (l .order) c) (rowCount i))))
+        ∙ sum-same (λ c. countOf (isProbed (i .catalogue) (i .query) (l .order) c) (rowCount i)) (λ c. countOf (bit (looksLine i (after l .looks) c)) (rowCount i)) (predicateCount i)
+        (λ c m. rw (kept-run l i k, looks-line i (l .order) (l .looks) c m) (sym (line-count (isProbed (i .catalogue) (i .query) (l .order) c) (rowCount i))))
 
 pub demand-2-tally : Demand2Tally
 demand-2-tally l i k =
@@ -141,8 +185,8 @@ demand-2-tally l i k =
 pub demand-2-further : Demand2Further
 demand-2-further l i k =
     rw (kept-run l i k) (
-      front-old (selection i) (l .listed) (rowBytes i) (selection-length i),
-      front-old (probes i (l .order)) (l .looks) (predicateCount i * rowBytes i) (probes-length i (l .order)),
+      front-old (selection i) (l .listed) (lineBytes i) (selection-length i),
+      front-old (probes i (l .order)) (l .looks) (predicateCount i * lineBytes i) (probes-length i (l .order)),
     )
 
 -- DEMAND 3
@@ -155,10 +199,10 @@ length-predicates (x ∷ s) = ap suc (length-predicates s)
 module _ (b q : List ℕ) (i : Input) (r : Reads b q i) (order : List ℕ) (o : RunningOrder i order) where
   -- the order is one of as many predicates as the tree has leaves
   of-tree : isOrder (size (i .query .tree)) order ≡ true
-  of-tree = rw (reads-sound b q i r .leaves) (order-plain (predicateCount i) order .1 o)
+  of-tree = rw (r .1 .0 .counted) (order-plain (predicateCount i) order .1 o)
 
   ours-run : (a : Assignment) → run (ours (treeValue i) order) a order ≡ trace (treeValue i) a order
-  ours-run = query-ours (i .query .tree) (reads-sound b q i r .numbered) order of-tree
+  ours-run = query-ours (i .query .tree) (r .1 .0 .numbered) order of-tree
 
 -- a right way makes at least as many looks as are due
 counted : (i : Input) (order : List ℕ) → RunningOrder i order → (way : Strategy) → Right (treeValue i) order way → (a : Assignment)
@@ -172,13 +216,19 @@ demand-3 b q i r order o way R a =
 pub demand-3-ours : Demand3Ours
 demand-3-ours b q i r order o a = (
   λ c. rw (ours-run b q i r order o a) (traced-due i order o a c),
-  query-right (i .query .tree) (reads-sound b q i r .numbered) order (of-tree b q i r order o) a,
+  query-right (i .query .tree) (r .1 .0 .numbered) order (of-tree b q i r order o) a,
 )
+
+pub demand-3-count : Demand3Count
+demand-3-count b q i r order o =
+    look-count-rows i order o
+    ∙ sum-same (λ e. length (predicates (trace (treeValue i) (pattern i e) order))) (λ e. length (probesOf (ours (treeValue i) order) (pattern i e) order)) (rowCount i)
+    (λ e l. ap (λ (s : State). length (predicates s)) (sym (ours-run b q i r order o (pattern i e))))
 
 pub demand-3-run : Demand3Run
 demand-3-run l i k way R = (looks, count)
   where
-    looks : (e c : ℕ) → e < rowCount i → c < predicateCount i → bit (looksRow i (after l .looks) c) e ≡ true → Among c (probesOf way (pattern i e) (l .order))
+    looks : (e c : ℕ) → e < rowCount i → c < predicateCount i → bit (looksLine i (after l .looks) c) e ≡ true → Among c (probesOf way (pattern i e) (l .order))
     looks e c m n h =
         optimal (treeValue i) (l .order) (held i (l .order) (k .order) .once) way R (pattern i e) c
         (traced-due i (l .order) (k .order) (pattern i e) c .1 (demand-2-looks l i k c n .bits e m .0 h))

@@ -5,7 +5,7 @@ use mathlib.Core.Path.{_≡_, refl, sym, _∙_}
 use mathlib.Core.List.{List, []}
 use lib.ListN.{length, getD, take, length-take}
 use lib.Seq.{ext-getD, getD-take}
-use Rattle.fields.specs.Decoded.{Decoded, refused, accepted}
+use Rattle.fields.specs.Decoded.{Decoded, refused, accepted, andThen}
 use Rattle.catalogue.specs.Catalogue.{numbers, Catalogue}
 use Rattle.catalogue.specs.declared.layout.Layout.{Layout}
 use Rattle.catalogue.specs.Layout.{LaidOut}
@@ -19,7 +19,7 @@ use Rattle.query.specs.Query.{Query}
 use Rattle.query.specs.Ladder.{Tables}
 use Rattle.query.specs.Decode.{decodeTagged, decodeQuery}
 use Rattle.query.specs.Handed.{Handed}
-use Rattle.searchroom.specs.Input.{withQuery, thenQuestion, decodeInput}
+use Rattle.searchroom.specs.Input.{withQuery, decodeInput}
 use Rattle.searchroom.specs.Begun.{Begun}
 
 -- the first tags of the layout are those of the catalogue's columns
@@ -49,7 +49,7 @@ pub layout-refuses : (b q : List ℕ) (l : Layout) → LaidOut b l (decodeCatalo
 unfolding decodeInput
 layout-refuses b q l h ne = go (decodeCatalogue b) h
   where
-    go : (d : Decoded Catalogue) → LaidOut b l d → (thenQuestion d q ≡ refused (l .refusal)) × (l .refusal < 256)
+    go : (d : Decoded Catalogue) → LaidOut b l d → (andThen d (λ C. withQuery C (decodeQuery C q)) ≡ refused (l .refusal)) × (l .refusal < 256)
     go (refused x) w = (rw (w .0), omega arith)
     go (accepted C) w = absurd (ne (w .0))
 

@@ -3,19 +3,21 @@ use Prim.Native.Nat.{ℕ}
 use mathlib.Core.Path.{_≡_}
 use mathlib.Core.Bool.{Bool, true, false}
 use mathlib.Core.List.{List, [], _∷_, _++_}
-use lib.ListN.{replicate}
+use lib.ListN.{length, replicate}
 use Rattle.fields.specs.Decoded.{accepted}
+use Rattle.fields.specs.Numbers.{Bytes}
 use Rattle.catalogue.specs.Catalogue.{numbers}
 use Rattle.catalogue.specs.Decode.{decodeCatalogue}
 use Rattle.predicate.specs.declared.answer.Answer.{Answer as Outcome}
 use Rattle.predicate.specs.declared.answer.Answer.the-variants.{No, Yes}
 use Rattle.predicate.specs.Meaning.{fold, contains, outcomeOf}
+use Rattle.strategy.specs.Order.{isOrder}
 use Rattle.searchroom.specs.declared.word.Answer.{Answer}
 use Rattle.searchroom.specs.declared.word.Answer.the-variants.{Refused, Accepted}
 use Rattle.searchroom.specs.Word.{packed}
 use Rattle.searchroom.specs.Input.{Input, decodeInput}
 use Rattle.searchroom.specs.Answers.{catalogueAnswer, questionAnswer}
-use Rattle.searchroom.specs.Run.{Ran, ran, foundCount, lookCount, runOf}
+use Rattle.searchroom.specs.Run.{Ran, ran, predicateCount, counterSize, runOf}
 use Rattle.searchroom.specs.Parish.{parish, yearBlank, both, question, nested}
 
 pub data Case : Type 0 where
@@ -23,7 +25,7 @@ pub data Case : Type 0 where
   catalogueCheck : (catalogue : List ℕ) → Answer → Case
   -- checking this question against this catalogue gives this
   questionCheck : (catalogue question : List ℕ) → Answer → Case
-  -- any accepted question on this catalogue finds 0 with 0 looks
+  -- any accepted question on this catalogue, run in any order with any tables and tally, finds 0 with 0 looks and leaves them as they were
   findsNothing : (catalogue : List ℕ) → Case
   -- a byte folds to this
   folds : (byte folded : ℕ) → Case
@@ -37,7 +39,9 @@ pub data Case : Type 0 where
 abbrev pub Holds : Case → Type 0
 Holds (catalogueCheck b a) = catalogueAnswer (decodeCatalogue b) ≡ a
 Holds (questionCheck b q a) = questionAnswer (decodeInput b q) ≡ a
-Holds (findsNothing b) = (q order : List ℕ) (i : Input) → decodeInput b q ≡ accepted i → (foundCount i ≡ 0) × (lookCount i order ≡ 0)
+Holds (findsNothing b) =
+    (q order listed looks tally : List ℕ) (i : Input) → decodeInput b q ≡ accepted i → isOrder (predicateCount i) order ≡ true → Bytes tally → length tally ≡ counterSize
+    → runOf b q order listed looks tally ≡ ran (packed (Accepted 0 0 0)) listed looks tally
 Holds (folds x y) = fold x ≡ y
 Holds (numberOutcome kind o n a) = outcomeOf (numbers (n ∷ [])) kind o 0 ≡ a
 Holds (isIn o t b) = contains o t ≡ b

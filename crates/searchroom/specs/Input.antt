@@ -1,7 +1,7 @@
 -- A catalogue and a question decoded together: what every call but the catalogue's check begins with.
 use Prim.Native.Nat.{ℕ}
 use mathlib.Core.List.{List}
-use Rattle.fields.specs.Decoded.{Decoded, refused, accepted}
+use Rattle.fields.specs.Decoded.{Decoded, mapped, andThen}
 use Rattle.catalogue.specs.Catalogue.{Catalogue}
 use Rattle.catalogue.specs.Decode.{decodeCatalogue}
 use Rattle.query.specs.Query.{Query}
@@ -12,13 +12,8 @@ pub record Input : Type 0 where
   pub query : Query
 
 abbrev pub withQuery : Catalogue → Decoded Query → Decoded Input
-withQuery C (refused e) = refused e
-withQuery C (accepted Q) = accepted (record { catalogue = C; query = Q })
-
-abbrev pub thenQuestion : Decoded Catalogue → (question : List ℕ) → Decoded Input
-thenQuestion (refused e) q = refused e
-thenQuestion (accepted C) q = withQuery C (decodeQuery C q)
+withQuery C d = mapped (λ Q. record { catalogue = C; query = Q }) d
 
 -- "Checking a question first gives 1 to 6 for the catalogue, then walks the question."
 unfoldable pub decodeInput : (catalogue question : List ℕ) → Decoded Input
-decodeInput b q = thenQuestion (decodeCatalogue b) q
+decodeInput b q = andThen (decodeCatalogue b) (λ C. withQuery C (decodeQuery C q))

@@ -2,6 +2,7 @@ pub mod Bools
 pub mod Assignment
 pub mod AssignmentLaws
 pub mod Strategy
+pub mod Fixing
 pub mod Trace
 pub mod DueLaws
 pub mod Turns

@@ -1,16 +1,21 @@
--- Every right strategy makes each of our probes: on every assignment, and so over all rows.
+-- Every right strategy makes each of our probes, on every assignment.
 use Prim.Native.Nat.{ℕ, _≤_}
 use native.Mathlib.Omega.{arith}
-use mathlib.Core.Path.{refl, sym, _∙_, subst}
-use mathlib.Core.List.{List, [], _∷_}
+use mathlib.Core.Path.{_≡_, refl, sym, _∙_, subst}
+use mathlib.Core.List.{List, [], _∷_, _++_}
 use lib.ListN.{length}
 use Rattle.strategy.specs.Assignment.{Assignment, Among, Once, AgreeOff}
-use Rattle.strategy.specs.Strategy.{Formula, Strategy, run, predicates, Right, Optimality}
-use Rattle.strategy.specs.Trace.{trace, RightFixing, ProbesOurs, sumOver}
+use Rattle.strategy.specs.Strategy.{Formula, Due, Strategy, run, predicates, probes, Right}
+use Rattle.strategy.specs.Trace.{trace}
+use Rattle.strategy.specs.Fixing.{RightFixing}
 use Rattle.strategy.specs.Turns.{probed-from, counted-from}
 use Rattle.strategy.specs.TraceLaws.{trace-due}
 
--- THE THEOREM, in general: a strategy that is right wherever `fixed`'s outcomes off the order are kept makes each of our
+-- demand 3 on one assignment: `S` makes each of our probes
+abbrev pub ProbesOurs : Formula → List ℕ → Strategy → Assignment → Type 0
+ProbesOurs f order S a = (c : ℕ) → Among c (predicates (trace f a order)) → Among c (probes S a order)
+
+-- THE THEOREM, in general (order 8 runs orders that leave predicates out): a strategy that is right wherever `fixed`'s outcomes off the order are kept makes each of our
 -- probes there. The order has no repeats; nothing else is asked of the order or the formula.
 pub optimal-fixing : (f : Formula) (order : List ℕ) → Once order → (S : Strategy) (fixed : Assignment) → RightFixing fixed f order S
     → (a : Assignment) → AgreeOff order a fixed → ProbesOurs f order S a
@@ -29,26 +34,13 @@ pub optimal-count : (f : Formula) (order : List ℕ) → Once order → (S : Str
     → (a : Assignment) → length (trace f a order) ≤ length (run S a order)
 optimal-count f order o S R a = optimal-count-fixing f order o S a (λ q g. R q) a (λ d n. refl)
 
--- the same from the plain sentence, with no test: what is due at its turn is probed
+-- the same as a plain sentence, with no test: on every assignment a right strategy probes whatever is due at its turn
+abbrev pub Optimality : Type 0
+Optimality =
+    (f : Formula) (order : List ℕ) → Once order → (S : Strategy) → Right f order S → (a : Assignment)
+    → (before : List ℕ) (c : ℕ) (later : List ℕ) → order ≡ before ++ (c ∷ later) → Due f c later a → Among c (probes S a order)
+
 pub optimality : Optimality
 optimality f order o S R a before c later e D =
     optimal f order o S R a c (subst (λ (l : List ℕ). Among c (predicates (trace f a l))) (sym e)
     (trace-due f a before c later (subst Once e o) .1 D))
-
-sum-le : {R : Type 0} (m n : R → ℕ) → ((r : R) → m r ≤ n r) → (rows : List R) → sumOver m rows ≤ sumOver n rows
-unfolding sumOver
-sum-le m n h [] = omega arith
-sum-le m n h (r ∷ rows) = omega (arith, h r, sum-le m n h rows)
-
--- OVER THE ROWS OF A RUN: `truth` gives each row its true outcomes; our probes over all rows are at most the strategy's
-pub optimal-sum-fixing : {R : Type 0} (f : Formula) (order : List ℕ) → Once order → (S : Strategy) (fixed : Assignment) → RightFixing fixed f order S
-    → (truth : R → Assignment) → ((r : R) → AgreeOff order (truth r) fixed) → (rows : List R)
-    → sumOver (λ r. length (trace f (truth r) order)) rows ≤ sumOver (λ r. length (run S (truth r) order)) rows
-optimal-sum-fixing f order o S fixed R truth g =
-    sum-le (λ r. length (trace f (truth r) order)) (λ r. length (run S (truth r) order)) (λ r. optimal-count-fixing f order o S fixed R (truth r) (g r))
-
-pub optimal-sum : {R : Type 0} (f : Formula) (order : List ℕ) → Once order → (S : Strategy) → Right f order S
-    → (truth : R → Assignment) (rows : List R)
-    → sumOver (λ r. length (trace f (truth r) order)) rows ≤ sumOver (λ r. length (run S (truth r) order)) rows
-optimal-sum f order o S R truth =
-    sum-le (λ r. length (trace f (truth r) order)) (λ r. length (run S (truth r) order)) (λ r. optimal-count f order o S R (truth r))

@@ -1,10 +1,9 @@
 -- Ours as a strategy.
 use Prim.Native.Nat.{ℕ}
-use mathlib.Core.Path.{_≡_}
 use mathlib.Core.Bool.{cond}
 use mathlib.Core.List.{List, [], _∷_}
 use lib.Dec.{eqb}
-use Rattle.strategy.specs.Assignment.{Assignment, allNo, update, AgreeOn}
+use Rattle.strategy.specs.Assignment.{Assignment, allNo, update}
 use Rattle.strategy.specs.Strategy.{Formula, State, Strategy}
 use Rattle.strategy.specs.Trace.{due}
 
@@ -29,7 +28,3 @@ ours f order = record {
   probe = λ c s. due f c (after c order) (passedAsNo s);
   answer = λ s. f (passedAsNo s);
 }
-
--- the formula's value hangs on the order's predicates alone
-abbrev pub ReadsOnly : Formula → List ℕ → Type 0
-ReadsOnly f order = (q r : Assignment) → AgreeOn order q r → f q ≡ f r

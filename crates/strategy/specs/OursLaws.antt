@@ -8,9 +8,10 @@ use Rattle.strategy.specs.Bools.{iff-eq, eqb-self, eqb-ne}
 use Rattle.strategy.specs.Assignment.{Assignment, allNo, update, Among, Once, AgreeOff, AgreeOn, keepIf}
 use Rattle.strategy.specs.AssignmentLaws.{update-same, update-other, update-off, off-more, among?}
 use Rattle.strategy.specs.Strategy.{Formula, Due, State, Strategy, turn, runFrom, run, answerOf, Right}
-use Rattle.strategy.specs.Trace.{due, trace, RightFixing}
+use Rattle.strategy.specs.Fixing.{ReadsOnly, RightFixing}
+use Rattle.strategy.specs.Trace.{due, trace}
 use Rattle.strategy.specs.DueLaws.{due-law, idle}
-use Rattle.strategy.specs.Ours.{recall, passedAsNo, after, ours, ReadsOnly}
+use Rattle.strategy.specs.Ours.{recall, passedAsNo, after, ours}
 
 -- a probe adds its outcome to what the state tells
 recall-last : (a : Assignment) (s : State) (c : ℕ) (b : Bool) → recall a (s ++ ((c, b) ∷ [])) ≡ update (recall a s) c b

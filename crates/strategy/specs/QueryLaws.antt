@@ -1,15 +1,14 @@
--- Demand 3 for a query's tree and an accepted order.
-use Prim.Native.Nat.{ℕ, _≤_}
+-- Ours, for a query's tree and an accepted order.
+use Prim.Native.Nat.{ℕ}
 use native.Mathlib.Omega.{arith}
 use mathlib.Core.Path.{_≡_}
 use mathlib.Core.Bool.{true}
 use mathlib.Core.List.{List}
-use lib.ListN.{length}
 use Rattle.strategy.specs.Assignment.{Assignment}
-use Rattle.strategy.specs.Strategy.{Strategy, run, Right}
-use Rattle.strategy.specs.Trace.{trace, ProbesOurs, sumOver}
-use Rattle.strategy.specs.Optimality.{optimal, optimal-sum}
-use Rattle.strategy.specs.Ours.{ours, ReadsOnly}
+use Rattle.strategy.specs.Strategy.{run, Right}
+use Rattle.strategy.specs.Trace.{trace}
+use Rattle.strategy.specs.Fixing.{ReadsOnly}
+use Rattle.strategy.specs.Ours.{ours}
 use Rattle.strategy.specs.OursLaws.{ours-trace, ours-right}
 use Rattle.strategy.specs.Tree.{Tree, eval, size, Numbered}
 use Rattle.strategy.specs.TreeLaws.{eval-run}
@@ -31,12 +30,3 @@ module _ (t : Tree ℕ) (n : Numbered t 0) (order : List ℕ) (accepted : isOrde
   -- and right whatever the assignment
   pub query-right : Right (eval t) order (ours (eval t) order)
   query-right = ours-right (eval t) order (held .once) query-reads
-
-  -- every right strategy makes each of our probes, on every assignment
-  pub query-optimal : (S : Strategy) → Right (eval t) order S → (a : Assignment) → ProbesOurs (eval t) order S a
-  query-optimal S R a = optimal (eval t) order (held .once) S R a
-
-  -- and over all rows at least as many
-  pub query-optimal-sum : {R : Type 0} (S : Strategy) → Right (eval t) order S → (truth : R → Assignment) (rows : List R)
-      → sumOver (λ r. length (trace (eval t) (truth r) order)) rows ≤ sumOver (λ r. length (run S (truth r) order)) rows
-  query-optimal-sum S R = optimal-sum (eval t) order (held .once) S R

@@ -1,9 +1,9 @@
--- Demand 3 on one screen: when a predicate is due, what a strategy is, when it is right, and what every right one does.
+-- The words of demand 3 on one screen: when a predicate is due, what a strategy is, what it probes, and when it is right.
 use Prim.Native.Nat.{ℕ}
 use mathlib.Core.Path.{_≡_}
 use mathlib.Core.Bool.{Bool, true, false, cond}
 use mathlib.Core.List.{List, [], _∷_, _++_}
-use Rattle.strategy.specs.Assignment.{Assignment, update, Among, Once, AgreeOff}
+use Rattle.strategy.specs.Assignment.{Assignment, update, AgreeOff}
 
 -- a query as a function: its value on each assignment; a tree's value is one such
 abbrev pub Formula : Type 0
@@ -50,9 +50,3 @@ answerOf S a order = S .answer (run S a order)
 -- right whatever the assignment
 abbrev pub Right : Formula → List ℕ → Strategy → Type 0
 Right f order S = (a : Assignment) → answerOf S a order ≡ f a
-
--- DEMAND 3, proved as `optimality`: on every assignment a right strategy probes whatever is due at its turn
-abbrev pub Optimality : Type 0
-Optimality =
-    (f : Formula) (order : List ℕ) → Once order → (S : Strategy) → Right f order S → (a : Assignment)
-    → (before : List ℕ) (c : ℕ) (later : List ℕ) → order ≡ before ++ (c ∷ later) → Due f c later a → Among c (probes S a order)

@@ -9,7 +9,8 @@ use Rattle.strategy.specs.Assignment.{Assignment, Among, elem, Once, kee
 use Rattle.strategy.specs.Strategy.{Formula, Due, State, predicates}
 use Rattle.strategy.specs.Trace.{due, trace}
 use Rattle.strategy.specs.DueLaws.{due-law}
-use Rattle.strategy.specs.Ours.{passedAsNo, ours, ReadsOnly}
+use Rattle.strategy.specs.Fixing.{ReadsOnly}
+use Rattle.strategy.specs.Ours.{passedAsNo, ours}
 use Rattle.strategy.specs.OursLaws.{ours-trace, ours-right}
 
 -- at each turn the predicate is in the trace, or it is not
