@@ -8,6 +8,7 @@ use mathlib.Core.Bool.{true, false, cond}
 use mathlib.Core.List.{List, [], _∷_, _++_, append-assoc, append-nil}
 use lib.ListN.{length, set, length-append}
 use lib.Dec.{ltb}
+use Rattle.fields.specs.Decoded.{refused, accepted}
 use Rattle.fields.specs.Header.{headerAt, headerSize, fieldEnd}
 use Rattle.fields.proofs.Tests.{tests}
 use Rattle.strategy.specs.Bools.{which, ltb-lt, ltb-le}
@@ -20,7 +21,7 @@ use Rattle.query.specs.declared.member.MemberField.the-variants as field
 use Rattle.query.specs.declared.reader.Progress.{Progress}
 use Rattle.query.specs.declared.reader.Progress.the-variants.{Refused, Next}
 use Rattle.query.specs.Format.{predicateLimit, depthLimit, depthOf}
-use Rattle.query.specs.Decode.{payloadAt, memberField, Read, stopped, read, settling, asGroup, putBefore, memberThen, member, members}
+use Rattle.query.specs.Decode.{payloadAt, memberField, Read, settling, asGroup, putBefore, memberThen, member, members}
 use Rattle.query.specs.Places.{Placed}
 use Rattle.query.specs.Table.{predicatesAt}
 use Rattle.query.specs.Ancestors.{Tables, tables, ancestorsWidth, ancestorsSize, heightAt, groupOver, ancestorsOf, Low, Under, Kept, Spans, Closed}
@@ -75,8 +76,8 @@ module _ (q : List ℕ) (n : ℕ) (T T1 T2 : Tables) where
   put-reported : (o : Read (Forest ℕ)) (t : Tree ℕ) (ps : List Predicate) (r : Progress) → size t ≡ length ps
       → predicatesAt q (T1 .places) (n + length ps) ≡ predicatesAt q (T .places) n ++ ps → AncestorsGained n (length ps) (enclosing t n) T T1
       → Reported q enclosingIn (n + length ps) o r T1 T2 → Reported q enclosingIn n (putBefore t ps o) r T T2
-  put-reported (stopped e) t ps r s a A b = b
-  put-reported (read f rest next) t ps r s a A b = record {
+  put-reported (refused e) t ps r s a A b = b
+  put-reported (accepted (f, rest, next)) t ps r s a A b = record {
     answer = simp (length-append, ← add-assoc) (b .answer);
     shown = simp (length-append, ← add-assoc, ← append-assoc) (b .shown ∙ ap (λ l. l ++ rest) a);
     ancestors = simp length-append (gained-more n (length ps) (length rest) t f T T1 T2 s A (b .ancestors));
@@ -85,24 +86,24 @@ module _ (q : List ℕ) (n : ℕ) (T T1 T2 : Tables) where
   then-reported : (tags : List ℕ) (at end number : ℕ) (o : Read (Tree ℕ)) (p m : ℕ) (r : Progress) (go : List Predicate → ℕ → Read (Forest ℕ))
       → SoundTree tags q at end number o → Reported q enclosing n o (Next p m) T T1
       → Reported q enclosingIn m (go (predicatesAt q (T1 .places) m) p) r T1 T2 → Reported q enclosingIn n (memberThen o (λ ps next. go (predicatesAt q (T .places) n ++ ps) next)) r T T2
-  then-reported tags at end number (stopped e) p m r go s h l = let z : _≡_ {A = ℕ} 0 1 = cc in absurd (omega arith)
-  then-reported tags at end number (read t ps next) p m r go s h l =
+  then-reported tags at end number (refused e) p m r go s h l = let z : _≡_ {A = ℕ} 0 1 = cc in absurd (omega arith)
+  then-reported tags at end number (accepted (t, ps, next)) p m r go s h l =
       let z : p ≡ next = cc in
       let y : m ≡ n + length ps = cc in
       put-reported (go (predicatesAt q (T .places) n ++ ps) next) t ps r (s .counted) (h .shown) (h .ancestors) (rw (z, y, h .shown) at l)
 
   then-refused : (o : Read (Tree ℕ)) (e : ℕ) (go : List Predicate → ℕ → Read (Forest ℕ)) → Reported q enclosing n o (Refused e) T T1 → Reported q enclosingIn n (memberThen o go) (Refused e) T T1
-  then-refused (stopped x) e go h = h
-  then-refused (read t ps next) e go h = let z : _≡_ {A = ℕ} 0 1 = cc in absurd (omega arith)
+  then-refused (refused x) e go h = h
+  then-refused (accepted (t, ps, next)) e go h = let z : _≡_ {A = ℕ} 0 1 = cc in absurd (omega arith)
 
   group-refused : (o : Read (Forest ℕ)) (tag e : ℕ) → Reported q enclosingIn n o (Refused e) T T1 → Reported q enclosing n (asGroup tag o) (Refused e) T T2
-  group-refused (stopped x) tag e h = h
-  group-refused (read f ps next) tag e h = let z : _≡_ {A = ℕ} 0 1 = cc in absurd (omega arith)
+  group-refused (refused x) tag e h = h
+  group-refused (accepted (f, ps, next)) tag e h = let z : _≡_ {A = ℕ} 0 1 = cc in absurd (omega arith)
 
   group-reported : (tags : List ℕ) (at end number : ℕ) (o : Read (Forest ℕ)) (tag p m : ℕ) → SoundForest tags q at end number o → Reported q enclosingIn n o (Next p m) T T1
       → T2 .places ≡ T1 .places → Closed n m m tag (T1 .ancestors) (T2 .ancestors) → Reported q enclosing n (asGroup tag o) (Next p m) T T2
-  group-reported tags at end number (stopped x) tag p m s h a C = let z : _≡_ {A = ℕ} 0 1 = cc in absurd (omega arith)
-  group-reported tags at end number (read f ps next) tag p m s h a C =
+  group-reported tags at end number (refused x) tag p m s h a C = let z : _≡_ {A = ℕ} 0 1 = cc in absurd (omega arith)
+  group-reported tags at end number (accepted (f, ps, next)) tag p m s h a C =
       let y : m ≡ n + length ps = cc in
       record {
         answer = h .answer;

@@ -18,7 +18,7 @@ use Rattle.query.specs.declared.member.MemberField.{MemberField}
 use Rattle.query.specs.declared.member.MemberField.the-variants as field
 use Rattle.query.specs.Format.{predicateLimit, bytesAfterQuery}
 use Rattle.query.specs.Query.{Query}
-use Rattle.query.specs.Decode.{payloadAt, payloadOf, memberField, Read, stopped, read, asGroup, fieldThen, putBefore, memberThen, unlessEnd, member, members, wholeQuery, decodeTagged}
+use Rattle.query.specs.Decode.{payloadAt, payloadOf, memberField, Read, asGroup, fieldThen, putBefore, memberThen, unlessEnd, member, members, wholeQuery, decodeTagged}
 use Rattle.query.specs.Sound.{SoundField}
 use Rattle.query.proofs.Records.{operand-bytes}
 use Rattle.query.proofs.Repeats.{payload-parts}
@@ -62,12 +62,12 @@ pub record ForestSound (tags q : List ℕ) (at end number : ℕ) (f : Forest ℕ
   pub each : Each (Fits tags q) ps
 
 abbrev pub SoundTree : (tags q : List ℕ) → (at end number : ℕ) → Read (Tree ℕ) → Type 0
-SoundTree tags q at end number (stopped e) = Unit {0}
-SoundTree tags q at end number (read t ps next) = TreeSound tags q at end number t ps next
+SoundTree tags q at end number (refused e) = Unit {0}
+SoundTree tags q at end number (accepted (t, ps, next)) = TreeSound tags q at end number t ps next
 
 abbrev pub SoundForest : (tags q : List ℕ) → (at end number : ℕ) → Read (Forest ℕ) → Type 0
-SoundForest tags q at end number (stopped e) = Unit {0}
-SoundForest tags q at end number (read f ps next) = ForestSound tags q at end number f ps next
+SoundForest tags q at end number (refused e) = Unit {0}
+SoundForest tags q at end number (accepted (f, ps, next)) = ForestSound tags q at end number f ps next
 
 operand-inside : (q : List ℕ) (start end : ℕ) → payloadHead ≤ length (payloadAt q start end)
     → start + payloadHead + length (drop payloadHead (payloadAt q start end)) ≤ length q
@@ -93,8 +93,8 @@ module _ (tags q : List ℕ) where
     group-sound : (o : Read (Forest ℕ)) (tag start stop : ℕ) → at < start → start < stop → stop ≤ end → SoundForest tags q start stop number o
         → SoundTree tags q at end number (asGroup tag o)
     unfolding size
-    group-sound (stopped e) tag start stop a b c s = tt
-    group-sound (read f ps next) tag start stop a b c s =
+    group-sound (refused e) tag start stop a b c s = tt
+    group-sound (accepted (f, ps, next)) tag start stop a b c s =
         let n : start ≡ stop → ⊥ = λ e. omega arith in
         record {
           past = omega (arith, s .past);
@@ -127,8 +127,8 @@ module _ (tags q : List ℕ) where
     more-sound : (t : Tree ℕ) (ps : List Predicate) (next : ℕ) (o : Read (Forest ℕ)) → TreeSound tags q at end number t ps next
         → SoundForest tags q next end (number + length ps) o → SoundForest tags q at end number (putBefore t ps o)
     unfolding size
-    more-sound t ps next (stopped e) s r = tt
-    more-sound t ps next (read f rest last) s r = record {
+    more-sound t ps next (refused e) s r = tt
+    more-sound t ps next (accepted (f, rest, last)) s r = record {
       past = omega (arith, s .past, r .past);
       inside = r .inside;
       some = λ n. rw length-append (omega (arith, s .some));
@@ -143,8 +143,8 @@ module _ (tags q : List ℕ) where
     member-then-sound : (o : Read (Tree ℕ)) (rest : List Predicate → ℕ → Read (Forest ℕ)) → SoundTree tags q at end number o
         → ((ps : List Predicate) (next : ℕ) → SoundForest tags q next end (number + length ps) (rest ps next))
         → SoundForest tags q at end number (memberThen o rest)
-    member-then-sound (stopped e) rest s r = tt
-    member-then-sound (read t ps next) rest s r = more-sound t ps next (rest ps next) s (r ps next)
+    member-then-sound (refused e) rest s r = tt
+    member-then-sound (accepted (t, ps, next)) rest s r = more-sound t ps next (rest ps next) s (r ps next)
 
     unless-end-sound : (b : Bool) (o : Read (Forest ℕ)) → eqb at end ≡ b → SoundForest tags q at end number o → SoundForest tags q at end number (unlessEnd b at o)
     unfolding size
@@ -197,5 +197,5 @@ decoded-sound tags q Q h = go (member (2 * length q + 1) tags q 0 (length q) 0 [
     whole t ps next false e s i = let z : _≡_ {A = ℕ} 0 1 = cc in absurd (omega arith)
 
     go : (o : Read (Tree ℕ)) → SoundTree tags q 0 (length q) 0 o → wholeQuery q o ≡ accepted Q → TreeSound tags q 0 (length q) 0 (Q .tree) (Q .predicates) (length q)
-    go (stopped e) s i = let z : _≡_ {A = ℕ} 0 1 = cc in absurd (omega arith)
-    go (read t ps next) s i = whole t ps next (eqb next (length q)) refl s i
+    go (refused e) s i = let z : _≡_ {A = ℕ} 0 1 = cc in absurd (omega arith)
+    go (accepted (t, ps, next)) s i = whole t ps next (eqb next (length q)) refl s i

@@ -17,18 +17,18 @@ use Rattle.query.specs.declared.member.MemberField.the-variants as field
 use Rattle.query.specs.Format.{bytesAfterQuery}
 use Rattle.query.specs.Query.{Query}
 use Rattle.query.specs.Sound.{IsRefusal, SoundField}
-use Rattle.query.specs.Decode.{memberField, Read, stopped, read, asGroup, fieldThen, putBefore, memberThen, unlessEnd, member, members, wholeQuery, decodeTagged, decodeQuery}
+use Rattle.query.specs.Decode.{memberField, Read, asGroup, fieldThen, putBefore, memberThen, unlessEnd, member, members, wholeQuery, decodeTagged, decodeQuery}
 use Rattle.query.proofs.Fields.{field-sound}
 use Rattle.query.proofs.Readings.{SoundTree, member-sound}
 
 abbrev Stopping : {A : Type 0} → Read A → Type 0
-Stopping (stopped e) = IsRefusal e
-Stopping (read x ps next) = Unit {0}
+Stopping (refused e) = IsRefusal e
+Stopping (accepted (x, ps, next)) = Unit {0}
 
 module _ (tags q : List ℕ) where
   group-stopping : (tag : ℕ) (o : Read (Forest ℕ)) → Stopping o → Stopping (asGroup tag o)
-  group-stopping tag (stopped e) s = s
-  group-stopping tag (read f ps next) s = tt
+  group-stopping tag (refused e) s = s
+  group-stopping tag (accepted (f, ps, next)) s = tt
 
   field-stopping : (at end depth number : ℕ) (h : MemberField) (go : ℕ → ℕ → Read (Forest ℕ)) → SoundField tags q at end depth number h
       → ((start stop : ℕ) → start ≡ at + headerSize → start < stop → stop ≤ end → Stopping (go start stop)) → Stopping (fieldThen q number h go)
@@ -37,13 +37,13 @@ module _ (tags q : List ℕ) where
   field-stopping at end depth number (field.Group tag start stop) go s g = group-stopping tag (go start stop) (g start stop (s .0) (s .1) (s .2))
 
   before-stopping : (t : Tree ℕ) (ps : List Predicate) (o : Read (Forest ℕ)) → Stopping o → Stopping (putBefore t ps o)
-  before-stopping t ps (stopped e) s = s
-  before-stopping t ps (read f rest next) s = tt
+  before-stopping t ps (refused e) s = s
+  before-stopping t ps (accepted (f, rest, next)) s = tt
 
   then-stopping : (at end number : ℕ) (o : Read (Tree ℕ)) (rest : List Predicate → ℕ → Read (Forest ℕ)) → Stopping o → SoundTree tags q at end number o
       → ((ps : List Predicate) (next : ℕ) → at < next → next ≤ end → Stopping (rest ps next)) → Stopping (memberThen o rest)
-  then-stopping at end number (stopped e) rest s k r = s
-  then-stopping at end number (read t ps next) rest s k r = before-stopping t ps (rest ps next) (r ps next (k .past) (k .inside))
+  then-stopping at end number (refused e) rest s k r = s
+  then-stopping at end number (accepted (t, ps, next)) rest s k r = before-stopping t ps (rest ps next) (r ps next (k .past) (k .inside))
 
   end-stopping : (b : Bool) (at : ℕ) (o : Read (Forest ℕ)) → Stopping o → Stopping (unlessEnd b at o)
   end-stopping true at o s = tt
@@ -81,8 +81,8 @@ query-refusing C q =
     end false t ps = omega arith
 
     go : (o : Read (Tree ℕ)) → Stopping o → QueryRefusing (wholeQuery q o)
-    go (stopped e) r = r
-    go (read t ps next) r = end (eqb next (length q)) t ps
+    go (refused e) r = r
+    go (accepted (t, ps, next)) r = end (eqb next (length q)) t ps
 
 pub query-refusal : (C : Catalogue) (q : List ℕ) (e : ℕ) → decodeQuery C q ≡ refused e → (7 ≤ e) × (e ≤ 14)
 query-refusal C q e h = rw h at (query-refusing C q)

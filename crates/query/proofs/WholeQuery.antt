@@ -8,6 +8,7 @@ use mathlib.Core.List.{List, [], _∷_, _++_}
 use lib.ListN.{length}
 use lib.Dec.{ltb, leb, eqb}
 use borrow.Author.Tests.{eq-eqb, ne-eqb, leb-true, ltb-true}
+use Rattle.fields.specs.Decoded.{refused, accepted}
 use Rattle.strategy.specs.Bools.{same?}
 use Rattle.strategy.specs.Tree.{Tree}
 use Rattle.strategy.specs.Climb.{enclosing}
@@ -19,7 +20,7 @@ use Rattle.predicate.proofs.PayloadLaws.{valid-payload}
 use Rattle.query.specs.declared.reader.Progress.the-variants as progress
 use Rattle.query.specs.declared.whole.Reading.the-variants.{Refused, Accepted}
 use Rattle.query.specs.Format.{bytesAfterQuery}
-use Rattle.query.specs.Decode.{payloadOf, Read, stopped, read, member, wholeQuery, decodeTagged}
+use Rattle.query.specs.Decode.{payloadOf, Read, member, wholeQuery, decodeTagged}
 use Rattle.query.specs.Table.{recordAt, predicateIn, predicatesAt}
 use Rattle.query.specs.Ancestors.{Tables}
 use Rattle.query.specs.Reader.{Reported, MemberRead}
@@ -69,16 +70,16 @@ module _ (tags q : List ℕ) (T T1 : Tables) where
   whole-refused e h = go (member (2 * length q + 1) tags q 0 (length q) 0 []) (reported (progress.Refused e) h)
     where
       go : (o : Read (Tree ℕ)) → Reported q enclosing 0 o (progress.Refused e) T T1 → Handed tags q (wholeQuery q o) (Refused e) T1
-      go (stopped x) t = let z : e ≡ x = cc in (ap Refused z, rw z at (h .within))
-      go (read t ps next) d = let z : _≡_ {A = ℕ} 0 1 = cc in absurd (omega arith)
+      go (refused x) t = let z : e ≡ x = cc in (ap Refused z, rw z at (h .within))
+      go (accepted (t, ps, next)) d = let z : _≡_ {A = ℕ} 0 1 = cc in absurd (omega arith)
 
   pub whole-left : (p m : ℕ) → MemberRead tags q 0 (length q) 0 0 (progress.Next p m) T T1 → (p ≡ length q → ⊥) → Handed tags q (decodeTagged tags q) (Refused bytesAfterQuery) T1
   unfolding decodeTagged
   whole-left p m h n = go (member (2 * length q + 1) tags q 0 (length q) 0 []) (reported (progress.Next p m) h)
     where
       go : (o : Read (Tree ℕ)) → Reported q enclosing 0 o (progress.Next p m) T T1 → Handed tags q (wholeQuery q o) (Refused bytesAfterQuery) T1
-      go (stopped x) t = let z : _≡_ {A = ℕ} 0 1 = cc in absurd (omega arith)
-      go (read t ps next) d = let z : next ≡ p = cc in rw (z, ne-eqb _ _ n) (refl, (omega arith, omega arith))
+      go (refused x) t = let z : _≡_ {A = ℕ} 0 1 = cc in absurd (omega arith)
+      go (accepted (t, ps, next)) d = let z : next ≡ p = cc in rw (z, ne-eqb _ _ n) (refl, (omega arith, omega arith))
 
   pub whole-accepted : (p m : ℕ) → MemberRead tags q 0 (length q) 0 0 (progress.Next p m) T T1 → p ≡ length q → TablesSized T1
       → Handed tags q (decodeTagged tags q) (Accepted m) T1
@@ -87,8 +88,8 @@ module _ (tags q : List ℕ) (T T1 : Tables) where
       go (member (2 * length q + 1) tags q 0 (length q) 0 []) (reported (progress.Next p m) h) (member-sound (2 * length q + 1) tags q 0 (length q) 0 [])
     where
       go : (o : Read (Tree ℕ)) → Reported q enclosing 0 o (progress.Next p m) T T1 → SoundTree tags q 0 (length q) 0 o → Handed tags q (wholeQuery q o) (Accepted m) T1
-      go (stopped x) t k = let z : _≡_ {A = ℕ} 0 1 = cc in absurd (omega arith)
-      go (read t ps next) d k =
+      go (refused x) t k = let z : _≡_ {A = ℕ} 0 1 = cc in absurd (omega arith)
+      go (accepted (t, ps, next)) d k =
           let z : next ≡ p = cc in
           let y : m ≡ length ps = (let w : m ≡ 0 + length ps = cc in omega arith) in
           let l : predicatesAt q (T1 .places) (length ps) ≡ ps = (let w : 0 + length ps ≡ length ps = omega arith in rw w at (d .shown)) in

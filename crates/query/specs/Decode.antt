@@ -6,7 +6,7 @@ use lib.ListN.{length, take, drop}
 use lib.Dec.{leb, eqb}
 use Rattle.fields.specs.declared.header.Header.{Header}
 use Rattle.fields.specs.declared.header.Header.the-variants.{Cut, Field}
-use Rattle.fields.specs.Decoded.{Decoded, refused, accepted}
+use Rattle.fields.specs.Decoded.{Decoded, refused, accepted, mapped, andThen}
 use Rattle.fields.specs.Header.{headerAt}
 use Rattle.catalogue.specs.Catalogue.{Catalogue}
 use Rattle.strategy.specs.Tree.{Tree, leaf, group, Forest, none, more}
@@ -49,54 +49,49 @@ memberField tags q depth earlier (Field tag start end) =
     cond (eqb tag predicateTag) (predicateField tags q earlier start end)
     (cond (eqb tag conjunctionTag || eqb tag disjunctionTag) (groupField depth tag start end) (field.Refused unknownTag))
 
--- what a reading gives: a refusal, or a value, the predicates read and the place after them
-pub data Read (A : Type 0) : Type 0 where
-  stopped : ℕ → Read A
-  read : A → List Predicate → ℕ → Read A
+-- what a reading gives: a value, the predicates read and the place after them
+abbrev pub Read : Type 0 → Type 0
+Read A = Decoded (A × List Predicate × ℕ)
 
 -- the outcome that settles a group: no for all-of, yes for any-of
 abbrev pub settling : (tag : ℕ) → Bool
 settling tag = eqb tag disjunctionTag
 
 abbrev pub asGroup : (tag : ℕ) → Read (Forest ℕ) → Read (Tree ℕ)
-asGroup tag (stopped e) = stopped e
-asGroup tag (read f ps next) = read (group (settling tag) f) ps next
+asGroup tag r = mapped (λ (f, ps, next). (group (settling tag) f, ps, next)) r
 
 -- a member, from its field; its number is how many predicates stand before it
 abbrev pub fieldThen : (q : List ℕ) → (number : ℕ) → MemberField → (ℕ → ℕ → Read (Forest ℕ)) → Read (Tree ℕ)
-fieldThen q number (field.Refused e) members = stopped e
-fieldThen q number (field.Leaf start end) members = read (leaf number) (predicateOf (start + payloadHead) (payloadAt q start end) ∷ []) end
+fieldThen q number (field.Refused e) members = refused e
+fieldThen q number (field.Leaf start end) members = accepted (leaf number, predicateOf (start + payloadHead) (payloadAt q start end) ∷ [], end)
 fieldThen q number (field.Group tag start end) members = asGroup tag (members start end)
 
 abbrev pub putBefore : Tree ℕ → List Predicate → Read (Forest ℕ) → Read (Forest ℕ)
-putBefore t ps (stopped e) = stopped e
-putBefore t ps (read f rest next) = read (more t f) (ps ++ rest) next
+putBefore t ps r = mapped (λ (f, rest, next). (more t f, ps ++ rest, next)) r
 
 abbrev pub memberThen : Read (Tree ℕ) → (List Predicate → ℕ → Read (Forest ℕ)) → Read (Forest ℕ)
-memberThen (stopped e) rest = stopped e
-memberThen (read t ps next) rest = putBefore t ps (rest ps next)
+memberThen r rest = andThen r (λ (t, ps, next). putBefore t ps (rest ps next))
 
 abbrev pub unlessEnd : Bool → (at : ℕ) → Read (Forest ℕ) → Read (Forest ℕ)
-unlessEnd true at r = read none [] at
+unlessEnd true at r = accepted (none, [], at)
 unlessEnd false at r = r
 
 -- a member, and the members up to an end: "A group holds members and a member may be a group again".
 -- The first argument bounds the calls; twice the bytes left is always enough.
 unfoldable mutual
   pub member : ℕ → (tags q : List ℕ) → (at end depth : ℕ) → (earlier : List Predicate) → Read (Tree ℕ)
-  member zero tags q at end depth earlier = stopped 0
+  member zero tags q at end depth earlier = refused 0
   member (suc k) tags q at end depth earlier =
       fieldThen q (length earlier) (memberField tags q depth earlier (headerAt q at end)) (λ s e. members k tags q s e (depth + 1) earlier)
 
   pub members : ℕ → (tags q : List ℕ) → (at end depth : ℕ) → (earlier : List Predicate) → Read (Forest ℕ)
-  members zero tags q at end depth earlier = stopped 0
+  members zero tags q at end depth earlier = refused 0
   members (suc k) tags q at end depth earlier =
       unlessEnd (eqb at end) at (memberThen (member k tags q at end depth earlier) (λ ps next. members k tags q next end depth (earlier ++ ps)))
 
 -- "The question is one field of these"; "At the end: 14, bytes left over"
 abbrev pub wholeQuery : List ℕ → Read (Tree ℕ) → Decoded Query
-wholeQuery q (stopped e) = refused e
-wholeQuery q (read t ps next) = cond (eqb next (length q)) (accepted (record { tree = t; predicates = ps })) (refused bytesAfterQuery)
+wholeQuery q r = andThen r (λ (t, ps, next). cond (eqb next (length q)) (accepted (record { tree = t; predicates = ps })) (refused bytesAfterQuery))
 
 -- a question against a catalogue whose columns have these tags
 unfoldable pub decodeTagged : (tags q : List ℕ) → Decoded Query

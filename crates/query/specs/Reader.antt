@@ -3,6 +3,7 @@ use Prim.Native.Nat.{ℕ, _+_, _-_, _*_, _≤_, _<_}
 use mathlib.Core.Path.{_≡_}
 use mathlib.Core.List.{List, _++_}
 use lib.ListN.{length}
+use Rattle.fields.specs.Decoded.{refused, accepted}
 use Rattle.fields.specs.Header.{headerSize}
 use Rattle.strategy.specs.Tree.{Tree, Forest, InRun}
 use Rattle.strategy.specs.Climb.{Group, enclosing, enclosingIn}
@@ -10,7 +11,7 @@ use Rattle.predicate.specs.Meaning.{Predicate}
 use Rattle.query.specs.declared.reader.Progress.{Progress}
 use Rattle.query.specs.declared.reader.Progress.the-variants.{Refused, Next}
 use Rattle.query.specs.Format.{predicateLimit, depthLimit}
-use Rattle.query.specs.Decode.{Read, stopped, read, member, members}
+use Rattle.query.specs.Decode.{Read, member, members}
 use Rattle.query.specs.Places.{Placed, Located}
 use Rattle.query.specs.Table.{predicatesAt}
 use Rattle.query.specs.Ancestors.{Tables, ancestorsSize, ancestorsOf, Low, Under, Kept, Spans}
@@ -29,8 +30,8 @@ pub record PredicatesGained (q : List ℕ) (around : ℕ → List Group) (n : �
 
 -- r is the answer to a reading that began with n predicates in the tables T, and T′ are the tables then
 abbrev pub Reported : {A : Type 0} → (q : List ℕ) → (A → ℕ → ℕ → List Group) → (n : ℕ) → Read A → Progress → Tables → Tables → Type 0
-Reported q around n (stopped e) r T T′ = r ≡ Refused e
-Reported q around n (read t ps next) r T T′ = PredicatesGained q (around t n) n ps next r T T′
+Reported q around n (refused e) r T T′ = r ≡ Refused e
+Reported q around n (accepted (t, ps, next)) r T T′ = PredicatesGained q (around t n) n ps next r T T′
 
 -- a reading that is past `at`, still within `end` and within the limits
 pub record Advanced (at end depth n : ℕ) (q : List ℕ) (next m : ℕ) (T T′ : Tables) : Type 0 where
