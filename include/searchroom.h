@@ -28,6 +28,9 @@
 #include <stddef.h>
 #include <stdint.h>
 
+/* The release; the pkg-config file has the same. */
+#define SEARCHROOM_VERSION "0.1.0"
+
 #ifdef __cplusplus
 extern "C" {
 #endif

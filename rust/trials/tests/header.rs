@@ -1,0 +1,112 @@
+//! The C header repeats numbers of the crates: each is the same in both, and the header's version is the workspace's.
+
+use std::collections::BTreeMap;
+use std::fs;
+use std::path::Path;
+
+use searchroom::Refusal;
+
+const HEADER: &str = include_str!("../../../include/searchroom.h");
+
+/// A constant of the header and the crates' constant that it repeats.
+const SAME: [(&str, &str); 24] = [
+    ("MAX_ENTRIES", "Row::LIMIT"),
+    ("MAX_COLUMNS", "Column::LIMIT"),
+    ("MAX_TEXT", "Text::LIMIT"),
+    ("MAX_CONDITIONS", "Predicate::LIMIT"),
+    ("MAX_DEPTH", "Group::DEPTH_LIMIT"),
+    ("TALLY_BYTES", "Counter::SIZE"),
+    ("CATALOGUE_FIELD", "Refusal::FIELD_CUT"),
+    ("CATALOGUE_HEADER", "Refusal::NOT_CATALOGUE"),
+    ("CATALOGUE_LIMITS", "Refusal::COUNTS_OUT_OF_RANGE"),
+    ("COLUMN_FORM", "Refusal::NOT_COLUMN"),
+    ("TEXT_SLOT", "Refusal::BAD_SLOT"),
+    ("CATALOGUE_LEFT_OVER", "Refusal::BYTES_AFTER_COLUMNS"),
+    ("QUESTION_FIELD", "Refusal::MEMBER_CUT"),
+    ("UNKNOWN_TAG", "Refusal::UNKNOWN_TAG"),
+    ("EMPTY_GROUP", "Refusal::EMPTY_GROUP"),
+    ("TOO_DEEP", "Refusal::TOO_DEEP"),
+    ("BAD_CONDITION", "Refusal::INVALID_PAYLOAD"),
+    ("TOO_MANY_CONDITIONS", "Refusal::TOO_MANY_PREDICATES"),
+    ("REPEATED_CONDITION", "Refusal::REPEATED_PAYLOAD"),
+    ("QUESTION_LEFT_OVER", "Refusal::BYTES_AFTER_QUERY"),
+    ("BAD_ORDER", "Refusal::NOT_ORDER"),
+    ("SHORT_TABLE", "Refusal::TABLE_TOO_SHORT"),
+    ("BAD_TALLY", "Refusal::COUNTER_REFUSED"),
+    ("NO_SUCH_PLACE", "Refusal::NO_SUCH_PLACE"),
+];
+
+/// Refusal 19 is the program's, and no call of the library gives it.
+const PROGRAM_ALONE: &str = "Refusal::UNREADABLE";
+
+type Constants = BTreeMap<String, u64>;
+
+/// The constants of the header's enums, without the prefix that all of them have.
+fn header_constants() -> Constants {
+    let constant = |line: &str| {
+        let (name, rest) = line.strip_prefix("    SEARCHROOM_")?.split_once(" = ")?;
+        let digits: String = rest.chars().take_while(char::is_ascii_digit).collect();
+        Some((name.to_string(), digits.parse().expect(line)))
+    };
+    HEADER.lines().filter_map(constant).collect()
+}
+
+/// The name and value of an associated constant, if this line of a crate has one that is a decimal number.
+fn constant(line: &str) -> Option<(&str, u64)> {
+    let (name, rest) = line.strip_prefix("    pub const ")?.split_once(": ")?;
+    let (_, value) = rest.strip_suffix(';')?.split_once(" = ")?;
+    Some((name, value.parse().ok()?))
+}
+
+/// The crates' constants, each with the name of its type, as `Row::LIMIT`.
+fn crate_constants() -> Constants {
+    let crates = Path::new(env!("CARGO_MANIFEST_DIR")).join("../../crates");
+    let mut found = Constants::new();
+    for folder in fs::read_dir(crates).unwrap() {
+        for file in fs::read_dir(folder.unwrap().path().join("src")).unwrap() {
+            let mut owner = String::new();
+            for line in fs::read_to_string(file.unwrap().path()).unwrap().lines() {
+                if let Some(of) = line.strip_prefix("impl ") {
+                    owner = of.trim_end_matches(" {").to_string();
+                } else if let Some((name, value)) = constant(line) {
+                    let name = format!("{owner}::{name}");
+                    assert_eq!(*found.entry(name.clone()).or_insert(value), value, "{name} has two values");
+                }
+            }
+        }
+    }
+    found
+}
+
+#[test]
+fn header_has_the_constants_of_the_crates() {
+    let of = crate_constants();
+    let mut expected: Constants = SAME.iter().map(|&(name, same)| (name.to_string(), of[same])).collect();
+    let row = of["Row::LIMIT"].div_ceil(8);
+    expected.insert("ACCEPTED".to_string(), 0);
+    expected.insert("LISTED_BYTES".to_string(), row);
+    expected.insert("LOOKS_BYTES".to_string(), row * of["Predicate::LIMIT"]);
+    let header = header_constants();
+    for name in header.keys().chain(expected.keys()) {
+        assert_eq!(header.get(name), expected.get(name), "SEARCHROOM_{name}: the header's and the crates'");
+    }
+}
+
+#[test]
+fn every_refusal_of_the_crates_is_in_the_header_and_in_the_wrapper() {
+    let mut of_crates: Vec<u64> = Vec::new();
+    for (name, number) in crate_constants() {
+        if name.starts_with("Refusal::") && name != PROGRAM_ALONE {
+            assert!(SAME.iter().any(|&(_, same)| same == name), "{name} is not in the header");
+            of_crates.push(number);
+        }
+    }
+    of_crates.sort_unstable();
+    let of_wrapper: Vec<u64> = Refusal::ALL.iter().map(|refusal| refusal.number().into()).collect();
+    assert_eq!(of_crates, of_wrapper);
+}
+
+#[test]
+fn header_has_the_version_of_the_workspace() {
+    assert!(HEADER.contains(&format!("\n#define SEARCHROOM_VERSION \"{}\"\n", env!("CARGO_PKG_VERSION"))));
+}
