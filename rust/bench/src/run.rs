@@ -1,5 +1,5 @@
 use evaluator::{Catalogue, Column, Condition, Question, Test, Tree};
-use generator::{Rng, catalogue_of, encode_catalogue, encode_question, question_of};
+use generator::{Rng, catalogue_of, encode_catalogue, encode_question, question_of, running_order};
 
 use crate::{plain, timing};
 
@@ -66,8 +66,7 @@ fn settled_early(rng: &mut Rng) -> Asked {
 
 impl Asked {
     pub fn new(rng: &mut Rng, catalogue: &Catalogue, question: &Question) -> Asked {
-        let mut order: Vec<u8> = (0..question.conditions.len() as u8).collect();
-        rng.shuffle(&mut order);
+        let order = running_order(rng, question.conditions.len());
         Asked { catalogue: encode_catalogue(catalogue), question: encode_question(question), order }
     }
 
