@@ -10,7 +10,8 @@ use crate::timing::medians;
 /// What a look costs on top of the checks: the time of a run less that of `check_question`, which checks the catalogue and
 /// the question as a run does first, over the number of looks. What a run does once, whatever its looks, is in it.
 pub fn report() {
-    println!("{:<50} {:>10} {:>10} {:>10} {:>10}", "run", "looks", "run us", "checks us", "ns a look");
+    println!("| {:<48} | {:>6} | {:>9} | {:>9} | ns a look |", "run", "looks", "run us", "checks us");
+    println!("|---|---|---|---|---|");
     let mut rng = Rng::new(9);
     let made = places::catalogue(&mut rng);
     for (name, column, test) in [
@@ -61,5 +62,5 @@ fn row(what: &str, asked: &Asked) {
     };
     let [run, checks] = medians([&mut run, &mut checks]);
     let each = (run - checks) / f64::from(looks);
-    println!("{what:<50} {looks:>10} {:>10.2} {:>10.2} {:>10.2}", run * 1e6, checks * 1e6, each * 1e9);
+    println!("| {what:<48} | {looks:>6} | {:>9.2} | {:>9.2} | {:>9.2} |", run * 1e6, checks * 1e6, each * 1e9);
 }

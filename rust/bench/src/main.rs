@@ -25,6 +25,5 @@ fn main() {
     run::report(&mut table);
     against_sqlite::report(&mut table);
     table.print_end();
-    println!();
     look::report();
 }

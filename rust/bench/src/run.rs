@@ -44,5 +44,5 @@ fn against_plain(table: &mut Table, what: &str, aim: Option<f64>, asked: &Asked)
     let found = Some(asked.engine()().found.into());
     assert!(found == every() && found == in_order(), "{what}: the engines differ");
     table.row(what, "plain Rust, every outcome", aim, asked.engine(), every);
-    table.row(what, "plain Rust, && and ||", None, asked.engine(), in_order);
+    table.row(what, "plain Rust, in tree order", None, asked.engine(), in_order);
 }
