@@ -29,5 +29,6 @@ uint8_t *read_file(const char *path, size_t *len);
 void catalogue_cases(void);
 void question_cases(void);
 void run_cases(void);
+void blocks_cases(void);
 
 #endif

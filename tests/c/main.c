@@ -66,6 +66,7 @@ int main(void)
     catalogue_cases();
     question_cases();
     run_cases();
+    blocks_cases();
     printf("%u passed, %u failed\n", passed, failed);
     return failed == 0 ? 0 : 1;
 }

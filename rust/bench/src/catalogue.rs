@@ -1,19 +1,20 @@
 use evaluator::{Catalogue, Column};
 use generator::{Rng, encode_catalogue, text};
 
-use crate::{plain, timing};
+use crate::plain;
+use crate::table::Table;
 
 /// Checking a catalogue: against the plain check, and against one pass that only sums the bytes.
-pub fn report() {
-    for (columns, entries) in [(16, 2_048), (1, 2_048), (1, 64)] {
+pub fn report(table: &mut Table) {
+    for (columns, entries, aim) in [(16, 2_048, 0.33), (1, 2_048, 0.33), (1, 64, 0.40)] {
         let what = format!("check_catalogue, {entries} entries, text columns: {columns}");
         let bytes = texts(columns, entries);
         let size = searchroom::check_catalogue(&bytes).expect("the benchmark's catalogues are sound");
         let plainly = || plain::check_catalogue(&bytes).map(|read| (read.entries, read.columns.len()));
         assert_eq!(plainly(), Ok((size.entries.into(), size.columns.into())));
         let engine = || searchroom::check_catalogue(&bytes);
-        timing::compare(&what, "plain Rust check", engine, plainly);
-        timing::compare(&what, "one pass summing the bytes", engine, || sum(&bytes));
+        table.row(&what, "plain Rust check", None, engine, plainly);
+        table.row(&what, "one pass summing the bytes", Some(aim), engine, || sum(&bytes));
     }
 }
 

@@ -1,20 +1,29 @@
-//! Prints one table of ratios: the engine's time over that of something plain that does the same work.
+//! Prints a table of ratios, the engine's time over that of something that does the same work, and a table of what a look
+//! costs on top of the checks.
 //!
-//! The two sides of a line are timed in turn, in the same run and on the same bytes, and the medians are compared; a
-//! ratio under 1 says that the engine is faster. Times alone would say more about the machine than about the engine.
+//! What is compared is timed in turn, in the same run and on the same bytes, and the medians are compared; a ratio under 1
+//! says that the engine is faster. Times alone would say more about the machine than about the engine.
 
 mod against_sqlite;
+mod asked;
 mod catalogue;
+mod look;
+mod places;
 mod plain;
 mod question;
 mod run;
 mod sqlite;
+mod table;
 mod timing;
 
+use table::Table;
+
 fn main() {
-    timing::print_head();
-    catalogue::report();
-    question::report();
-    run::report();
-    against_sqlite::report();
+    let mut table = Table::with_head();
+    catalogue::report(&mut table);
+    question::report(&mut table);
+    run::report(&mut table);
+    against_sqlite::report(&mut table);
+    table.print_end();
+    look::report();
 }

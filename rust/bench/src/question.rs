@@ -1,11 +1,12 @@
 use evaluator::Question;
 use generator::{Rng, catalogue_of, encode_catalogue, encode_question, question_of};
 
-use crate::{plain, timing};
+use crate::plain;
+use crate::table::Table;
 
 /// Checking a question and working out one condition, against the plain calls. The catalogue is small, so that the time
 /// is the question's.
-pub fn report() {
+pub fn report(table: &mut Table) {
     let mut rng = Rng::new(3);
     let made = catalogue_of(&mut rng, 8, 6);
     let catalogue = encode_catalogue(&made);
@@ -16,11 +17,11 @@ pub fn report() {
         let engine = || searchroom::check_question(&catalogue, &question);
         assert_eq!(engine(), Ok(count as u16));
         assert_eq!(plain::check_question(&catalogue, &question), Ok(count));
-        timing::compare(&what, "plain Rust check", engine, || plain::check_question(&catalogue, &question));
+        table.row(&what, "plain Rust check", None, engine, || plain::check_question(&catalogue, &question));
         let what = format!("outcome, conditions: {count}, depth up to {depth}");
         let engine = || searchroom::outcome(&catalogue, &question, 7, 0);
         let plainly = || plain::outcome(&catalogue, &question, 7, 0);
         assert_eq!(engine().map(|answer| answer == searchroom::Answer::Yes).ok(), plainly().ok());
-        timing::compare(&what, "plain Rust outcome", engine, plainly);
+        table.row(&what, "plain Rust outcome", None, engine, plainly);
     }
 }

@@ -1,25 +1,22 @@
-use evaluator::{Catalogue, Column, Condition, Question, Test, Tree};
-use generator::{Rng, catalogue_of, encode_catalogue, encode_question, question_of};
+use evaluator::{Condition, Question, Test, Tree};
+use generator::{Rng, question_of};
 
-use crate::{plain, timing};
+use crate::asked::{Asked, mixed, settled_early};
+use crate::plain;
+use crate::table::Table;
 
-/// A catalogue and a question with its running order, as bytes.
-pub struct Asked {
-    catalogue: Vec<u8>,
-    question: Vec<u8>,
-    order: Vec<u8>,
-}
+/// The ratios wanted to the engine that works out every outcome, at the most entries and at one block of them.
+const AT_2048: Option<f64> = Some(0.15);
+const AT_64: Option<f64> = Some(0.35);
 
 /// Runs of a question: against plain engines that make the same checks and list the same entries.
-pub fn report() {
+pub fn report(table: &mut Table) {
     let mut rng = Rng::new(4);
     let made = mixed(&mut rng, 2_048);
     for (count, depth) in [(1, 1), (6, 1), (6, 3), (20, 1), (20, 3), (20, 8), (64, 1), (64, 3), (64, 8)] {
         let question = question_of(&mut rng, &made, count, depth);
-        against_plain(
-            &format!("run, conditions: {count}, depth up to {depth}"),
-            &Asked::new(&mut rng, &made, &question),
-        );
+        let asked = Asked::new(&mut rng, &made, &question);
+        against_plain(table, &format!("run, conditions: {count}, depth up to {depth}"), AT_2048, &asked);
     }
     for (name, test) in [
         ("contains", Test::Contains(b"hby".to_vec())),
@@ -28,67 +25,24 @@ pub fn report() {
     ] {
         let condition = Condition { column: 1, test, opposite: false };
         let question = Question { tree: Tree::Condition(0), conditions: vec![condition] };
-        against_plain(&format!("run, one condition: {name}"), &Asked::new(&mut rng, &made, &question));
+        let asked = Asked::new(&mut rng, &made, &question);
+        against_plain(table, &format!("run, one condition: {name}"), AT_2048, &asked);
     }
-    against_plain("run, 20 conditions, settled by the first", &settled_early(&mut rng));
-    for entries in [64, 256, 1_024, 2_048] {
+    against_plain(table, "run, 20 conditions, settled by the first", AT_2048, &settled_early(&mut rng));
+    for (entries, aim) in [(64, AT_64), (256, None), (1_024, None), (2_048, AT_2048)] {
         let made = mixed(&mut rng, entries);
         let question = question_of(&mut Rng::new(5), &made, 12, 3);
-        against_plain(&format!("run, 12 conditions, {entries} entries"), &Asked::new(&mut rng, &made, &question));
+        let asked = Asked::new(&mut rng, &made, &question);
+        against_plain(table, &format!("run, 12 conditions, {entries} entries"), aim, &asked);
     }
 }
 
-/// Six columns, numbers and texts in turn.
-fn mixed(rng: &mut Rng, entries: usize) -> Catalogue {
-    let mut columns = Vec::new();
-    while columns.len() < 6 {
-        let column = catalogue_of(rng, entries, 1).columns.remove(0);
-        if matches!(column, Column::Numbers(_)) == (columns.len() % 2 == 0) {
-            columns.push(column);
-        }
-    }
-    Catalogue { entries, columns }
-}
-
-/// All of: a year that few entries have, then nineteen texts to be searched.
-fn settled_early(rng: &mut Rng) -> Asked {
-    let made = mixed(rng, 2_048);
-    let mut conditions =
-        vec![Condition { column: 0, test: Test::NumberFrom { low: 1_701, high: 1_702 }, opposite: false }];
-    conditions.extend((0..19).map(|n| Condition {
-        column: 1,
-        test: Test::Contains(vec![b'a' + n, b'x']),
-        opposite: true,
-    }));
-    let question = Question { tree: Tree::AllOf((0..20).map(Tree::Condition).collect()), conditions };
-    Asked { order: (0..20).collect(), ..Asked::new(rng, &made, &question) }
-}
-
-impl Asked {
-    pub fn new(rng: &mut Rng, catalogue: &Catalogue, question: &Question) -> Asked {
-        let mut order: Vec<u8> = (0..question.conditions.len() as u8).collect();
-        rng.shuffle(&mut order);
-        Asked { catalogue: encode_catalogue(catalogue), question: encode_question(question), order }
-    }
-
-    /// The engine's run, into tables that stay the same from run to run.
-    pub fn engine(&self) -> impl FnMut() -> Option<u32> {
-        let (mut listed, mut looks) = ([0; 256], [0; 16_384]);
-        move || {
-            let mut tally = [0; 8];
-            searchroom::run(&self.catalogue, &self.question, &self.order, &mut listed, &mut looks, &mut tally)
-                .ok()
-                .map(|counts| counts.found.into())
-        }
-    }
-}
-
-fn against_plain(what: &str, asked: &Asked) {
+fn against_plain(table: &mut Table, what: &str, aim: Option<f64>, asked: &Asked) {
     let (mut first, mut second) = ([0; 256], [0; 256]);
     let mut every = || plain::run_every_outcome(&asked.catalogue, &asked.question, &asked.order, &mut first).ok();
     let mut in_order = || plain::run_in_tree_order(&asked.catalogue, &asked.question, &asked.order, &mut second).ok();
-    let found = asked.engine()();
-    assert!(found.is_some() && found == every() && found == in_order(), "{what}: the engines differ");
-    timing::compare(what, "plain Rust, every outcome", asked.engine(), every);
-    timing::compare(what, "plain Rust, && and ||", asked.engine(), in_order);
+    let found = Some(asked.engine()().found.into());
+    assert!(found == every() && found == in_order(), "{what}: the engines differ");
+    table.row(what, "plain Rust, every outcome", aim, asked.engine(), every);
+    table.row(what, "plain Rust, in tree order", None, asked.engine(), in_order);
 }

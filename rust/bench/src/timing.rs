@@ -1,29 +1,24 @@
 use std::ffi::c_int;
-use std::hint::black_box;
 
-/// Each side is timed so many times, the two in turn.
+/// Each work is timed so many times.
 const REPETITIONS: usize = 101;
 /// A timed stretch repeats its work until it takes about so many seconds.
 const STRETCH: f64 = 0.000_5;
 
-pub fn print_head() {
-    println!("{:<50} {:<28} {:>10} {:>10} {:>7}", "engine", "compared with", "engine us", "other us", "ratio");
-}
-
-/// Times the two sides in turn and prints their medians and the ratio.
-pub fn compare<A, B>(what: &str, other: &str, mut engine: impl FnMut() -> A, mut with: impl FnMut() -> B) {
-    let times = [rounds(&mut engine), rounds(&mut with)];
-    let mut taken = [Vec::new(), Vec::new()];
+/// The median seconds of each of these works, timed in turn.
+pub fn medians<const N: usize>(mut works: [&mut dyn FnMut(); N]) -> [f64; N] {
+    let times = works.each_mut().map(|work| rounds(work));
+    let mut taken = [const { Vec::new() }; N];
     for _ in 0..REPETITIONS {
-        taken[0].push(stretch(&mut engine, times[0]));
-        taken[1].push(stretch(&mut with, times[1]));
+        for ((work, &times), taken) in works.iter_mut().zip(&times).zip(&mut taken) {
+            taken.push(stretch(work, times));
+        }
     }
-    let [engine, with] = taken.map(median);
-    println!("{what:<50} {other:<28} {:>10.2} {:>10.2} {:>7.2}", engine * 1e6, with * 1e6, engine / with);
+    taken.map(median)
 }
 
 /// How often the work is done in a stretch.
-fn rounds<T>(work: &mut impl FnMut() -> T) -> u32 {
+fn rounds(work: &mut dyn FnMut()) -> u32 {
     let mut rounds = 1;
     while stretch(work, rounds) * f64::from(rounds) < STRETCH {
         rounds *= 2;
@@ -32,10 +27,10 @@ fn rounds<T>(work: &mut impl FnMut() -> T) -> u32 {
 }
 
 /// Seconds for one time of the work, over `rounds` of it.
-fn stretch<T>(work: &mut impl FnMut() -> T, rounds: u32) -> f64 {
+fn stretch(work: &mut dyn FnMut(), rounds: u32) -> f64 {
     let start = processor_seconds();
     for _ in 0..rounds {
-        black_box(work());
+        work();
     }
     (processor_seconds() - start) / f64::from(rounds)
 }

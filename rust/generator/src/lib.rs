@@ -6,6 +6,8 @@ mod catalogue;
 mod county;
 mod damage;
 mod encode;
+mod near;
+mod outcomes;
 mod question;
 mod rng;
 
@@ -13,5 +15,7 @@ pub use catalogue::{catalogue, catalogue_of, text};
 pub use county::county;
 pub use damage::{Damage, damage};
 pub use encode::{encode_catalogue, encode_condition, encode_question, encode_texts, field};
-pub use question::{condition, faulty_question, question, question_of};
+pub use near::{near_text, operand};
+pub use outcomes::{BLOCK, Pattern, with_outcomes};
+pub use question::{condition, faulty_question, question, question_of, running_order, tree_of};
 pub use rng::Rng;

@@ -19,7 +19,19 @@ pub fn question_of(rng: &mut Rng, catalogue: &Catalogue, count: usize, depth: us
             conditions.push(condition);
         }
     }
-    Question { tree: tree(rng, 0, count, depth), conditions }
+    Question { tree: tree_of(rng, count, depth), conditions }
+}
+
+/// A tree over `count` conditions, its groups at most `depth` deep, which is at least 1.
+pub fn tree_of(rng: &mut Rng, count: usize, depth: usize) -> Tree {
+    tree(rng, 0, count, depth)
+}
+
+/// The numbers of `count` conditions in some order.
+pub fn running_order(rng: &mut Rng, count: usize) -> Vec<u8> {
+    let mut order: Vec<u8> = (0..count as u8).collect();
+    rng.shuffle(&mut order);
+    order
 }
 
 /// A tree over the condition numbers from `first`, `count` of them, with groups at most `depth` deep.

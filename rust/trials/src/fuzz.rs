@@ -6,7 +6,9 @@
 use std::collections::HashSet;
 
 use evaluator::{question_word, read_catalogue};
-use generator::{Damage, Rng, catalogue_of, damage, encode_catalogue, encode_question, field, question_of};
+use generator::{
+    Damage, Rng, catalogue_of, damage, encode_catalogue, encode_question, field, question_of, running_order,
+};
 
 use crate::{
     PARISH_CATALOGUE, PARISH_ORDER, PARISH_QUESTION, Run, Seen, compare_catalogue, compare_outcome, compare_question,
@@ -166,8 +168,7 @@ fn fit(rng: &mut Rng, given: &mut Run) {
     let word = question_word(&given.catalogue, &given.question);
     if let (Ok(catalogue), 0) = (read_catalogue(&given.catalogue), word as u8) {
         let (row, count) = (catalogue.entries.div_ceil(8), (word >> 8) as usize);
-        given.order = (0..count as u8).collect();
-        rng.shuffle(&mut given.order);
+        given.order = running_order(rng, count);
         (given.listed, given.looks) = (rng.bytes(row), rng.bytes(row * count));
         given.tally = rng.bytes(8);
     }

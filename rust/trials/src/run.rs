@@ -1,6 +1,7 @@
 use std::fmt;
 
-use evaluator::Ran;
+use evaluator::{Catalogue, Question, Ran};
+use generator::{encode_catalogue, encode_question};
 
 use crate::{Lent, Side, fault, hex};
 
@@ -26,6 +27,19 @@ impl fmt::Display for Run {
 }
 
 impl Run {
+    /// A run with tables just long enough, filled with ones, and a tally of 0.
+    pub fn fitting(catalogue: &Catalogue, question: &Question, order: &[u8]) -> Run {
+        let row = catalogue.entries.div_ceil(8);
+        Run {
+            catalogue: encode_catalogue(catalogue),
+            question: encode_question(question),
+            order: order.to_vec(),
+            listed: vec![0xFF; row],
+            looks: vec![0xFF; row * question.conditions.len()],
+            tally: vec![0; 8],
+        }
+    }
+
     fn slices(&self) -> [&[u8]; 6] {
         [&self.catalogue, &self.question, &self.order, &self.listed, &self.looks, &self.tally]
     }

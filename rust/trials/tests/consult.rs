@@ -4,7 +4,9 @@ use std::fs;
 use std::os::unix::fs::{PermissionsExt, symlink};
 
 use evaluator::{Catalogue, Column, Condition, Question, Test, Tree, refused_register, register};
-use generator::{Rng, catalogue_of, encode_catalogue, encode_question, faulty_question, field, question_of};
+use generator::{
+    Rng, catalogue_of, encode_catalogue, encode_question, faulty_question, field, question_of, running_order,
+};
 use trials::{PARISH_CATALOGUE, PARISH_ORDER, PARISH_QUESTION, Room, Seen};
 
 const FILES: [(&str, usize); 3] = [("catalogue.bin", 65_536), ("question.bin", 4_096), ("order.bin", 64)];
@@ -193,8 +195,7 @@ fn random_consultations() {
         let faults = *rng.pick(&[0, 0, 0, 10]);
         let asked = faulty_question(&mut rng, &made, faults);
         let word = evaluator::question_word(&catalogue, &asked);
-        let mut order: Vec<u8> = (0..(word >> 8) as u8).collect();
-        rng.shuffle(&mut order);
+        let order = running_order(&mut rng, usize::from((word >> 8) as u8));
         if asked.len() <= 4_096 {
             consult(&format!("seed {seed}"), &catalogue, &asked, &order);
             seen.count(word);

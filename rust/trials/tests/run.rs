@@ -2,24 +2,11 @@
 
 use evaluator::{Catalogue, Column, Condition, Question, Ran, Test, Tree, pack, refused};
 use generator::{
-    Damage, Rng, catalogue, catalogue_of, damage, encode_catalogue, encode_question, faulty_question, field, question,
-    question_of,
+    Damage, Rng, catalogue, catalogue_of, damage, encode_catalogue, faulty_question, field, question, question_of,
+    running_order,
 };
 use searchroom::{Refusal, consult};
 use trials::{PARISH_CATALOGUE, PARISH_ORDER, PARISH_QUESTION, Run, Seen, compare_run};
-
-/// A run with tables just long enough, filled with ones, and a tally of 0.
-fn fitting(catalogue: &Catalogue, question: &Question, order: &[u8]) -> Run {
-    let row = catalogue.entries.div_ceil(8);
-    Run {
-        catalogue: encode_catalogue(catalogue),
-        question: encode_question(question),
-        order: order.to_vec(),
-        listed: vec![0xFF; row],
-        looks: vec![0xFF; row * question.conditions.len()],
-        tally: vec![0; 8],
-    }
-}
 
 fn parish(order: &[u8]) -> Run {
     Run {
@@ -30,13 +17,6 @@ fn parish(order: &[u8]) -> Run {
         looks: vec![0; 3],
         tally: vec![0; 8],
     }
-}
-
-/// The condition numbers in some order.
-fn shuffled(rng: &mut Rng, count: usize) -> Vec<u8> {
-    let mut order: Vec<u8> = (0..count as u8).collect();
-    rng.shuffle(&mut order);
-    order
 }
 
 /// One entry for each pattern of `count` outcomes: condition c is met at entry e exactly if bit c of e is one.
@@ -82,13 +62,13 @@ fn proved_case_7_no_entries() {
     for (count, depth) in [(1, 1), (1, 8), (5, 2), (64, 8)] {
         let mut rng = Rng::new(count as u64);
         let asked = question_of(&mut rng, &nobody, count, depth);
-        let order = shuffled(&mut rng, count);
+        let order = running_order(&mut rng, count);
         for (tables, tally) in [(0, 0), (3, u64::MAX)] {
             let given = Run {
                 listed: vec![7; tables],
                 looks: vec![7; tables],
                 tally: tally.to_be_bytes().to_vec(),
-                ..fitting(&nobody, &asked, &order)
+                ..Run::fitting(&nobody, &asked, &order)
             };
             let ran = compare_run("no entries", &given);
             assert_eq!((ran.word, ran.listed, ran.tally), (pack(0, 0, 0), given.listed, given.tally));
@@ -131,20 +111,20 @@ fn orders_of_sixty_four() {
     let asked = question_of(&mut rng, &made, 64, 4);
     let forward: Vec<u8> = (0..64).collect();
     let backward: Vec<u8> = (0..64).rev().collect();
-    for order in [forward.clone(), backward, shuffled(&mut rng, 64), shuffled(&mut rng, 64)] {
-        assert_eq!(compare_run("64 conditions", &fitting(&made, &asked, &order)).word as u8, 0);
+    for order in [forward.clone(), backward, running_order(&mut rng, 64), running_order(&mut rng, 64)] {
+        assert_eq!(compare_run("64 conditions", &Run::fitting(&made, &asked, &order)).word as u8, 0);
     }
     for at in 0..64 {
         for value in [(at as u8 + 1) % 64, 64, 128 + at as u8, 255] {
             let mut order = forward.clone();
             order[at] = value;
             let label = format!("64 conditions, place {at} set to {value}");
-            assert_eq!(compare_run(&label, &fitting(&made, &asked, &order)).word, refused(15));
+            assert_eq!(compare_run(&label, &Run::fitting(&made, &asked, &order)).word, refused(15));
         }
     }
     for length in [63, 65] {
         let order: Vec<u8> = (0..length).collect();
-        assert_eq!(compare_run("63 or 65 long", &fitting(&made, &asked, &order)).word, refused(15));
+        assert_eq!(compare_run("63 or 65 long", &Run::fitting(&made, &asked, &order)).word, refused(15));
     }
 }
 
@@ -156,7 +136,7 @@ fn tables_of_every_length() {
             let mut rng = Rng::new(entries as u64 * 100 + count as u64);
             let made = catalogue_of(&mut rng, entries, 3);
             let asked = question_of(&mut rng, &made, count, 3);
-            let fit = fitting(&made, &asked, &shuffled(&mut rng, count));
+            let fit = Run::fitting(&made, &asked, &running_order(&mut rng, count));
             let (row, rows) = (fit.listed.len(), fit.looks.len());
             for (more_listed, more_looks) in [(0, 0), (-1, 0), (0, -1), (-1, -1), (1, 0), (0, 1), (50, 70)] {
                 let length = |fit: usize, more: isize| fit.checked_add_signed(more);
@@ -243,7 +223,7 @@ fn every_pattern_in_every_order() {
         let Question { tree, .. } = question_of(&mut rng, &made, count, depth);
         let asked = Question { tree, conditions };
         for order in permutations(count) {
-            compare_run(&format!("seed {seed}, order {order:?}"), &fitting(&made, &asked, &order));
+            compare_run(&format!("seed {seed}, order {order:?}"), &Run::fitting(&made, &asked, &order));
         }
     }
 }
@@ -268,8 +248,8 @@ fn every_pattern_of_up_to_nine() {
         let (made, conditions) = every_pattern(count);
         let Question { tree, .. } = question_of(&mut rng, &made, count, depth);
         let asked = Question { tree, conditions };
-        let order = shuffled(&mut rng, count);
-        compare_run(&format!("every pattern, seed {seed}"), &fitting(&made, &asked, &order));
+        let order = running_order(&mut rng, count);
+        compare_run(&format!("every pattern, seed {seed}"), &Run::fitting(&made, &asked, &order));
     }
 }
 
@@ -289,7 +269,7 @@ fn mistakes_of_a_good_clerk() {
         let (made, conditions) = every_pattern(4);
         let asked = Question { tree, conditions };
         for order in permutations(4) {
-            compare_run(&format!("{label}, order {order:?}"), &fitting(&made, &asked, &order));
+            compare_run(&format!("{label}, order {order:?}"), &Run::fitting(&made, &asked, &order));
         }
     }
     // Year before 1700 and year after 1800 are unconnected: after one yes the other is still due.
@@ -297,7 +277,7 @@ fn mistakes_of_a_good_clerk() {
     let before = Condition { column: 0, test: Test::NumberFrom { low: 0, high: 1_699 }, opposite: false };
     let after = Condition { column: 0, test: Test::NumberFrom { low: 1_801, high: 9_999 }, opposite: false };
     let asked = Question { tree: all(vec![leaf(0), leaf(1)]), conditions: vec![before, after] };
-    let ran = compare_run("unconnected", &fitting(&years, &asked, &[0, 1]));
+    let ran = compare_run("unconnected", &Run::fitting(&years, &asked, &[0, 1]));
     assert_eq!((ran.word, ran.looks), (pack(0, 0, 4), vec![0b111, 0b001]));
 }
 
@@ -312,8 +292,8 @@ fn eight_nested_groups() {
             tree = if rng.chance(50) { Tree::AllOf(members) } else { Tree::AnyOf(members) };
         }
         let asked = Question { tree: Tree::AllOf(vec![tree]), conditions };
-        let order = shuffled(&mut rng, 8);
-        let ran = compare_run(&format!("eight nested groups, seed {seed}"), &fitting(&made, &asked, &order));
+        let order = running_order(&mut rng, 8);
+        let ran = compare_run(&format!("eight nested groups, seed {seed}"), &Run::fitting(&made, &asked, &order));
         assert_eq!(ran.word as u8, 0);
     }
 }
@@ -327,7 +307,7 @@ fn largest_run() {
     let conditions: Vec<Condition> = (0..64).map(|n| condition(if n == 0 { 0 } else { 6 + n })).collect();
     let asked = Question { tree: Tree::AllOf((0..64).map(Tree::Condition).collect()), conditions };
     let order: Vec<u8> = (0..64).collect();
-    let full = fitting(&made, &asked, &order);
+    let full = Run::fitting(&made, &asked, &order);
     let ran = compare_run("largest run", &full);
     assert_eq!(ran.word, pack(2_048, 0, 131_072));
     assert_eq!(ran.looks, vec![0xFF; 16_384]);
@@ -346,11 +326,11 @@ fn tally_over_a_sequence_of_runs() {
         let mut rng = Rng::new(seed);
         let made = catalogue_of(&mut rng, 9, 3);
         let asked = question_of(&mut rng, &made, 5, 3);
-        let mut order = shuffled(&mut rng, 5);
+        let mut order = running_order(&mut rng, 5);
         if seed % 5 == 0 {
             order.pop();
         }
-        let ran = compare_run(&format!("seed {seed}"), &Run { tally, ..fitting(&made, &asked, &order) });
+        let ran = compare_run(&format!("seed {seed}"), &Run { tally, ..Run::fitting(&made, &asked, &order) });
         sum += ran.word >> 40;
         tally = ran.tally;
         assert_eq!(tally, sum.to_be_bytes(), "after seed {seed}");
@@ -372,8 +352,8 @@ fn random_runs_are_accepted() {
         };
         let asked = if made.entries > 300 { question_of(&mut rng, &made, 6, 3) } else { question(&mut rng, &made) };
         let count = asked.conditions.len();
-        let order = shuffled(&mut rng, count);
-        let ran = compare_run(&format!("random run, seed {seed}"), &fitting(&made, &asked, &order));
+        let order = running_order(&mut rng, count);
+        let ran = compare_run(&format!("random run, seed {seed}"), &Run::fitting(&made, &asked, &order));
         assert_eq!(ran.word as u8, 0, "seed {seed}");
         listed += ran.word >> 8 & 0xFFFF;
         skipped += (made.entries * count) as u64 - (ran.word >> 40);
@@ -402,7 +382,7 @@ fn random_and_damaged_runs_reach_every_refusal() {
             word if word as u8 == 0 => (word >> 8) as usize,
             _ => rng.below(5),
         };
-        let mut order = shuffled(&mut rng, count);
+        let mut order = running_order(&mut rng, count);
         if rng.chance(10) {
             damage_order(&mut rng, &mut order);
         }

@@ -1,0 +1,53 @@
+use evaluator::{Catalogue, Column, Condition, Question, Test, Tree};
+use generator::{Rng, catalogue_of, encode_catalogue, encode_question, running_order};
+use searchroom::Counts;
+
+/// A catalogue and a question with its running order, as bytes.
+pub struct Asked {
+    pub catalogue: Vec<u8>,
+    pub question: Vec<u8>,
+    pub order: Vec<u8>,
+}
+
+impl Asked {
+    pub fn new(rng: &mut Rng, catalogue: &Catalogue, question: &Question) -> Asked {
+        let order = running_order(rng, question.conditions.len());
+        Asked { catalogue: encode_catalogue(catalogue), question: encode_question(question), order }
+    }
+
+    /// The engine's run, into tables that stay the same from run to run.
+    pub fn engine(&self) -> impl FnMut() -> Counts {
+        let (mut listed, mut looks) = ([0; 256], [0; 16_384]);
+        move || {
+            let mut tally = [0; 8];
+            searchroom::run(&self.catalogue, &self.question, &self.order, &mut listed, &mut looks, &mut tally)
+                .expect("the benchmark's questions are accepted")
+        }
+    }
+}
+
+/// Six columns, numbers and texts in turn.
+pub fn mixed(rng: &mut Rng, entries: usize) -> Catalogue {
+    let mut columns = Vec::new();
+    while columns.len() < 6 {
+        let column = catalogue_of(rng, entries, 1).columns.remove(0);
+        if matches!(column, Column::Numbers(_)) == (columns.len() % 2 == 0) {
+            columns.push(column);
+        }
+    }
+    Catalogue { entries, columns }
+}
+
+/// All of: a year that few entries have, then nineteen texts to be searched.
+pub fn settled_early(rng: &mut Rng) -> Asked {
+    let made = mixed(rng, 2_048);
+    let mut conditions =
+        vec![Condition { column: 0, test: Test::NumberFrom { low: 1_701, high: 1_702 }, opposite: false }];
+    conditions.extend((0..19).map(|n| Condition {
+        column: 1,
+        test: Test::Contains(vec![b'a' + n, b'x']),
+        opposite: true,
+    }));
+    let question = Question { tree: Tree::AllOf((0..20).map(Tree::Condition).collect()), conditions };
+    Asked { order: (0..20).collect(), ..Asked::new(rng, &made, &question) }
+}

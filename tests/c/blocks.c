@@ -1,0 +1,97 @@
+/* searchroom_run where the entries fill blocks of 64, or nearly do. The last column ends at an unreadable page. */
+#include "../../include/searchroom.h"
+#include "case.h"
+#include <string.h>
+
+enum { MOST = 2048, SLOT = 24, LONGEST = 23, CONDITIONS = 3, FURTHER = 9, FILL = 0xA7 };
+
+/* All of: the number from 2 to 5; any of: the text contains "bY", the text is blank. */
+static const uint8_t question[] = {65, 0, 28, 80, 0, 10, 0, 0, 0, 0, 0, 2, 0, 0, 0, 5,
+                                   79, 0, 12, 80, 0, 4, 1, 4, 'b', 'Y', 80, 0, 2, 1, 5};
+static const uint8_t order[CONDITIONS] = {0, 1, 2};
+
+static uint8_t made[6 + 3 + 4 * MOST + 3 + SLOT * MOST];
+
+/* The entries are of few sorts, so that neighbours differ; their texts are as long as can be or end with what is sought. */
+static unsigned number_of(unsigned entry) { return entry * 5 / 3 % 8; }
+static unsigned length_of(unsigned entry) { return entry * 7 % (LONGEST + 1); }
+static int has_by(unsigned entry) { return entry % 3 != 0 && length_of(entry) >= 2; }
+
+static size_t make(unsigned entries)
+{
+    const uint8_t first[] = {67, 0, 3, (uint8_t)(entries / 256), (uint8_t)entries, 2};
+    size_t at = sizeof first;
+    memcpy(made, first, at);
+    const unsigned sizes[] = {4, SLOT};
+    for (int column = 0; column < 2; column++) {
+        unsigned payload = sizes[column] * entries;
+        made[at++] = column == 0 ? 78 : 84;
+        made[at++] = (uint8_t)(payload / 256);
+        made[at++] = (uint8_t)payload;
+        memset(made + at, 0, payload);
+        for (unsigned entry = 0; entry < entries; entry++) {
+            uint8_t *slot = made + at + sizes[column] * entry;
+            if (column == 0) {
+                slot[3] = (uint8_t)number_of(entry);
+                continue;
+            }
+            slot[0] = (uint8_t)length_of(entry);
+            memset(slot + 1, 'b', slot[0]);
+            if (has_by(entry))
+                slot[slot[0]] = entry % 2 == 0 ? 'y' : 'Y';
+        }
+        at += payload;
+    }
+    return at;
+}
+
+/* What each bit of the tables must be, entry by entry. */
+static void expect_entry(unsigned entry, const uint8_t *listed, const uint8_t *looks, size_t row)
+{
+    unsigned in_range = number_of(entry) >= 2 && number_of(entry) <= 5;
+    unsigned by = has_by(entry) ? 1 : 0, blank = length_of(entry) == 0;
+    EXPECT_EQ(searchroom_bit(looks, entry), 1);
+    EXPECT_EQ(searchroom_bit(looks + row, entry), in_range);
+    EXPECT_EQ(searchroom_bit(looks + 2 * row, entry), in_range && !by);
+    EXPECT_EQ(searchroom_bit(listed, entry), in_range && (by || blank));
+}
+
+static void expect_run(unsigned entries)
+{
+    static uint8_t filled[CONDITIONS * MOST / 8 + FURTHER];
+    memset(filled, FILL, sizeof filled);
+    size_t catalogue_len = make(entries), row = searchroom_row(entries);
+    size_t listed_len = row + FURTHER, looks_len = CONDITIONS * row + FURTHER;
+    uint8_t *catalogue = lend(made, catalogue_len);
+    uint8_t *listed = lend(filled, listed_len), *looks = lend(filled, looks_len);
+    uint8_t tally[8] = {0};
+    uint64_t word = searchroom_run(catalogue, catalogue_len, question, sizeof question, order, sizeof order, listed,
+                                   listed_len, looks, looks_len, tally, sizeof tally);
+    EXPECT_EQ(searchroom_number(word), SEARCHROOM_ACCEPTED);
+    unsigned found = 0, looked = 0;
+    for (unsigned entry = 0; entry < entries; entry++) {
+        expect_entry(entry, listed, looks, row);
+        found += searchroom_bit(listed, entry);
+        for (unsigned condition = 0; condition < CONDITIONS; condition++)
+            looked += searchroom_bit(looks + condition * row, entry);
+    }
+    EXPECT_EQ(searchroom_found(word), found);
+    EXPECT_EQ(searchroom_look_count(word), looked);
+    EXPECT_EQ(tally[6] * 256u + tally[7], looked);
+    for (unsigned bit = entries; bit < 8 * row; bit++)
+        EXPECT_EQ(searchroom_bit(listed, bit) + searchroom_bit(looks + 2 * row, bit), 0);
+    for (size_t i = 0; i < FURTHER; i++)
+        EXPECT(listed[row + i] == FILL && looks[CONDITIONS * row + i] == FILL);
+    give_back(catalogue, catalogue_len);
+    give_back(listed, listed_len);
+    give_back(looks, looks_len);
+}
+
+static void sizes_around_multiples_of_64(void)
+{
+    for (unsigned entries = 0; entries <= MOST; entries++)
+        if (entries <= 130 || (entries + 1) % 64 <= 2)
+            expect_run(entries);
+}
+
+void blocks_cases(void) { CASE(sizes_around_multiples_of_64); }
