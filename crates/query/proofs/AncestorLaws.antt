@@ -8,10 +8,8 @@ use mathlib.Core.List.{List, [], _∷_, _++_}
 use lib.ListN.{length, getD, set, length-set}
 use lib.Seq.{getD-set-same, getD-set-other}
 use Rattle.strategy.specs.Bools.{same?}
-use Rattle.query.specs.Format.{predicateLimit, depthLimit}
-use Rattle.query.specs.Query.{Query}
-use Rattle.query.specs.Ancestors.{Tables, ancestorSize, ancestorsWidth, heightAt, ancestorPlace, groupOver, ancestorAt, ancestorsFrom, ancestorsOf, Low, IsSpan, Spans, Closed}
-use Rattle.query.specs.Handed.{Tabled}
+use Rattle.query.specs.Format.{depthLimit}
+use Rattle.query.specs.Ancestors.{ancestorSize, ancestorsWidth, heightAt, ancestorPlace, groupOver, ancestorAt, ancestorsFrom, ancestorsOf, Low, IsSpan, Spans, Closed}
 
 from-last : (A : List ℕ) (i n : ℕ) → ancestorsFrom A i (suc n) ≡ ancestorsFrom A i n ++ (ancestorAt A (i + ancestorSize * n) ∷ [])
 unfolding ancestorsFrom
@@ -194,16 +192,3 @@ module _ (A : List ℕ) (n : ℕ) (inside : ancestorsWidth * n < length A) (low 
           let i : k < heightAt A c = rw (fresh-kept c (omega arith)) at h in
           let o = s c k (omega arith) i in
           span-same A fresh c (fresh-line c z) (n + 1) k (omega arith) (o .0, omega arith)
-
--- what a reader of the table needs of ancestor k of predicate c: a span of predicates, its three bytes within the table
-pub record AncestorInside (A : List ℕ) (c k : ℕ) : Type 0 where
-  pub ordered : getD A (ancestorPlace c k) 0 ≤ getD A (ancestorPlace c k + 1) 0
-  pub few : getD A (ancestorPlace c k + 1) 0 ≤ predicateLimit
-  pub fits : ancestorPlace c k + 2 < length A
-
-pub ancestor-inside : {tags q : List ℕ} {Q : Query} {n : ℕ} {T : Tables} → Tabled tags q Q n T → (c k : ℕ) → c < n → k < heightAt (T .ancestors) c
-    → AncestorInside (T .ancestors) c k
-ancestor-inside t c k i j =
-    let s = t .spans c k i j in
-    let l = t .low c i in
-    record { ordered = s .0; few = omega (arith, t .few); fits = omega (arith, t .few, t .sized .ancestors) }

@@ -10,7 +10,7 @@ use lib.Dec.{eqb}
 use borrow.Author.Tests.{eqb-true}
 use Rattle.fields.specs.Decoded.{refused, accepted}
 use Rattle.fields.specs.Header.{headerAt}
-use Rattle.strategy.specs.Tree.{Tree, group, Forest, size, sizes, Numbered, Numbereds, HasMember, NonEmpty, NonEmpties}
+use Rattle.strategy.specs.Tree.{Tree, Forest, size, sizes, Numbered, Numbereds, HasMember, NonEmpty, NonEmpties}
 use Rattle.predicate.specs.Meaning.{Predicate}
 use Rattle.predicate.specs.Payload.{validPayload, predicateOf, payloadHead}
 use Rattle.predicate.proofs.PayloadLaws.{valid-payload}

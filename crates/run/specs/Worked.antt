@@ -19,7 +19,7 @@ use Rattle.run.specs.declared.rows.Extent.{Extent}
 use Rattle.run.specs.Run.{Task, turnsOf, told, isSelected, isProbed}
 use Rattle.run.specs.Ready.{Given, Ready}
 
--- the predicates of `start` are live at the rows, of a table of words in which none was
+-- the predicates of `start` are live at the rows, and the other words as they were
 abbrev pub Filled : (start rows : ℕ) → (before after : List ℕ) → Type 0
 Filled start rows L N = (c : ℕ) → getD N c 0 ≡ cond (member start c) rows (getD L c 0)
 

@@ -130,9 +130,6 @@ same-set (suc n) x y h k e =
     bit (suc zero) (suc (suc b)) l m q = absurd (omega arith)
     bit (suc (suc a)) b l m q = absurd (omega arith)
 
-pub empty-set : (k x : ℕ) → x < 2 ^ k → ((d : ℕ) → member x d ≡ false) → x ≡ 0
-empty-set k x h z = same-set k x 0 h (pow-pos k) (λ d. z d ∙ sym (member-none d))
-
 -- a set below `2 ^ n` holds only numbers below `n`
 member-high : (n x d : ℕ) → x < 2 ^ n → n ≤ d → member x d ≡ false
 unfolding member

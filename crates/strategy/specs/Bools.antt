@@ -137,6 +137,3 @@ leb-yes m n h = T-of (leb m n) (le→leb m n h)
 
 pub leb-le : (m n : ℕ) → leb m n ≡ true → m ≤ n
 leb-le m n e = leb→le m n (of-T (leb m n) e)
-
-pub leb-no : (m n : ℕ) → n < m → leb m n ≡ false
-leb-no m n h = not-true (leb m n) (λ e. let l : m ≤ n = leb-le m n e in omega arith)
