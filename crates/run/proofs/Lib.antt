@@ -1,3 +1,4 @@
 pub mod Fills
 pub mod Blocks
 pub mod BlockLoop
+pub mod Prepared
