@@ -2,10 +2,9 @@
 use Prim.Native.Nat.{ℕ, suc, _+_, _-_, _*_, _≤_, _<_}
 use native.Mathlib.Omega.{arith}
 use mathlib.Core.Path.{_≡_, refl, sym, ap, ap₂, _∙_}
-use mathlib.Core.Bool.{Bool, false}
+use mathlib.Core.Bool.{Bool}
 use mathlib.Core.List.{List, [], _∷_}
 use lib.ListN.{length, getD}
-use Rattle.strategy.specs.Live.{Step, through}
 use Rattle.strategy.specs.Climb.{Group, climb}
 use Rattle.strategy.specs.ClimbLaws.{climb-stopped}
 use Rattle.sets.specs.Set.{member}

@@ -2,7 +2,7 @@
 use Prim.Native.Nat.{ℕ, _+_, _*_, _/_, _≤_, _<_}
 use native.Mathlib.Omega.{arith}
 use mathlib.Core.Path.{_≡_, refl, sym, ap, _∙_, subst}
-use mathlib.Core.Bool.{Bool, true, false, _&&_, cond}
+use mathlib.Core.Bool.{Bool, true, false, cond}
 use mathlib.Core.Logic.{_⊎_, inl, inr}
 use mathlib.Core.List.{List}
 use lib.ListN.{length, length-set, getD, set}
@@ -18,8 +18,8 @@ use Rattle.strategy.specs.ClimbLaws.{climb-less}
 use Rattle.sets.specs.Set.{member}
 use Rattle.sets.specs.SetLaws.{member-none}
 use Rattle.sets.specs.Kept.{KeptBy}
-use Rattle.bitmaps.specs.Table.{lineSize, lineBits}
-use Rattle.bitmaps.specs.Word.{blockRows, wordSize, WordPut}
+use Rattle.bitmaps.specs.Table.{lineSize}
+use Rattle.bitmaps.specs.Word.{wordSize, WordPut}
 use Rattle.query.specs.Format.{predicateLimit}
 use Rattle.query.specs.Ancestors.{ancestorsOf}
 use Rattle.blocks.specs.Block.{rowLive, rowStep, Climbed, HasAncestors}

@@ -1,22 +1,21 @@
 -- The turns of a block: every row of it by itself, as the theory has it.
-use Prim.Native.Nat.{ℕ, _+_, _*_, _/_, _%_, _≤_, _<_}
+use Prim.Native.Nat.{ℕ, _+_, _*_, _/_, _≤_, _<_}
 use native.Mathlib.Omega.{arith}
 use native.Mathlib.Numerals.{add-one}
 use mathlib.Core.Path.{_≡_, refl, sym, ap, ap₂, _∙_, subst, fun-ext}
 use mathlib.Core.Bool.{Bool, true, false, _&&_, _||_, cond, or-false}
 use mathlib.Core.Logic.{_⊎_, inl, inr}
-use mathlib.Core.List.{List, [], _∷_}
+use mathlib.Core.List.{List, _∷_}
 use lib.Dec.{eqb, ltb}
-use lib.ListN.{length, getD, set, drop, drop-of-length-le, replicate}
+use lib.ListN.{length, getD, set, drop, drop-of-length-le}
 use lib.Seq.{getD-set-same, getD-set-other, drop-cons}
 use lib.Bits.{bitAnd, bitOr}
 use Rattle.strategy.specs.Bools.{which, same?, eqb-self, eqb-ne, ltb-lt, ltb-le}
-use Rattle.strategy.specs.Assignment.{Assignment, Among, Once}
-use Rattle.strategy.specs.Tree.{Tree}
+use Rattle.strategy.specs.Assignment.{Among, Once}
 use Rattle.strategy.specs.Live.{Live, Step, without}
 use Rattle.strategy.specs.LiveLaws.{without-in, without-off}
-use Rattle.strategy.specs.Climb.{Group, enclosing, climb}
-use Rattle.strategy.specs.Row.{Row, begin, asked, after, turn, work}
+use Rattle.strategy.specs.Climb.{enclosing, climb}
+use Rattle.strategy.specs.Row.{Row, asked, after, turn, work}
 use Rattle.strategy.specs.RowLaws.{turn-idle, work-place}
 use Rattle.sets.specs.Set.{member}
 use Rattle.sets.specs.SetLaws.{member-and, member-or, member-none}

@@ -1,7 +1,7 @@
 -- `work_block` meets its contract. Invariant: at every row of the block the turns left make of it what all make of it.
 use Prim.Native.Nat.{_-_}
 use native.Mathlib.Omega.{arith}
-use mathlib.Core.Path.{_≡_, _∙_}
+use mathlib.Core.Path.{_∙_}
 use lib.ListN.{length, length-set, replicate}
 use borrow.Author.Needs.{needs}
 use Rattle.bitmaps.specs.TableLaws.{zeros}
