@@ -23,7 +23,7 @@ use Rattle.query.specs.Handed.{Tabled}
 use Rattle.query.proofs.Records.{predicates-at}
 use Rattle.plan.specs.Plan.{planSize, accessAt, accessOf, HaveColumns, Planned}
 use Rattle.plan.specs.Access.{Accessed}
-use Rattle.run.specs.Run.{Task, predicateAt}
+use Rattle.run.specs.Run.{predicateAt}
 use Rattle.run.specs.Ready.{given, Ready}
 
 -- a catalogue that is laid out, and a query that was read against its columns

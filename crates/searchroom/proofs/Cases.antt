@@ -20,6 +20,7 @@ use Rattle.strategy.specs.Order.{occurrences, allBelow, isOrder}
 use Rattle.bitmaps.specs.Sums.{sumOf, joined}
 use Rattle.bitmaps.specs.Bitmap.{bitmap, bitmaps, onesIn}
 use Rattle.run.specs.Run.{isSelected, traceAt}
+use Rattle.searchroom.specs.Checks.{checked}
 use Rattle.searchroom.specs.Input.{decodeInput}
 use Rattle.searchroom.specs.Run.{selection, probes, runOn, runOf}
 use Rattle.searchroom.specs.Parish.{nested}
@@ -52,5 +53,5 @@ finds-nothing q order i e =
     (rw (z, no-rows), rw (z, no-lines))
 
 pub cases-hold : AllHold cases
-unfolding numberAt bytesOf headerAt textAt textsAt zerosAt validSlot validSlots numbersAt countsAt firstOf columnOf columnsAt decodeCatalogue folded same begins occurs plainKind numberTest textTest outcomeOf tagsIn kindFits rangeFits operandFits validPayload payloadAt isRepeated predicateField groupField memberField decodeTagged decodeQuery member update elem predicates decides someOutcomes due trace eval occurrences allBelow isOrder sumOf joined bitmap bitmaps onesIn isSelected traceAt decodeInput selection probes runOn runOf nested ones digitOnes xor
+unfolding numberAt bytesOf headerAt textAt textsAt zerosAt validSlot validSlots numbersAt countsAt firstOf columnOf columnsAt decodeCatalogue folded same begins occurs plainKind numberTest textTest outcomeOf tagsIn kindFits rangeFits operandFits validPayload payloadAt isRepeated predicateField groupField memberField decodeTagged decodeQuery member update elem predicates decides someOutcomes due trace eval occurrences allBelow isOrder sumOf joined bitmap bitmaps onesIn isSelected traceAt decodeInput selection probes checked runOn runOf nested ones digitOnes xor
 cases-hold = (refl, (refl, (refl, (refl, (refl, (refl, (refl, (refl, (refl, (refl, (refl, (refl, (refl, (refl, (refl, (refl, (finds-nothing, (refl, (refl, (refl, (refl, tt)))))))))))))))))))))

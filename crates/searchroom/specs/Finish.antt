@@ -4,10 +4,8 @@ use mathlib.Core.List.{List}
 use lib.ListN.{length}
 use Rattle.bitmaps.specs.Bitmap.{onesIn}
 use Rattle.bitmaps.specs.Table.{linesOf}
-use Rattle.searchroom.specs.declared.word.Answer.the-variants.{Refused}
-use Rattle.searchroom.specs.Word.{packed}
 use Rattle.searchroom.specs.Checks.{checked}
-use Rattle.searchroom.specs.Run.{Ran, ran, counterChecks, acceptWith}
+use Rattle.searchroom.specs.Run.{Ran, refuse, counterChecks, acceptWith}
 
 -- the lent tables are long enough: refusal 16 otherwise
 abbrev pub HasRoom : (n size : ℕ) → (listed looks : List ℕ) → Type 0
@@ -16,7 +14,7 @@ HasRoom n size listed looks = (size ≤ length listed) × (n * size ≤ length l
 -- the tables that go out
 abbrev pub ended : (selection probes listed looks tally : List ℕ) → Ran
 ended S P listed looks tally =
-    checked (counterChecks tally (onesIn P)) (λ e. ran (packed (Refused e)) listed looks tally) (acceptWith S P listed looks tally)
+    checked (counterChecks tally (onesIn P)) (λ e. refuse e listed looks tally) (acceptWith S P listed looks tally)
 
 -- are the front of each line of the run's own
 unfoldable pub finished : (selected probes : List ℕ) → (n size : ℕ) → (listed looks tally : List ℕ) → Ran

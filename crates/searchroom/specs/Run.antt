@@ -43,8 +43,8 @@ abbrev pub ran : ℕ → (listed looks tally : List ℕ) → Ran
 ran w listed looks tally = record { word = w; listed = listed; looks = looks; tally = tally }
 
 -- "A refusal gives its number, with zeros for every other result, and alters nothing lent."
-abbrev pub refuse : ℕ → Lent → Ran
-refuse e l = ran (packed (Refused e)) (l .listed) (l .looks) (l .tally)
+abbrev pub refuse : ℕ → (listed looks tally : List ℕ) → Ran
+refuse e listed looks tally = ran (packed (Refused e)) listed looks tally
 
 abbrev pub rowCount : Input → ℕ
 rowCount i = i .catalogue .rows
@@ -108,10 +108,10 @@ accept T l = acceptWith (selection T) (probes T) (l .listed) (l .looks) (l .tall
 
 -- "Running: .. 15, .. 16, .. 17, .."
 unfoldable pub runOn : Input → Lent → Ran
-runOn i l = checked (runChecks i l) (λ e. refuse e l) (accept (taskOf i (l .request .order)) l)
+runOn i l = checked (runChecks i l) (λ e. refuse e (l .listed) (l .looks) (l .tally)) (accept (taskOf i (l .request .order)) l)
 
 abbrev pub inputThen : Decoded Input → Lent → Ran
-inputThen (refused e) l = refuse e l
+inputThen (refused e) l = refuse e (l .listed) (l .looks) (l .tally)
 inputThen (accepted i) l = runOn i l
 
 -- "Running: 1 to 14; .."
