@@ -20,7 +20,7 @@ use Rattle.catalogue.specs.Catalogue.{Column, numbers, texts, Catalogue}
 use Rattle.catalogue.specs.Slots.{textsAt}
 use Rattle.catalogue.specs.Decode.{numbersAt, putBefore, columnThen, columnOf, columnsAt, withRows, firstOf, decodeCatalogue}
 use Rattle.catalogue.specs.Sound.{IsRefusal, SoundColumn}
-use Rattle.catalogue.specs.Layout.{Shows, ShowsAll, LaidOut}
+use Rattle.catalogue.specs.Layout.{Shows, ShowsAll, Laid, LaidOut}
 
 -- what the field at a place is
 abbrev fieldAt : List ℕ → (rows at : ℕ) → ColumnField
@@ -135,7 +135,16 @@ module _ (b : List ℕ) (rows columns from : ℕ) (tags starts : List ℕ) (at i
       → LaidOut b r (withRows rows (columnsAt b rows columns from))
   reading-all r l e q =
       rw (g .whole, columns-none b rows (columns - i) at (omega arith), eq-eqb _ _ e, append-nil, q)
-      (refl, refl, omega (arith, g .done-count, g .count), omega (arith, g .short), omega (arith, g .few), g .shown, g .tags-size, g .starts-size)
+      (record {
+        accepts = refl;
+        rows = refl;
+        columns = omega (arith, g .done-count, g .count);
+        short = omega (arith, g .short);
+        few = omega (arith, g .few);
+        shown = g .shown;
+        tags-size = g .tags-size;
+        starts-size = g .starts-size;
+      })
 
 -- the whole catalogue, from its first field
 pub laid-refused : (b : List ℕ) (f : First) (e : ℕ) (r : Layout) → f ≡ firstOf b (headerAt b 0 (length b)) → f ≡ first.Refused e → IsRefusal e → r .refusal ≡ e → r .rows ≡ 0 → r .columns ≡ 0 → LaidOut b r (decodeCatalogue b)
@@ -148,8 +157,8 @@ unfolding decodeCatalogue
 laid-columns b f rows columns next r q i l = rw (← q, i) l
 
 -- column i of an accepted catalogue, as the layout shows it
-pub column-shown : (b : List ℕ) (l : Layout) (c : Catalogue) (i : ℕ) → LaidOut b l (accepted c) → i < l .columns
-    → Shows b (l .rows) (getD (l .tags) i 0) (getD (l .starts) i 0) (getD (c .columns) i (numbers []))
-column-shown b l c i h k =
+pub column-shown : {b : List ℕ} {l : Layout} {C : Catalogue} (i : ℕ) → Laid b l C → i < l .columns
+    → Shows b (C .rows) (getD (l .tags) i 0) (getD (l .starts) i 0) (getD (C .columns) i (numbers []))
+column-shown {b} {l} {C} i h k =
     let y : 0 + i ≡ i = omega arith in
-    rw (h .1) (rw y at (shows-at b (c .rows) (l .tags) (l .starts) 0 i (c .columns) (h .5) (omega arith)))
+    rw y at (shows-at b (C .rows) (l .tags) (l .starts) 0 i (C .columns) (h .shown) (omega (arith, h .columns)))

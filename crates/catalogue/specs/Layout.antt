@@ -22,12 +22,21 @@ abbrev pub ShowsAll : List ℕ → (rows : ℕ) → (tags starts : List ℕ) →
 ShowsAll b rows tags starts i [] = Unit {0}
 ShowsAll b rows tags starts i (c ∷ cs) = Shows b rows (getD tags i 0) (getD starts i 0) c × ShowsAll b rows tags starts (i + 1) cs
 
+-- a layout shows this catalogue
+pub record Laid (b : List ℕ) (l : Layout) (C : Catalogue) : Type 0 where
+  pub accepts : l .refusal ≡ 0
+  pub rows : l .rows ≡ C .rows
+  pub columns : l .columns ≡ length (C .columns)
+  pub short : l .rows ≤ rowLimit
+  pub few : l .columns ≤ columnLimit
+  pub shown : ShowsAll b (C .rows) (l .tags) (l .starts) 0 (C .columns)
+  pub tags-size : length (l .tags) ≡ columnLimit
+  pub starts-size : length (l .starts) ≡ columnLimit
+
 -- a layout shows what was decoded
 abbrev pub LaidOut : List ℕ → Layout → Decoded Catalogue → Type 0
 LaidOut b l (refused e) = (l .refusal ≡ e) × (0 < e) × (e ≤ bytesAfterColumns) × (l .rows ≡ 0) × (l .columns ≡ 0)
-LaidOut b l (accepted c) =
-    (l .refusal ≡ 0) × (l .rows ≡ c .rows) × (l .columns ≡ length (c .columns)) × (l .rows ≤ rowLimit) × (l .columns ≤ columnLimit)
-    × ShowsAll b (c .rows) (l .tags) (l .starts) 0 (c .columns) × (length (l .tags) ≡ columnLimit) × (length (l .starts) ≡ columnLimit)
+LaidOut b l (accepted C) = Laid b l C
 
 -- some column is shown there, and has that row
 abbrev pub HasRow : List ℕ → (tag start row : ℕ) → Type 0

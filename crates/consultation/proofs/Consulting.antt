@@ -6,31 +6,32 @@ use mathlib.Core.Path.{_≡_, refl, sym, ap, ap₂, _∙_}
 use mathlib.Core.Bool.{Bool, true, false}
 use mathlib.Core.Logic.{_⊎_, inl, inr}
 use mathlib.Core.List.{List}
-use lib.ListN.{length, replicate}
+use lib.ListN.{length}
 use Rattle.fields.specs.Decoded.{Decoded, refused, accepted}
 use Rattle.catalogue.specs.Catalogue.{Catalogue}
 use Rattle.catalogue.specs.Format.{rowLimit}
 use Rattle.catalogue.specs.Decode.{decodeCatalogue}
 use Rattle.catalogue.specs.declared.layout.Layout.{Layout}
-use Rattle.catalogue.specs.Layout.{LaidOut}
+use Rattle.catalogue.specs.Layout.{Laid, LaidOut}
 use Rattle.query.specs.Format.{predicateLimit}
 use Rattle.strategy.specs.Order.{isOrder}
 use Rattle.bitmaps.specs.Bitmap.{bytesFor}
 use Rattle.searchroom.specs.Word.{numberIn, firstIn, thirdIn}
 use Rattle.searchroom.specs.Refusals.{notOrder}
+use Rattle.searchroom.specs.Checks.{checked}
 use Rattle.searchroom.specs.Input.{Input, decodeInput}
-use Rattle.searchroom.specs.Run.{Ran, ran, rowCount, predicateCount, foundCount, lookCount, counterSize, runOn, runOf}
-use Rattle.searchroom.specs.Demands.{Lent, Reads, FormBroken, Kept, FirstBroken, badForm, badOrder, badTables, badTally}
+use Rattle.searchroom.specs.Run.{Lent, Ran, ran, rowCount, predicateCount, taskOf, foundCount, lookCount, runOn, runOf}
+use Rattle.searchroom.specs.Demands.{Reads, FormBroken, Kept, FirstBroken, badForm, badOrder, badTables, badTally}
 use Rattle.searchroom.proofs.DemandLaws.{Decodes, decoded-input, reads-input, broken-input, decoded-cases}
 use Rattle.searchroom.proofs.DemandTables.{order-plain}
 use Rattle.searchroom.proofs.DemandRuns.{kept-gives, broken-gives, broken-number}
 use Rattle.register.specs.Register as register
 use Rattle.register.specs.Writing.{roomFor}
-use Rattle.consultation.specs.Consultation.{listedSize, looksSize, consultationRun, registerOfRun, registerAfter, consultationOf, longest}
+use Rattle.consultation.specs.Consultation.{listedSize, looksSize, lentBy, consultationRun, registerOfRun, registerAfter, consultationOf, longest}
 
 pub laid-few : (b : List ℕ) (l : Layout) (d : Decoded Catalogue) → LaidOut b l d → l .rows ≤ rowLimit
 laid-few b l (refused e) h = omega arith
-laid-few b l (accepted c) h = omega arith
+laid-few b l (accepted c) h = h .short
 
 pub has-room : (rows n a b o : ℕ) → rows ≤ rowLimit → n ≤ predicateLimit → listedSize ≤ a → looksSize ≤ b → longest ≤ o
     → (bytesFor rows ≤ a) × (n * bytesFor rows ≤ b) × (roomFor rows n ≤ o)
@@ -48,7 +49,7 @@ accepted-text rows n found look-count r e f g = rw (e, f, g)
 
 module _ (b q order : List ℕ) where
   abbrev lent : Lent
-  lent = record { catalogue = b; question = q; order = order; listed = replicate listedSize 0; looks = replicate looksSize 0; tally = replicate counterSize 0 }
+  lent = lentBy b q order
 
   abbrev after : Ran
   after = consultationRun b q order
@@ -64,10 +65,10 @@ module _ (b q order : List ℕ) where
 
   -- in the words of the demands page: the counts and the tables of a run in which no check fails, and the number of the first that fails
   pub kept-text : (i : Input) → Kept lent i
-      → consultationOf b q order ≡ register.accepted (foundCount i) (lookCount i order) (rowCount i) (predicateCount i) (after .listed) (after .looks)
+      → consultationOf b q order ≡ register.accepted (foundCount (taskOf i order)) (lookCount (taskOf i order)) (rowCount i) (predicateCount i) (after .listed) (after .looks)
   kept-text i k =
       let g = kept-gives lent i k in
-      read-text i (k .forms) ∙ accepted-text (rowCount i) (predicateCount i) (foundCount i) (lookCount i order) after (g .1) (g .2) (g .4)
+      read-text i (k .forms) ∙ accepted-text (rowCount i) (predicateCount i) (foundCount (taskOf i order)) (lookCount (taskOf i order)) after (g .1) (g .2) (g .4)
 
   pub broken-text : (e : ℕ) → FirstBroken lent e → consultationOf b q order ≡ register.refused e
   broken-text e x = go x
@@ -82,12 +83,12 @@ module _ (b q order : List ℕ) where
       go (badTally i s o t n z) = read i s
 
   not-order : (i : Input) → decodeInput b q ≡ accepted i → isOrder (predicateCount i) order ≡ false → numberIn (after .word) ≡ notOrder
-  unfolding runOf runOn
+  unfolding runOf runOn checked
   not-order i d h = rw (d, h)
 
   module _ (rows : ℕ) (l : Layout) (laid : LaidOut b l (decodeCatalogue b)) (r : rows ≡ l .rows) where
     same-rows : (i : Input) → Decodes b q i → rows ≡ rowCount i
-    same-rows i d = let h : LaidOut b l (accepted (i .catalogue)) = rw (d .0) at laid in r ∙ h .1
+    same-rows i d = let h : Laid b l (i .catalogue) = rw (d .0) at laid in r ∙ h .rows
 
     -- an accepted order has as many bytes as the question has conditions, and a refusal's register shows none
     written-is : written rows (length order) ≡ consultationOf b q order

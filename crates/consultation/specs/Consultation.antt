@@ -8,7 +8,7 @@ use Rattle.query.specs.Format.{predicateLimit}
 use Rattle.bitmaps.specs.Bitmap.{bytesFor}
 use Rattle.searchroom.specs.Word.{numberIn, firstIn, thirdIn}
 use Rattle.searchroom.specs.Input.{Input, decodeInput}
-use Rattle.searchroom.specs.Run.{Ran, rowCount, predicateCount, counterSize, runOf}
+use Rattle.searchroom.specs.Run.{Lent, lent, Ran, rowCount, predicateCount, counterSize, runOf}
 use Rattle.register.specs.Register as register
 use Rattle.register.specs.Writing.{roomFor}
 
@@ -24,8 +24,11 @@ abbrev pub looksSize : ℕ
 looksSize = predicateLimit * listedSize
 
 -- "with the tally at zero"
+abbrev pub lentBy : (catalogue question order : List ℕ) → Lent
+lentBy b q order = lent b q order (replicate listedSize 0) (replicate looksSize 0) (replicate counterSize 0)
+
 abbrev pub consultationRun : (catalogue question order : List ℕ) → Ran
-consultationRun b q order = runOf b q order (replicate listedSize 0) (replicate looksSize 0) (replicate counterSize 0)
+consultationRun b q order = runOf (lentBy b q order)
 
 -- the register of a run: its number, its two counts, which are the first and the third result of its word, and its tables
 abbrev pub registerOfRun : (rows n : ℕ) → Ran → List ℕ

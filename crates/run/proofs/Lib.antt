@@ -2,3 +2,4 @@ pub mod Fills
 pub mod Blocks
 pub mod BlockLoop
 pub mod RowsLoop
+pub mod Prepared

@@ -29,10 +29,11 @@ use Rattle.strategy.specs.Order.{occurrences, allBelow, isOrder}
 use Rattle.bitmaps.specs.Sums.{sumOf, joined}
 use Rattle.bitmaps.specs.Bitmap.{bytesFor, bitmap, bitmaps, onesIn}
 use Rattle.run.specs.Run.{isSelected, traceAt}
+use Rattle.searchroom.specs.Checks.{checked}
 use Rattle.searchroom.specs.Input.{Input, withQuery, decodeInput}
 use Rattle.searchroom.specs.declared.word.Answer.the-variants.{Accepted}
 use Rattle.searchroom.specs.Word.{packed}
-use Rattle.searchroom.specs.Run.{ran, rowCount, predicateCount, selection, probes, tablesFit, counterSize, counterAfter, counterFits, runOn, runOf}
+use Rattle.searchroom.specs.Run.{lent, ran, rowCount, predicateCount, taskOf, selection, probes, tablesFit, counterSize, counterAfter, counterFits, runOn, runOf}
 use Rattle.searchroom.specs.Parish.{nested}
 use Rattle.searchroom.specs.Cases.{Holds, findsNothing, noRows, cases, AllHold}
 
@@ -63,23 +64,23 @@ same-tally tally bytes n =
     )
 
 -- a run over no rows
-module _ (i : Input) (order listed looks tally : List ℕ) (z : rowCount i ≡ 0) where
-  no-selection : selection i ≡ []
+module _ (i : Input) (b q order listed looks tally : List ℕ) (z : rowCount i ≡ 0) where
+  no-selection : selection (taskOf i order) ≡ []
   unfolding selection
   no-selection = rw (z, no-rows)
 
-  no-probes : probes i order ≡ []
+  no-probes : probes (taskOf i order) ≡ []
   unfolding probes
   no-probes = rw (z, no-lines)
 
-  tables-fit : tablesFit i listed looks ≡ true
+  tables-fit : tablesFit (predicateCount i) (bytesFor (rowCount i)) (length listed) (length looks) ≡ true
   tables-fit =
       let y : bytesFor (rowCount i) ≡ 0 = rw z in
       rw (y, mul-zero (predicateCount i)) (both (leb-yes 0 (length listed) (omega arith)) (leb-yes 0 (length looks) (omega arith)))
 
   no-rows-run : isOrder (predicateCount i) order ≡ true → Bytes tally → length tally ≡ counterSize
-      → runOn i order listed looks tally ≡ ran (packed (Accepted 0 0 0)) listed looks tally
-  unfolding runOn onesIn
+      → runOn i (lent b q order listed looks tally) ≡ ran (packed (Accepted 0 0 0)) listed looks tally
+  unfolding runOn checked onesIn
   no-rows-run o bytes n =
       let t = same-tally tally bytes n in
       rw (o, tables-fit, no-selection, no-probes, t .0, t .1)
@@ -88,8 +89,8 @@ finds-nothing : Holds (findsNothing noRows)
 unfolding numberAt headerAt numbersAt countsAt firstOf columnOf columnsAt decodeCatalogue decodeInput runOf
 finds-nothing q order listed looks tally i e o bytes n =
     let z : rowCount i ≡ 0 = ap (λ (C : Catalogue). C .rows) (its-catalogue _ (decodeQuery _ q) i e) in
-    rw e (no-rows-run i order listed looks tally z o bytes n)
+    rw e (no-rows-run i noRows q order listed looks tally z o bytes n)
 
 pub cases-hold : AllHold cases
-unfolding numberAt bytesOf headerAt textAt textsAt zerosAt validSlot validSlots numbersAt countsAt firstOf columnOf columnsAt decodeCatalogue folded same begins occurs plainKind numberTest textTest outcomeOf tagsIn kindFits rangeFits operandFits validPayload payloadAt isRepeated predicateField groupField memberField decodeTagged decodeQuery member update elem predicates decides someOutcomes due trace eval occurrences allBelow isOrder sumOf joined bitmap bitmaps onesIn isSelected traceAt decodeInput selection probes runOn runOf nested ones digitOnes xor
+unfolding numberAt bytesOf headerAt textAt textsAt zerosAt validSlot validSlots numbersAt countsAt firstOf columnOf columnsAt decodeCatalogue folded same begins occurs plainKind numberTest textTest outcomeOf tagsIn kindFits rangeFits operandFits validPayload payloadAt isRepeated predicateField groupField memberField decodeTagged decodeQuery member update elem predicates decides someOutcomes due trace eval occurrences allBelow isOrder sumOf joined bitmap bitmaps onesIn isSelected traceAt decodeInput selection probes checked runOn runOf nested ones digitOnes xor
 cases-hold = (refl, (refl, (refl, (refl, (refl, (refl, (refl, (refl, (refl, (refl, (refl, (refl, (refl, (refl, (refl, (refl, (finds-nothing, (refl, (refl, (refl, (refl, tt)))))))))))))))))))))

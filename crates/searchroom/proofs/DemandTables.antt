@@ -24,7 +24,7 @@ use Rattle.bitmaps.specs.Bit.{bit}
 use Rattle.bitmaps.specs.BitmapLaws.{bitmap-length, bitmap-bytes, bitmap-bit, bitmap-ones, bitmaps-length, bitmaps-line, bitmaps-ones}
 use Rattle.run.specs.Run.{isSelected, traceAt, isProbed}
 use Rattle.searchroom.specs.Input.{Input}
-use Rattle.searchroom.specs.Run.{rowCount, predicateCount, selection, probes, foundCount, lookCount}
+use Rattle.searchroom.specs.Run.{rowCount, predicateCount, taskOf, selection, probes, foundCount, lookCount}
 use Rattle.searchroom.specs.Demands.{RunningOrder, pattern, treeValue, LookDue, LineOf, listedLine, looksLine}
 
 -- SUMS
@@ -157,7 +157,7 @@ module _ (i : Input) (order : List ℕ) (o : RunningOrder i order) where
       from : LookDue i order a c → Among c (predicates (trace (treeValue i) a order))
       from D = at (D .0) (D .1) (D .2) .1 (D .3)
 
-  pub probed-due : (c e : ℕ) → (isProbed (i .catalogue) (i .query) order c e ≡ true) ↔ LookDue i order (pattern i e) c
+  pub probed-due : (c e : ℕ) → (isProbed (taskOf i order) c e ≡ true) ↔ LookDue i order (pattern i e) c
   unfolding traceAt
   probed-due c e =
       let law = traced-due (pattern i e) c in
@@ -165,7 +165,7 @@ module _ (i : Input) (order : List ℕ) (o : RunningOrder i order) where
       (λ x. law .0 (elem-among c l x), λ D. elem-yes c l (law .1 D))
 
   -- how many looks a row has
-  pub probed-count : (e : ℕ) → countOf (λ c. isProbed (i .catalogue) (i .query) order c e) (predicateCount i) ≡ length (predicates (trace (treeValue i) (pattern i e) order))
+  pub probed-count : (e : ℕ) → countOf (λ c. isProbed (taskOf i order) c e) (predicateCount i) ≡ length (predicates (trace (treeValue i) (pattern i e) order))
   unfolding traceAt
   probed-count e =
       count-elem (predicates (trace (treeValue i) (pattern i e) order)) (predicateCount i)
@@ -174,47 +174,46 @@ module _ (i : Input) (order : List ℕ) (o : RunningOrder i order) where
 
 -- COUNTS
 
-module _ (i : Input) where
-  pub found-count : foundCount i ≡ countOf (isSelected (i .catalogue) (i .query)) (rowCount i)
+module _ (i : Input) (order : List ℕ) where
+  pub found-count : foundCount (taskOf i order) ≡ countOf (isSelected (taskOf i order)) (rowCount i)
   unfolding selection
-  found-count = bitmap-ones (isSelected (i .catalogue) (i .query)) (rowCount i)
+  found-count = bitmap-ones (isSelected (taskOf i order)) (rowCount i)
 
-  pub look-count : (order : List ℕ) → lookCount i order ≡ sumOf (λ c. countOf (isProbed (i .catalogue) (i .query) order c) (rowCount i)) (predicateCount i)
+  pub look-count : lookCount (taskOf i order) ≡ sumOf (λ c. countOf (isProbed (taskOf i order) c) (rowCount i)) (predicateCount i)
   unfolding probes
-  look-count order = bitmaps-ones (isProbed (i .catalogue) (i .query) order) (predicateCount i) (rowCount i)
+  look-count = bitmaps-ones (isProbed (taskOf i order)) (predicateCount i) (rowCount i)
 
-  pub look-count-le : (order : List ℕ) (m : ℕ) → rowCount i ≤ m → lookCount i order ≤ predicateCount i * m
-  look-count-le order m h =
-      subst (λ (x : ℕ). x ≤ predicateCount i * m) (sym (look-count order))
-      (sum-most (λ c. countOf (isProbed (i .catalogue) (i .query) order c) (rowCount i)) m (predicateCount i)
-      (λ c. omega (arith, count-le (isProbed (i .catalogue) (i .query) order c) (rowCount i))))
+  pub look-count-le : (m : ℕ) → rowCount i ≤ m → lookCount (taskOf i order) ≤ predicateCount i * m
+  look-count-le m h =
+      subst (λ (x : ℕ). x ≤ predicateCount i * m) (sym look-count)
+      (sum-most (λ c. countOf (isProbed (taskOf i order) c) (rowCount i)) m (predicateCount i)
+      (λ c. omega (arith, count-le (isProbed (taskOf i order) c) (rowCount i))))
 
   -- the same row by row
-  pub look-count-rows : (order : List ℕ) → RunningOrder i order → lookCount i order ≡ sumOf (λ e. length (predicates (trace (treeValue i) (pattern i e) order))) (rowCount i)
-  look-count-rows order o =
-      look-count order ∙ sum-swap (λ c e. digit (isProbed (i .catalogue) (i .query) order c e)) (predicateCount i) (rowCount i)
-      ∙ sum-same (λ e. countOf (λ c. isProbed (i .catalogue) (i .query) order c e) (predicateCount i)) (λ e. length (predicates (trace (treeValue i) (pattern i e) order))) (rowCount i)
+  pub look-count-rows : RunningOrder i order → lookCount (taskOf i order) ≡ sumOf (λ e. length (predicates (trace (treeValue i) (pattern i e) order))) (rowCount i)
+  look-count-rows o =
+      look-count ∙ sum-swap (λ c e. digit (isProbed (taskOf i order) c e)) (predicateCount i) (rowCount i)
+      ∙ sum-same (λ e. countOf (λ c. isProbed (taskOf i order) c e) (predicateCount i)) (λ e. length (predicates (trace (treeValue i) (pattern i e) order))) (rowCount i)
       (λ e l. probed-count i order o e)
 
 -- THE LENT TABLES AFTERWARDS
 
-module _ (i : Input) where
-  pub selection-length : length (selection i) ≡ bytesFor (rowCount i)
+module _ (i : Input) (order : List ℕ) where
+  pub selection-length : length (selection (taskOf i order)) ≡ bytesFor (rowCount i)
   unfolding selection
-  selection-length = bitmap-length (isSelected (i .catalogue) (i .query)) (rowCount i)
+  selection-length = bitmap-length (isSelected (taskOf i order)) (rowCount i)
 
-  pub listed-line : (listed : List ℕ) → listedLine i (putFront (selection i) listed) ≡ bitmap (isSelected (i .catalogue) (i .query)) (rowCount i)
+  pub listed-line : (listed : List ℕ) → listedLine i (putFront (selection (taskOf i order)) listed) ≡ bitmap (isSelected (taskOf i order)) (rowCount i)
   unfolding selection
-  listed-line listed = front-new (selection i) listed (bytesFor (rowCount i)) selection-length
+  listed-line listed = front-new (selection (taskOf i order)) listed (bytesFor (rowCount i)) selection-length
 
-  module _ (order : List ℕ) where
-    pub probes-length : length (probes i order) ≡ predicateCount i * bytesFor (rowCount i)
-    unfolding probes
-    probes-length = bitmaps-length (isProbed (i .catalogue) (i .query) order) (predicateCount i) (rowCount i)
+  pub probes-length : length (probes (taskOf i order)) ≡ predicateCount i * bytesFor (rowCount i)
+  unfolding probes
+  probes-length = bitmaps-length (isProbed (taskOf i order)) (predicateCount i) (rowCount i)
 
-    pub looks-line : (looks : List ℕ) (c : ℕ) → c < predicateCount i
-        → looksLine i (putFront (probes i order) looks) c ≡ bitmap (isProbed (i .catalogue) (i .query) order c) (rowCount i)
-    unfolding probes
-    looks-line looks c l =
-        front-line (probes i order) looks (bytesFor (rowCount i)) (predicateCount i) c probes-length l
-        ∙ bitmaps-line (isProbed (i .catalogue) (i .query) order) (predicateCount i) (rowCount i) c l
+  pub looks-line : (looks : List ℕ) (c : ℕ) → c < predicateCount i
+      → looksLine i (putFront (probes (taskOf i order)) looks) c ≡ bitmap (isProbed (taskOf i order) c) (rowCount i)
+  unfolding probes
+  looks-line looks c l =
+      front-line (probes (taskOf i order)) looks (bytesFor (rowCount i)) (predicateCount i) c probes-length l
+      ∙ bitmaps-line (isProbed (taskOf i order)) (predicateCount i) (rowCount i) c l

@@ -44,7 +44,7 @@ use Rattle.searchroom.specs.declared.word.Answer.the-variants.{Refused, 
 use Rattle.searchroom.specs.Refusals.{noSuchPlace}
 use Rattle.searchroom.specs.Input.{Input}
 use Rattle.searchroom.specs.Answers.{outcomeNumber}
-use Rattle.searchroom.specs.Run.{rowCount, predicateCount, selection, probes, foundCount, lookCount}
+use Rattle.searchroom.specs.Run.{rowCount, predicateCount, taskOf, selection, probes, foundCount, lookCount}
 use Rattle.searchroom.specs.Demands.{after, Reads, RunningOrder, lineBytes, Kept, FirstBroken, pattern, treeValue, listedLine, looksLine, Demand1CatalogueForm, Demand1QuestionForm, Demand1Payload, Demand1FormsWritten, Demand1WrittenOnce, Demand1Number, Demand1Refused, Demand1Accepted, Demand1Limits, Demand1Catalogue, Demand1Question, Demand1Outcome, Demand2Tree, Demand2Listed, Demand2Looks, Demand2Further, Demand2Counts, Demand2Tally, Demand3, Demand3Ours, Demand3Count, Demand3Run}
 use Rattle.searchroom.proofs.DemandLaws.{is-catalogue, is-question, reads-input, broken-input, broken-range, unpacked}
 use Rattle.searchroom.proofs.DemandTables.{sum-le, line-of, line-count, front-old, order-plain, held, traced-due, probed-due, found-count, look-count, look-count-le, look-count-rows, selection-length, listed-line, probes-length, looks-line}
@@ -154,39 +154,39 @@ demand-2-tree a = (λ c. refl, all-none a, all-more a, any-none a, any-more a)
 pub demand-2-listed : Demand2Listed
 unfolding isSelected
 demand-2-listed l i k =
-    rw (kept-run l i k, listed-line i (l .listed)) (line-of (λ e. treeValue i (pattern i e) ≡ true) (isSelected (i .catalogue) (i .query)) (rowCount i) (λ e. (λ x. x, λ x. x)))
+    rw (kept-run l i k, listed-line i (l .request .order) (l .listed)) (line-of (λ e. treeValue i (pattern i e) ≡ true) (isSelected (taskOf i (l .request .order))) (rowCount i) (λ e. (λ x. x, λ x. x)))
 
 pub demand-2-looks : Demand2Looks
 demand-2-looks l i k c m =
-    rw (kept-run l i k, looks-line i (l .order) (l .looks) c m)
-    (line-of _ (isProbed (i .catalogue) (i .query) (l .order) c) (rowCount i) (λ e. probed-due i (l .order) (k .order) c e))
+    rw (kept-run l i k, looks-line i (l .request .order) (l .looks) c m)
+    (line-of _ (isProbed (taskOf i (l .request .order)) c) (rowCount i) (λ e. probed-due i (l .request .order) (k .order) c e))
 
 pub demand-2-counts : Demand2Counts
 demand-2-counts l i k = rw (← found, ← looked) (kept-gives l i k)
   where
-    found : foundCount i ≡ countOf (bit (listedLine i (after l .listed))) (rowCount i)
-    found = rw (kept-run l i k, listed-line i (l .listed)) (found-count i ∙ sym (line-count (isSelected (i .catalogue) (i .query)) (rowCount i)))
+    found : foundCount (taskOf i (l .request .order)) ≡ countOf (bit (listedLine i (after l .listed))) (rowCount i)
+    found = rw (kept-run l i k, listed-line i (l .request .order) (l .listed)) (found-count i (l .request .order) ∙ sym (line-count (isSelected (taskOf i (l .request .order))) (rowCount i)))
 
-    looked : lookCount i (l .order) ≡ sumOf (λ c. countOf (bit (looksLine i (after l .looks) c)) (rowCount i)) (predicateCount i)
+    looked : lookCount (taskOf i (l .request .order)) ≡ sumOf (λ c. countOf (bit (looksLine i (after l .looks) c)) (rowCount i)) (predicateCount i)
     looked =
-        look-count i (l .order)
-        ∙ sum-same (λ c. countOf (isProbed (i .catalogue) (i .query) (l .order) c) (rowCount i)) (λ c. countOf (bit (looksLine i (after l .looks) c)) (rowCount i)) (predicateCount i)
-        (λ c m. rw (kept-run l i k, looks-line i (l .order) (l .looks) c m) (sym (line-count (isProbed (i .catalogue) (i .query) (l .order) c) (rowCount i))))
+        look-count i (l .request .order)
+        ∙ sum-same (λ c. countOf (isProbed (taskOf i (l .request .order)) c) (rowCount i)) (λ c. countOf (bit (looksLine i (after l .looks) c)) (rowCount i)) (predicateCount i)
+        (λ c m. rw (kept-run l i k, looks-line i (l .request .order) (l .looks) c m) (sym (line-count (isProbed (taskOf i (l .request .order)) c) (rowCount i))))
 
 pub demand-2-tally : Demand2Tally
 demand-2-tally l i k =
     let t = ap (λ (s : _). s .tally) (kept-run l i k) in (
       kept-gives l i k .4,
-      subst (λ (x : ℕ). lookCount i (l .order) ≤ x) (mul-comm (predicateCount i) (rowCount i)) (look-count-le i (l .order) (rowCount i) (omega arith)),
+      subst (λ (x : ℕ). lookCount (taskOf i (l .request .order)) ≤ x) (mul-comm (predicateCount i) (rowCount i)) (look-count-le i (l .request .order) (rowCount i) (omega arith)),
       t,
-      ap (λ (x : List ℕ). numberAt x 0 8) t ∙ number-of-bytes 8 (numberAt (l .tally) 0 8 + lookCount i (l .order)) (omega (arith, k .tally .1)),
+      ap (λ (x : List ℕ). numberAt x 0 8) t ∙ number-of-bytes 8 (numberAt (l .tally) 0 8 + lookCount (taskOf i (l .request .order))) (omega (arith, k .tally .1)),
     )
 
 pub demand-2-further : Demand2Further
 demand-2-further l i k =
     rw (kept-run l i k) (
-      front-old (selection i) (l .listed) (lineBytes i) (selection-length i),
-      front-old (probes i (l .order)) (l .looks) (predicateCount i * lineBytes i) (probes-length i (l .order)),
+      front-old (selection (taskOf i (l .request .order))) (l .listed) (lineBytes i) (selection-length i (l .request .order)),
+      front-old (probes (taskOf i (l .request .order))) (l .looks) (predicateCount i * lineBytes i) (probes-length i (l .request .order)),
     )
 
 -- DEMAND 3
@@ -228,14 +228,14 @@ demand-3-count b q i r order o =
 pub demand-3-run : Demand3Run
 demand-3-run l i k way R = (looks, count)
   where
-    looks : (e c : ℕ) → e < rowCount i → c < predicateCount i → bit (looksLine i (after l .looks) c) e ≡ true → Among c (probesOf way (pattern i e) (l .order))
+    looks : (e c : ℕ) → e < rowCount i → c < predicateCount i → bit (looksLine i (after l .looks) c) e ≡ true → Among c (probesOf way (pattern i e) (l .request .order))
     looks e c m n h =
-        optimal (treeValue i) (l .order) (held i (l .order) (k .order) .once) way R (pattern i e) c
-        (traced-due i (l .order) (k .order) (pattern i e) c .1 (demand-2-looks l i k c n .bits e m .0 h))
+        optimal (treeValue i) (l .request .order) (held i (l .request .order) (k .order) .once) way R (pattern i e) c
+        (traced-due i (l .request .order) (k .order) (pattern i e) c .1 (demand-2-looks l i k c n .bits e m .0 h))
 
-    count : after l .word / 2 ^ 40 ≤ sumOf (λ e. length (probesOf way (pattern i e) (l .order))) (rowCount i)
+    count : after l .word / 2 ^ 40 ≤ sumOf (λ e. length (probesOf way (pattern i e) (l .request .order))) (rowCount i)
     count =
-        subst (λ (x : ℕ). x ≤ sumOf (λ e. length (probesOf way (pattern i e) (l .order))) (rowCount i))
-        (sym (kept-gives l i k .4 ∙ look-count-rows i (l .order) (k .order)))
-        (sum-le (λ e. length (predicates (trace (treeValue i) (pattern i e) (l .order)))) (λ e. length (probesOf way (pattern i e) (l .order))) (rowCount i)
-        (λ e m. counted i (l .order) (k .order) way R (pattern i e)))
+        subst (λ (x : ℕ). x ≤ sumOf (λ e. length (probesOf way (pattern i e) (l .request .order))) (rowCount i))
+        (sym (kept-gives l i k .4 ∙ look-count-rows i (l .request .order) (k .order)))
+        (sum-le (λ e. length (predicates (trace (treeValue i) (pattern i e) (l .request .order)))) (λ e. length (probesOf way (pattern i e) (l .request .order))) (rowCount i)
+        (λ e m. counted i (l .request .order) (k .order) way R (pattern i e)))

@@ -7,12 +7,13 @@ use mathlib.Core.List.{List}
 use lib.ListN.{length}
 use borrow.Author.Tests.{eq-eqb, ne-eqb, lt-ltb, le-ltb}
 use Rattle.fields.specs.Numbers.{numberAt, bytesOf}
-use Rattle.bitmaps.specs.Bitmap.{bytesFor, onesIn, putFront}
+use Rattle.bitmaps.specs.Bitmap.{onesIn, putFront}
 use Rattle.bitmaps.specs.Table.{lineSize, linesOf}
 use Rattle.query.specs.Format.{predicateLimit}
 use Rattle.searchroom.specs.declared.word.Answer.the-variants.{Accepted}
 use Rattle.searchroom.specs.Word.{packed}
 use Rattle.searchroom.specs.Refusals.{counterRefused}
+use Rattle.searchroom.specs.Checks.{checked}
 use Rattle.searchroom.specs.Run.{ran, refuse, counterSize, counterAfter}
 use Rattle.searchroom.specs.Finish.{finished}
 
@@ -20,32 +21,26 @@ use Rattle.searchroom.specs.Finish.{finished}
 pub lines-few : (n size : ℕ) → n ≤ predicateLimit → size ≤ lineSize → n * size ≤ predicateLimit * lineSize
 lines-few n size h k = omega (arith, mul-le-mul-right size h, mul-le-mul-left predicateLimit k)
 
-pub room-for : (n size rows : ℕ) (t : List ℕ) → size ≡ bytesFor rows → n * bytesFor rows ≤ length t → n * size ≤ length t
-room-for n size rows t e h = rw e h
-
-module _ (S P : List ℕ) (n rows : ℕ) (listed looks tally : List ℕ) where
-  pub counter-size-wrong : (length tally ≡ counterSize → ⊥) → refuse counterRefused listed looks tally ≡ finished S P n rows listed looks tally
-  unfolding finished
+module _ (S P : List ℕ) (n size : ℕ) (listed looks tally : List ℕ) where
+  pub counter-size-wrong : (length tally ≡ counterSize → ⊥) → refuse counterRefused listed looks tally ≡ finished S P n size listed looks tally
+  unfolding finished checked
   counter-size-wrong ne = rw (ne-eqb (length tally) counterSize ne)
 
   abbrev lines : List ℕ
-  lines = linesOf (bytesFor rows) P n
+  lines = linesOf size P n
 
-  module _ (fits : ℕ) (s : fits ≡ bytesFor rows) (size : length tally ≡ counterSize) (before looked : ℕ) (b : before ≡ numberAt tally 0 counterSize)
-      (l : looked ≡ onesIn (linesOf fits P n)) where
-    pub counter-passed : 18446744073709551615 - before < looked → refuse counterRefused listed looks tally ≡ finished S P n rows listed looks tally
-    unfolding finished
+  module _ (before looked : ℕ) (eight : length tally ≡ counterSize) (b : before ≡ numberAt tally 0 counterSize) (l : looked ≡ onesIn lines) where
+    pub counter-passed : 18446744073709551615 - before < looked → refuse counterRefused listed looks tally ≡ finished S P n size listed looks tally
+    unfolding finished checked
     counter-passed h =
-        let e : looked ≡ onesIn lines = rw s at l in
         let z : 2 ^ 64 ≤ counterAfter tally (onesIn lines) = omega arith in
-        rw (eq-eqb (length tally) counterSize size, le-ltb (counterAfter tally (onesIn lines)) (2 ^ 64) z)
+        rw (eq-eqb (length tally) counterSize eight, le-ltb (counterAfter tally (onesIn lines)) (2 ^ 64) z)
 
     pub counter-taken : looked ≤ 18446744073709551615 - before → before ≤ 18446744073709551615
-        → (found : ℕ) (listed' looks' tally' : List ℕ) → found ≡ onesIn (linesOf fits S 1)
-        → listed' ≡ putFront (linesOf fits S 1) listed → looks' ≡ putFront (linesOf fits P n) looks → tally' ≡ bytesOf 8 (before + looked)
-        → ran (packed (Accepted found 0 looked)) listed' looks' tally' ≡ finished S P n rows listed looks tally
-    unfolding finished
+        → (found : ℕ) (listed' looks' tally' : List ℕ) → found ≡ onesIn (linesOf size S 1)
+        → listed' ≡ putFront (linesOf size S 1) listed → looks' ≡ putFront lines looks → tally' ≡ bytesOf 8 (before + looked)
+        → ran (packed (Accepted found 0 looked)) listed' looks' tally' ≡ finished S P n size listed looks tally
+    unfolding finished checked
     counter-taken h k found listed' looks' tally' f p q t =
-        let e : looked ≡ onesIn lines = rw s at l in
         let z : counterAfter tally (onesIn lines) < 2 ^ 64 = omega arith in
-        rw (eq-eqb (length tally) counterSize size, lt-ltb (counterAfter tally (onesIn lines)) (2 ^ 64) z, f, p, q, t, b, l, s)
+        rw (eq-eqb (length tally) counterSize eight, lt-ltb (counterAfter tally (onesIn lines)) (2 ^ 64) z, f, p, q, t, b, l)

@@ -1,3 +1,4 @@
+pub mod Checks
 pub mod Inputs
 pub mod Finishing
 pub mod Running

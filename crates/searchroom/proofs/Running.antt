@@ -1,4 +1,4 @@
--- The cases of a run, once the catalogue and the question are accepted.
+-- The cases of a run: the input refused, a check of the request failing, or the rows worked and the end of the run.
 use Prim.Native.Nat.{ℕ, _*_, _^_, _≤_, _<_}
 use native.Mathlib.Nat.{mul-le-mul-right}
 use native.Mathlib.Omega.{arith}
@@ -6,78 +6,105 @@ use mathlib.Core.Path.{_≡_, sym, ap, _∙_}
 use mathlib.Core.Bool.{Bool, true, false}
 use mathlib.Core.List.{List}
 use lib.ListN.{length}
+use lib.Dec.{leb}
 use borrow.Author.Tests.{le-leb, lt-leb}
-use Rattle.fields.specs.Decoded.{refused, accepted}
-use Rattle.catalogue.specs.Catalogue.{Catalogue}
-use Rattle.catalogue.specs.declared.layout.Layout.{Layout}
-use Rattle.strategy.specs.Order.{isOrder}
-use Rattle.bitmaps.specs.Bitmap.{bytesFor}
-use Rattle.bitmaps.specs.Table.{lineSize, lineBits}
-use Rattle.query.specs.Format.{predicateLimit}
-use Rattle.query.specs.Query.{Query}
-use Rattle.query.specs.Table.{recordAt}
-use Rattle.query.specs.Ladder.{Tables}
-use Rattle.run.specs.Run.{predicateAt}
-use Rattle.run.specs.Plan.{planSize, accessAt, accessOf, HaveColumns, Planned}
-use Rattle.run.specs.Ready.{Accessed, Ready, RowsReady}
-use Rattle.run.specs.Worked.{Worked, RowsWorked}
-use Rattle.run.proofs.Prepared.{have-columns, planned-accessed, ready}
-use Rattle.predicate.specs.Outcome.{Folds}
-use Rattle.predicate.specs.Payload.{tagsOf}
-use Rattle.predicate.proofs.PayloadLaws.{tags-length}
+use Rattle.fields.specs.Decoded.{refused}
 use Rattle.catalogue.specs.Format.{rowLimit}
+use Rattle.strategy.specs.Bools.{and-parts, leb-le}
+use Rattle.strategy.specs.Order.{isOrder}
+use Rattle.sets.specs.Set.{belowSet}
+use Rattle.bitmaps.specs.Bitmap.{bytesFor}
+use Rattle.bitmaps.specs.Table.{lineSize}
+use Rattle.query.specs.Format.{predicateLimit}
+use Rattle.query.specs.Table.{recordAt}
+use Rattle.query.specs.Ancestors.{Tables}
+use Rattle.plan.specs.Plan.{planSize, accessAt, accessOf, HaveColumns, Planned}
+use Rattle.plan.specs.Access.{Accessed}
+use Rattle.run.specs.declared.rows.Extent.{Extent}
+use Rattle.run.specs.Run.{predicateAt}
+use Rattle.run.specs.Ready.{given, Ready}
+use Rattle.run.specs.Worked.{Worked, ExtentOf, RowsReady, RowsWorked}
+use Rattle.run.proofs.Prepared.{have-columns, planned-accessed, ready}
+use Rattle.searchroom.specs.declared.begin.Beginning.{Beginning}
 use Rattle.searchroom.specs.declared.word.Answer.the-variants.{Refused}
 use Rattle.searchroom.specs.Word.{FitsWord}
 use Rattle.searchroom.specs.Refusals.{notOrder, tableTooShort}
+use Rattle.searchroom.specs.Checks.{checked, refusalBy}
 use Rattle.searchroom.specs.Input.{decodeInput}
-use Rattle.searchroom.specs.Begun.{Begun, BegunWith}
-use Rattle.searchroom.specs.Run.{refuse, selection, probes, runOn, runOf}
-use Rattle.searchroom.specs.Finish.{HasRoom, finished}
+use Rattle.searchroom.specs.Begun.{Begun, RunWorked}
+use Rattle.searchroom.specs.Run.{Lent, lent, Ran, refuse, taskOf, selection, probes, requestChecks, counterChecks, lookCount, accept, runOn, runOf}
+use Rattle.searchroom.specs.Finish.{finished}
+use Rattle.searchroom.proofs.Checks.{AllHold, none-fails, checked-holds, checked-fails, checked-further}
 
-pub run-refused : (b q order listed looks tally : List ℕ) (k : ℕ) → (decodeInput b q ≡ refused k) × (k < 256)
-    → (refuse k listed looks tally ≡ runOf b q order listed looks tally) × FitsWord (Refused k)
+-- CATALOGUE AND QUESTION
+
+-- what the functions that are called ask, from what is in hand
+module _ {b q : List ℕ} {r : Beginning} {T : Tables} (G : Begun b q r T) where
+  pub begun-short : r .rows ≤ rowLimit
+  begun-short = omega (arith, G .rows, G .laid .short)
+
+  pub begun-columns : HaveColumns (r .tags) (r .starts) (recordAt q (T .places)) (r .n)
+  begun-columns = rw (G .tags, G .starts) (have-columns (G .laid) (G .tabled))
+
+  pub begun-accessed : (P : List ℕ) (c : ℕ) → c < r .n → accessAt P c ≡ accessOf (r .tags) (r .starts) (recordAt q (T .places) c)
+      → Accessed b q (G .input .catalogue) (predicateAt (G .input .query) c) (accessAt P c)
+  begun-accessed P c k e = planned-accessed (G .laid) (G .tabled) P c k (rw (G .tags, G .starts) at e)
+
+  module _ (order P : List ℕ) (o : isOrder (r .n) order ≡ true) (s : length P ≡ planSize)
+      (p : Planned (r .tags) (r .starts) (recordAt q (T .places)) P (r .n)) (E : Extent) (rows : E .rows ≡ r .rows) (start : E .start ≡ belowSet (r .n)) where
+    begun-ready : Ready (given b q order P (T .ancestors)) (r .n) (taskOf (G .input) order)
+    begun-ready = ready (G .laid) (G .tabled) o s (rw (G .tags, G .starts) at p)
+
+    extent-of : ExtentOf E (r .n) (taskOf (G .input) order)
+    extent-of = record { rows = rows ∙ G .rows ∙ G .laid .rows; start = start }
+
+    pub begun-rows-ready : RowsReady (given b q order P (T .ancestors)) E
+    begun-rows-ready = (r .n, taskOf (G .input) order, begun-ready, extent-of)
+
+    pub begun-worked : (S L : List ℕ) → RowsWorked (given b q order P (T .ancestors)) E S L → RunWorked b q order (r .n) S L
+    begun-worked S L W i d =
+        let same : G .input ≡ i = cc in
+        rw same at (W (r .n) (taskOf (G .input) order) begun-ready extent-of)
+
+pub run-refused : (l : Lent) (k : ℕ) → (decodeInput (l .request .catalogue) (l .request .question) ≡ refused k) × (k < 256)
+    → (refuse k (l .listed) (l .looks) (l .tally) ≡ runOf l) × FitsWord (Refused k)
 unfolding runOf
-run-refused b q order listed looks tally k h = (rw (h .0), omega arith)
+run-refused l k h = (rw (h .0), omega arith)
 
-module _ (b q order listed looks tally : List ℕ) (l : Layout) (n : ℕ) (T : Tables) (B : Begun b q l n T) where
-  on-input : runOn (B .input) order listed looks tally ≡ runOf b q order listed looks tally
-  unfolding runOf
-  on-input = rw (B .decoded)
+-- THE REQUEST
 
-  pub run-no-order : isOrder n order ≡ false → refuse notOrder listed looks tally ≡ runOf b q order listed looks tally
-  unfolding runOn
-  run-no-order o = rw (B .tabled .count, o) at on-input
+module _ (n size : ℕ) (order : List ℕ) (listed looks : ℕ) where
+  abbrev first : ℕ
+  first = refusalBy (requestChecks n size order listed looks)
 
-  module _ (o : isOrder n order ≡ true) (rows : ℕ) (r : rows ≡ l .rows) (size : ℕ) (s : size ≡ bytesFor rows) where
-    same-rows : B .input .catalogue .rows ≡ rows
-    same-rows = sym (B .laid .1) ∙ sym r
+  pub not-order : isOrder n order ≡ false → notOrder ≡ first
+  unfolding checked
+  not-order o = rw o
 
-    pub run-listed-short : length listed < size → refuse tableTooShort listed looks tally ≡ runOf b q order listed looks tally
-    unfolding runOn
-    run-listed-short h =
-        let z : length listed < bytesFor rows = omega arith in
-        rw (B .tabled .count, o, same-rows, lt-leb (bytesFor rows) (length listed) z) at on-input
+  module _ (o : isOrder n order ≡ true) where
+    pub listed-short : listed < size → tableTooShort ≡ first
+    unfolding checked
+    listed-short h = rw (o, lt-leb size listed h)
 
-    pub run-looks-short : size ≤ length listed → length looks < n * size → refuse tableTooShort listed looks tally ≡ runOf b q order listed looks tally
-    unfolding runOn
-    run-looks-short g h =
-        let y : bytesFor rows ≤ length listed = omega arith in
-        let z : length looks < n * bytesFor rows = rw (← s) h in
-        rw (B .tabled .count, o, same-rows, le-leb (bytesFor rows) (length listed) y, lt-leb (n * bytesFor rows) (length looks) z) at on-input
+    pub looks-short : size ≤ listed → looks < n * size → tableTooShort ≡ first
+    unfolding checked
+    looks-short g h = rw (o, le-leb size listed g, lt-leb (n * size) looks h)
 
-    rows-are : rows ≡ B .input .catalogue .rows
-    rows-are = r ∙ B .laid .1
+    pub request-holds : size ≤ listed → n * size ≤ looks → 0 ≡ first
+    unfolding checked
+    request-holds g h = rw (o, le-leb size listed g, le-leb (n * size) looks h)
 
-    -- the rows are worked, and the end of the run is the definition's
-    module _ (S P : List ℕ) (W : Worked (B .input .catalogue) (B .input .query) order n S P) (few : rows ≤ lineBits) where
-      pub run-finished : size ≤ length listed → n * size ≤ length looks → finished S P n rows listed looks tally ≡ runOf b q order listed looks tally
-      unfolding runOn finished selection probes
-      run-finished g h =
-          let e : size ≡ bytesFor (B .input .catalogue .rows) = s ∙ ap bytesFor rows-are in
-          let y : bytesFor (B .input .catalogue .rows) ≤ length listed = rw (← e) g in
-          let z : n * bytesFor (B .input .catalogue .rows) ≤ length looks = rw (← e) h in
-          rw (rows-are, W .selected-bitmap, W .probes-bitmaps)
-          (rw (B .tabled .count, o, le-leb (bytesFor (B .input .catalogue .rows)) (length listed) y, le-leb (n * bytesFor (B .input .catalogue .rows)) (length looks) z) at on-input)
+  module _ (k : ℕ) (e : k ≡ first) (z : k ≡ 0) where
+    request-kept : AllHold (requestChecks n size order listed looks)
+    request-kept = none-fails (requestChecks n size order listed looks) (omega arith, (omega arith, tt)) (sym e ∙ z)
+
+    pub request-order : isOrder n order ≡ true
+    request-order = request-kept .0
+
+    pub request-room : (size ≤ listed) × (n * size ≤ looks)
+    request-room =
+        let p = and-parts (leb size listed) (leb (n * size) looks) (request-kept .1 .0) in
+        (leb-le size listed (p .0), leb-le (n * size) looks (p .1))
 
 pub order-is : (k n : ℕ) (order : List ℕ) (x v : Bool) → k ≡ n → x ≡ isOrder k order → x ≡ v → isOrder n order ≡ v
 order-is k n order x v e f g = ap (λ (j : ℕ). isOrder j order) (sym e) ∙ sym f ∙ g
@@ -85,36 +112,38 @@ order-is k n order x v e f g = ap (λ (j : ℕ). isOrder j order) (sym e) ∙ sy
 pub lines-fit : (n size : ℕ) → n ≤ predicateLimit → size ≤ lineSize → n * size < 2 ^ 64
 lines-fit n size h k = let z : n * size ≤ predicateLimit * size = mul-le-mul-right size h in omega arith
 
--- what the functions that are called ask, from what is in hand
-module _ (b q tags starts : List ℕ) (n rows : ℕ) (T : Tables) (G : BegunWith b q tags starts n rows T) where
-  abbrev C : Catalogue
-  C = G .1 .input .catalogue
+-- THE WHOLE RUN
 
-  abbrev Q : Query
-  Q = G .1 .input .query
+module _ {b q : List ℕ} {r : Beginning} {T : Tables} (G : Begun b q r T) (order listed looks tally : List ℕ) (size : ℕ) (s : size ≡ bytesFor (r .rows)) where
+  abbrev asked : Lent
+  asked = lent b q order listed looks tally
 
-  pub begun-rows : rows ≤ rowLimit
-  begun-rows = omega (arith, G .4, G .1 .laid .3)
+  abbrev task-size : ℕ
+  task-size = bytesFor (G .input .catalogue .rows)
 
-  pub begun-columns : HaveColumns tags starts (recordAt q (T .places)) n
-  begun-columns = rw (G .2, G .3) (have-columns b q (tagsOf C) (G .0) C Q n T (G .1 .laid) (tags-length (C .columns)) (G .1 .tabled) (G .1 .laid .6) (G .1 .laid .7))
+  same-size : size ≡ task-size
+  same-size = s ∙ ap bytesFor (G .rows ∙ G .laid .rows)
 
-  pub begun-accessed : (P : List ℕ) (c : ℕ) → c < n → accessAt P c ≡ accessOf tags starts (recordAt q (T .places) c) → Accessed b q C (predicateAt Q c) (accessAt P c)
-  begun-accessed P c k e =
-      planned-accessed b q (tagsOf C) (G .0) C Q n T (G .1 .laid) (tags-length (C .columns)) (G .1 .tabled) P c k (rw (G .2, G .3) at e)
+  -- the checks of the request, then that of the counter
+  abbrev further : Ran
+  further =
+      checked (counterChecks tally (lookCount (taskOf (G .input) order))) (λ e. refuse e listed looks tally) (accept (taskOf (G .input) order) asked)
 
-  module _ (F order P : List ℕ) (k : ℕ) (same : k ≡ n) (folds : Folds F) (o : isOrder n order ≡ true) (size : length P ≡ planSize)
-      (planned : Planned tags starts (recordAt q (T .places)) P n) where
-    begun-ready : Ready F b q order P (T .masks) (T .sorts) (T .heights) k C Q
-    begun-ready =
-        rw same
-        (ready b q (tagsOf C) (G .0) C Q n T (G .1 .laid) (tags-length (C .columns)) (G .1 .tabled) F order P folds o size (rw (G .2, G .3) at planned))
+  on-input : checked (requestChecks (r .n) size order (length listed) (length looks)) (λ e. refuse e listed looks tally) further ≡ runOf asked
+  unfolding runOf runOn
+  on-input = rw (G .decoded, G .tabled .count, same-size) (sym (checked-further (λ e. refuse e listed looks tally)
+      (requestChecks (r .n) task-size order (length listed) (length looks)) _ _))
 
-    pub begun-rows-ready : RowsReady F b q order P (T .masks) (T .sorts) (T .heights) k rows
-    begun-rows-ready = (C, Q, begun-ready, G .4 ∙ G .1 .laid .1)
+  module _ (k : ℕ) (e : k ≡ refusalBy (requestChecks (r .n) size order (length listed) (length looks))) where
+    pub run-declined : (k ≡ 0 → ⊥) → refuse k listed looks tally ≡ runOf asked
+    run-declined ne =
+        rw e (sym (checked-fails (λ x. refuse x listed looks tally) (requestChecks (r .n) size order (length listed) (length looks)) further (rw e at ne)) ∙ on-input)
 
-    pub begun-worked : (S L : List ℕ) → RowsWorked F b q order P (T .masks) (T .sorts) (T .heights) k rows S L → Worked C Q order n S L
-    begun-worked S L W = rw same at (W C Q begun-ready (G .4 ∙ G .1 .laid .1))
-
-pub has-room : (n rows size : ℕ) (listed looks : List ℕ) → size ≡ bytesFor rows → size ≤ length listed → n * size ≤ length looks → HasRoom n rows listed looks
-has-room n rows size listed looks e g h = (rw (← e) g, rw (← e) h)
+    -- the rows are worked, and the end of the run is the definition's
+    pub run-finished : k ≡ 0 → (S P : List ℕ) → RunWorked b q order (r .n) S P → finished S P (r .n) size listed looks tally ≡ runOf asked
+    unfolding finished selection probes
+    run-finished z S P W =
+        let w : Worked (taskOf (G .input) order) (r .n) S P = W (G .input) (G .decoded) in
+        rw (same-size, w .selected-bitmap, w .probes-bitmaps, ← G .tabled .count)
+        (sym (checked-holds (λ x. refuse x listed looks tally) (requestChecks (r .n) size order (length listed) (length looks)) _
+        (request-kept (r .n) size order (length listed) (length looks) k e z)) ∙ on-input)

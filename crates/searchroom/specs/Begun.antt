@@ -4,29 +4,35 @@ use mathlib.Core.Path.{_≡_}
 use mathlib.Core.List.{List}
 use Rattle.fields.specs.Decoded.{refused, accepted}
 use Rattle.catalogue.specs.declared.layout.Layout.{Layout}
-use Rattle.catalogue.specs.Layout.{LaidOut}
+use Rattle.catalogue.specs.Layout.{Laid}
 use Rattle.predicate.specs.Payload.{tagsOf}
-use Rattle.query.specs.Ladder.{Tables, tables}
+use Rattle.query.specs.Ancestors.{Tables, tables}
 use Rattle.query.specs.Handed.{Tabled}
+use Rattle.run.specs.Worked.{Worked}
 use Rattle.searchroom.specs.declared.begin.Beginning.{Beginning}
 use Rattle.searchroom.specs.Input.{Input, decodeInput}
+use Rattle.searchroom.specs.Run.{taskOf}
 
 -- the decoded input, and all that the layout and the reader's tables show of it
-pub record Begun (b q : List ℕ) (l : Layout) (n : ℕ) (T : Tables) : Type 0 where
+pub record Begun (b q : List ℕ) (r : Beginning) (T : Tables) : Type 0 where
   pub input : Input
   pub decoded : decodeInput b q ≡ accepted input
-  pub laid : LaidOut b l (accepted (input .catalogue))
-  pub tabled : Tabled (tagsOf (input .catalogue)) q (input .query) n T
-
--- the same with the parts of the layout that are handed on
-abbrev pub BegunWith : (b q tags starts : List ℕ) → (n rows : ℕ) → Tables → Type 0
-BegunWith b q tags starts n rows T = (l : Layout) × Begun b q l n T × (tags ≡ l .tags) × (starts ≡ l .starts) × (rows ≡ l .rows)
+  pub layout : Layout
+  pub laid : Laid b layout (input .catalogue)
+  pub tags : r .tags ≡ layout .tags
+  pub starts : r .starts ≡ layout .starts
+  pub rows : r .rows ≡ layout .rows
+  pub tabled : Tabled (tagsOf (input .catalogue)) q (input .query) (r .n) T
 
 -- the same where the groups around the predicates don't matter
-abbrev pub BegunPlaces : (b q tags starts : List ℕ) → (n rows : ℕ) → (places : List ℕ) → Type 0
-BegunPlaces b q tags starts n rows places = (masks sorts heights : List ℕ) × BegunWith b q tags starts n rows (tables places masks sorts heights)
+abbrev pub BegunPlaces : (b q : List ℕ) → Beginning → (places : List ℕ) → Type 0
+BegunPlaces b q r places = (ancestors : List ℕ) × Begun b q r (tables places ancestors)
 
 -- the beginning of a call: a refusal of the input, or all in hand
 pub record Begins (b q : List ℕ) (r : Beginning) (T : Tables) : Type 0 where
   pub refuses : (r .refusal ≡ 0 → ⊥) → (decodeInput b q ≡ refused (r .refusal)) × (r .refusal < 256)
-  pub accepts : r .refusal ≡ 0 → BegunWith b q (r .tags) (r .starts) (r .n) (r .rows) T
+  pub accepts : r .refusal ≡ 0 → Begun b q r T
+
+-- a run's own tables hold what its task gives
+abbrev pub RunWorked : (b q order : List ℕ) → (n : ℕ) → (selected probes : List ℕ) → Type 0
+RunWorked b q order n S P = (i : Input) → decodeInput b q ≡ accepted i → Worked (taskOf i order) n S P

@@ -17,7 +17,7 @@ use Rattle.searchroom.specs.declared.word.Answer.the-variants.{Refused, 
 use Rattle.searchroom.specs.Word.{packed}
 use Rattle.searchroom.specs.Input.{Input, decodeInput}
 use Rattle.searchroom.specs.Answers.{catalogueAnswer, questionAnswer}
-use Rattle.searchroom.specs.Run.{Ran, ran, predicateCount, counterSize, runOf}
+use Rattle.searchroom.specs.Run.{lent, Ran, ran, predicateCount, counterSize, runOf}
 use Rattle.searchroom.specs.Parish.{parish, yearBlank, both, question, nested}
 
 pub data Case : Type 0 where
@@ -41,11 +41,11 @@ Holds (catalogueCheck b a) = catalogueAnswer (decodeCatalogue b) ≡ a
 Holds (questionCheck b q a) = questionAnswer (decodeInput b q) ≡ a
 Holds (findsNothing b) =
     (q order listed looks tally : List ℕ) (i : Input) → decodeInput b q ≡ accepted i → isOrder (predicateCount i) order ≡ true → Bytes tally → length tally ≡ counterSize
-    → runOf b q order listed looks tally ≡ ran (packed (Accepted 0 0 0)) listed looks tally
+    → runOf (lent b q order listed looks tally) ≡ ran (packed (Accepted 0 0 0)) listed looks tally
 Holds (folds x y) = fold x ≡ y
 Holds (numberOutcome kind o n a) = outcomeOf (numbers (n ∷ [])) kind o 0 ≡ a
 Holds (isIn o t b) = contains o t ≡ b
-Holds (runs b q order listed looks tally r) = runOf b q order listed looks tally ≡ r
+Holds (runs b q order listed looks tally r) = runOf (lent b q order listed looks tally) ≡ r
 
 abbrev pub zeros : ℕ → List ℕ
 zeros n = replicate n 0

@@ -34,7 +34,7 @@ use Rattle.run.specs.Run.{predicateAt, assignmentAt}
 use Rattle.searchroom.specs.Word.{packed}
 use Rattle.searchroom.specs.Input.{Input, decodeInput}
 use Rattle.searchroom.specs.Answers.{catalogueAnswer, questionAnswer, outcomeNumber, outcomeAnswer}
-use Rattle.searchroom.specs.Run.{Ran, rowCount, predicateCount, lookCount, runOf}
+use Rattle.searchroom.specs.Run.{Lent, Ran, rowCount, predicateCount, taskOf, lookCount, runOf}
 
 -- WORDS OF THIS PAGE
 
@@ -54,19 +54,11 @@ abbrev pub outcomeWord : (catalogue question : List ℕ) → (entry condition : 
 outcomeWord b q entry c = packed (outcomeAnswer (decodeInput b q) entry c)
 
 -- what a run is lent, and what it leaves: its word and the three tables; a lent slice is a list of bytes
-pub record Lent : Type 0 where
-  pub catalogue : List ℕ
-  pub question : List ℕ
-  pub order : List ℕ
-  pub listed : List ℕ
-  pub looks : List ℕ
-  pub tally : List ℕ
-
 abbrev pub InBytes : Lent → Type 0
-InBytes l = Bytes (l .catalogue) × Bytes (l .question)
+InBytes l = Bytes (l .request .catalogue) × Bytes (l .request .question)
 
 abbrev pub after : Lent → Ran
-after l = runOf (l .catalogue) (l .question) (l .order) (l .listed) (l .looks) (l .tally)
+after l = runOf l
 
 -- document 01's "Catalogue": these bytes are those of a catalogue as it allows
 abbrev pub IsCatalogue : (bytes : List ℕ) → Catalogue → Type 0
@@ -98,23 +90,23 @@ TablesFit i listed looks = (lineBytes i ≤ length listed) × (predicateCount i 
 
 -- the tally is eight bytes, and the sum does not pass 2^64 − 1
 abbrev pub TallyFits : Input → (order tally : List ℕ) → Type 0
-TallyFits i order tally = (length tally ≡ 8) × (numberAt tally 0 8 + lookCount i order < 2 ^ 64)
+TallyFits i order tally = (length tally ≡ 8) × (numberAt tally 0 8 + lookCount (taskOf i order) < 2 ^ 64)
 
 -- a run that breaks nothing
 pub record Kept (l : Lent) (i : Input) : Type 0 where
-  pub forms : Reads (l .catalogue) (l .question) i
-  pub order : RunningOrder i (l .order)
+  pub forms : Reads (l .request .catalogue) (l .request .question) i
+  pub order : RunningOrder i (l .request .order)
   pub tables : TablesFit i (l .listed) (l .looks)
-  pub tally : TallyFits i (l .order) (l .tally)
+  pub tally : TallyFits i (l .request .order) (l .tally)
 
 -- "The first failing check in the stated order decides." "Running: 1 to 14; 15, ..; 16, ..; 17, .."
 pub data FirstBroken (l : Lent) (e : ℕ) : Type 0 where
-  badForm : FormBroken (l .catalogue) (l .question) e → FirstBroken l e
-  badOrder : (i : Input) → Reads (l .catalogue) (l .question) i → (RunningOrder i (l .order) → ⊥) → e ≡ 15 → FirstBroken l e
-  badTables : (i : Input) → Reads (l .catalogue) (l .question) i → RunningOrder i (l .order) → (TablesFit i (l .listed) (l .looks) → ⊥)
+  badForm : FormBroken (l .request .catalogue) (l .request .question) e → FirstBroken l e
+  badOrder : (i : Input) → Reads (l .request .catalogue) (l .request .question) i → (RunningOrder i (l .request .order) → ⊥) → e ≡ 15 → FirstBroken l e
+  badTables : (i : Input) → Reads (l .request .catalogue) (l .request .question) i → RunningOrder i (l .request .order) → (TablesFit i (l .listed) (l .looks) → ⊥)
       → e ≡ 16 → FirstBroken l e
-  badTally : (i : Input) → Reads (l .catalogue) (l .question) i → RunningOrder i (l .order) → TablesFit i (l .listed) (l .looks)
-      → (TallyFits i (l .order) (l .tally) → ⊥) → e ≡ 17 → FirstBroken l e
+  badTally : (i : Input) → Reads (l .request .catalogue) (l .request .question) i → RunningOrder i (l .request .order) → TablesFit i (l .listed) (l .looks)
+      → (TallyFits i (l .request .order) (l .tally) → ⊥) → e ≡ 17 → FirstBroken l e
 
 -- "On an entry of a run the pattern is that entry's true outcomes": each condition's by document 01's rules
 abbrev pub pattern : Input → (entry : ℕ) → Assignment
@@ -246,7 +238,7 @@ Demand2Listed = (l : Lent) (i : Input) → Kept l i → LineOf (λ e. treeValue 
 abbrev pub Demand2Looks : Type 0
 Demand2Looks =
     (l : Lent) (i : Input) → Kept l i → (c : ℕ) → c < predicateCount i
-    → LineOf (λ e. LookDue i (l .order) (pattern i e) c) (rowCount i) (looksLine i (after l .looks) c)
+    → LineOf (λ e. LookDue i (l .request .order) (pattern i e) c) (rowCount i) (looksLine i (after l .looks) c)
 
 -- "The counts are those of listed entries and of looks."
 abbrev pub Demand2Counts : Type 0
@@ -259,9 +251,9 @@ Demand2Counts =
 abbrev pub Demand2Tally : Type 0
 Demand2Tally =
     (l : Lent) (i : Input) → Kept l i
-    → (after l .word / 2 ^ 40 ≡ lookCount i (l .order)) × (lookCount i (l .order) ≤ rowCount i * predicateCount i)
-    × (after l .tally ≡ bytesOf 8 (numberAt (l .tally) 0 8 + lookCount i (l .order)))
-    × (numberAt (after l .tally) 0 8 ≡ numberAt (l .tally) 0 8 + lookCount i (l .order))
+    → (after l .word / 2 ^ 40 ≡ lookCount (taskOf i (l .request .order))) × (lookCount (taskOf i (l .request .order)) ≤ rowCount i * predicateCount i)
+    × (after l .tally ≡ bytesOf 8 (numberAt (l .tally) 0 8 + lookCount (taskOf i (l .request .order))))
+    × (numberAt (after l .tally) 0 8 ≡ numberAt (l .tally) 0 8 + lookCount (taskOf i (l .request .order)))
 
 -- "Longer tables keep their further bytes."
 abbrev pub Demand2Further : Type 0
@@ -295,12 +287,12 @@ Demand3Ours =
 abbrev pub Demand3Count : Type 0
 Demand3Count =
     (b q : List ℕ) (i : Input) → Reads b q i → (order : List ℕ) → RunningOrder i order
-    → lookCount i order ≡ sumOf (λ e. length (probes (ours (treeValue i) order) (pattern i e) order)) (rowCount i)
+    → lookCount (taskOf i order) ≡ sumOf (λ e. length (probes (ours (treeValue i) order) (pattern i e) order)) (rowCount i)
 
 -- "For every accepted run and every such way for its question and order, the looks registered on an entry are among those the way makes there,
 -- and the look count is at most the way's looks over all the entries."
 abbrev pub Demand3Run : Type 0
 Demand3Run =
-    (l : Lent) (i : Input) → Kept l i → (way : Strategy) → Right (treeValue i) (l .order) way
-    → ((e c : ℕ) → e < rowCount i → c < predicateCount i → bit (looksLine i (after l .looks) c) e ≡ true → Among c (probes way (pattern i e) (l .order)))
-    × (after l .word / 2 ^ 40 ≤ sumOf (λ e. length (probes way (pattern i e) (l .order))) (rowCount i))
+    (l : Lent) (i : Input) → Kept l i → (way : Strategy) → Right (treeValue i) (l .request .order) way
+    → ((e c : ℕ) → e < rowCount i → c < predicateCount i → bit (looksLine i (after l .looks) c) e ≡ true → Among c (probes way (pattern i e) (l .request .order)))
+    × (after l .word / 2 ^ 40 ≤ sumOf (λ e. length (probes way (pattern i e) (l .request .order))) (rowCount i))

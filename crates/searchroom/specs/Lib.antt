@@ -1,9 +1,10 @@
 pub mod Word
 pub mod Refusals
+pub mod Checks
 pub mod Input
-pub mod Begun
 pub mod Answers
 pub mod Run
+pub mod Begun
 pub mod Finish
 pub mod Demands
 pub mod Parish

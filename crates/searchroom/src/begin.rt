@@ -1,7 +1,7 @@
 // How every call on a question begins: the catalogue laid out, the question read against it.
 use catalogue::format::Column;
 use query::whole::Reading;
-ghost use Rattle.query.specs.Ladder.{tables};
+ghost use Rattle.query.specs.Ancestors.{tables};
 ghost use Rattle.query.specs.Handed.{TablesSized};
 ghost use Rattle.searchroom.specs.Begun.{Begins};
 
@@ -19,12 +19,10 @@ pub fn begin(
     catalogue: &[u8],
     question: &[u8],
     places: &mut [usize],
-    masks: &mut [u64],
-    sorts: &mut [u8],
-    heights: &mut [usize],
+    ancestors: &mut [u8],
 ) -> Beginning
-    requires { ⌜ TablesSized (tables (now places) (now masks) (now sorts) (now heights)) ⌝ }
-    ensures { λ r. ⌜ Begins (now (catalogue .entry)) (now (question .entry)) r (tables (now (places .exit)) (now (masks .exit)) (now (sorts .exit)) (now (heights .exit))) ⌝ }
+    requires { ⌜ TablesSized (tables (now places) (now ancestors)) ⌝ }
+    ensures { λ r. ⌜ Begins (now (catalogue .entry)) (now (question .entry)) r (tables (now (places .exit)) (now (ancestors .exit))) ⌝ }
 {
     let layout = catalogue::layout::lay_out(catalogue);
     let refusal = layout.refusal;
@@ -41,7 +39,7 @@ pub fn begin(
             starts,
         };
     }
-    match query::whole::read_query(&tags[..columns], question, places, masks, sorts, heights) {
+    match query::whole::read_query(&tags[..columns], question, places, ancestors) {
         Reading::Refused(e) => Beginning {
             refusal: e,
             rows,

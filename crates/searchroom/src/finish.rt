@@ -5,31 +5,29 @@ use fields::counter::Counter;
 ghost use mathlib.Core.Path.{_≡_};
 ghost use Prim.Native.Nat.{_*_, _≤_};
 ghost use lib.ListN.{length};
-ghost use Rattle.catalogue.specs.Format.{rowLimit};
 ghost use Rattle.query.specs.Format.{predicateLimit};
 ghost use Rattle.bitmaps.specs.Table.{lineSize};
 ghost use Rattle.searchroom.specs.Word.{packed, FitsWord};
 ghost use Rattle.searchroom.specs.Run.{ran};
 ghost use Rattle.searchroom.specs.Finish.{finished, HasRoom};
 
-// Ends a run whose own tables are these: refusal 17, or the results, the lent tables and the counter.
+// Ends a run whose own tables are these, with lines of this size: refusal 17, or the results, the lent tables and the counter.
 pub fn finish(
     selected: &[u8],
     probes: &[u8],
     n: usize,
-    rows: usize,
+    size: usize,
     listed: &mut [u8],
     looks: &mut [u8],
     tally: &mut [u8],
 ) -> Answer
-    requires { ⌜ (length (now selected) ≡ lineSize) × (length (now probes) ≡ predicateLimit * lineSize) × (n ≤ predicateLimit) × (rows ≤ rowLimit) ⌝ }
-    requires { ⌜ HasRoom n rows (now listed) (now looks) ⌝ }
-    ensures { λ r. ⌜ (ran (packed r) (now (listed .exit)) (now (looks .exit)) (now (tally .exit)) ≡ finished (now (selected .entry)) (now (probes .entry)) n rows (now (listed .entry)) (now (looks .entry)) (now (tally .entry))) × FitsWord r ⌝ }
+    requires { ⌜ (length (now selected) ≡ lineSize) × (length (now probes) ≡ predicateLimit * lineSize) × (n ≤ predicateLimit) × (size ≤ lineSize) ⌝ }
+    requires { ⌜ HasRoom n size (now listed) (now looks) ⌝ }
+    ensures { λ r. ⌜ (ran (packed r) (now (listed .exit)) (now (looks .exit)) (now (tally .exit)) ≡ finished (now (selected .entry)) (now (probes .entry)) n size (now (listed .entry)) (now (looks .entry)) (now (tally .entry))) × FitsWord r ⌝ }
 {
     if tally.len() != Counter::SIZE {
         return Answer::Refused(Refusal::COUNTER_REFUSED);
     }
-    let size = bitmaps::size::bytes_for(rows);
     let found = bitmaps::ones::count_lines(selected, 1, size);
     let looked = bitmaps::ones::count_lines(probes, n, size);
     let before = fields::counter::eight_bytes(tally);

@@ -1,9 +1,10 @@
 // Working out one condition at one entry.
+use crate::begin::Beginning;
 use crate::refusal::Refusal;
 use crate::word::Answer;
-use query::ladder::Ladder;
+use plan::table::Plan;
+use query::ancestors::Ancestors;
 use query::table::Predicate;
-use run::plan::Plan;
 ghost use mathlib.Core.Path.{_≡_};
 ghost use Rattle.searchroom.specs.Word.{packed};
 ghost use Rattle.searchroom.specs.Input.{decodeInput};
@@ -22,17 +23,18 @@ fn number_of(answer: predicate::answer::Answer) -> u64
 fn outcome_accepted(
     catalogue: &[u8],
     question: &[u8],
-    tags: &[u8],
-    starts: &[usize],
+    begun: Beginning,
     places: &[usize],
-    n: usize,
-    rows: usize,
     entry: u64,
     condition: u64,
 ) -> Answer
-    requires { ⌜ BegunPlaces (now catalogue) (now question) (now tags) (now starts) n rows (now places) ⌝ }
+    requires { ⌜ BegunPlaces (now catalogue) (now question) begun (now places) ⌝ }
     ensures { λ r. ⌜ Answered (outcomeAnswer (decodeInput (now (catalogue .entry)) (now (question .entry))) entry condition) r ⌝ }
 {
+    let rows = begun.rows;
+    let n = begun.n;
+    let tags = begun.tags;
+    let starts = begun.starts;
     if rows as u64 <= entry {
         return Answer::Refused(Refusal::NO_SUCH_PLACE);
     }
@@ -40,16 +42,16 @@ fn outcome_accepted(
         return Answer::Refused(Refusal::NO_SUCH_PLACE);
     }
     let mut plan = [0usize; Plan::TABLE];
-    run::plan::plan_predicate(
-        tags,
-        starts,
+    plan::table::plan_predicate(
+        &tags,
+        &starts,
         question,
         places,
         condition as usize,
         &mut plan,
     );
     let fold = predicate::fold::fold_table();
-    let answer = run::plan::answer_of(
+    let answer = plan::outcome::answer_of(
         &fold,
         catalogue,
         question,
@@ -68,36 +70,13 @@ fn outcome_at(catalogue: &[u8], question: &[u8], entry: u64, condition: u64) -> 
     ensures { λ r. ⌜ Answered (outcomeAnswer (decodeInput (now (catalogue .entry)) (now (question .entry))) entry condition) r ⌝ }
 {
     let mut places = [0usize; Predicate::LIMIT];
-    let mut masks = [0u64; Ladder::TABLE];
-    let mut sorts = [0u8; Ladder::TABLE];
-    let mut heights = [0usize; Predicate::LIMIT];
-    let begun = crate::begin::begin(
-        catalogue,
-        question,
-        &mut places,
-        &mut masks,
-        &mut sorts,
-        &mut heights,
-    );
+    let mut ancestors = [0u8; Ancestors::TABLE];
+    let begun = crate::begin::begin(catalogue, question, &mut places, &mut ancestors);
     let refusal = begun.refusal;
     if refusal != 0 {
         return Answer::Refused(refusal);
     }
-    let rows = begun.rows;
-    let n = begun.n;
-    let tags = begun.tags;
-    let starts = begun.starts;
-    outcome_accepted(
-        catalogue,
-        question,
-        &tags,
-        &starts,
-        &places,
-        n,
-        rows,
-        entry,
-        condition,
-    )
+    outcome_accepted(catalogue, question, begun, &places, entry, condition)
 }
 
 #[no_mangle]

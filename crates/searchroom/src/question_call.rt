@@ -1,6 +1,6 @@
 // Checking a question against a catalogue.
 use crate::word::Answer;
-use query::ladder::Ladder;
+use query::ancestors::Ancestors;
 use query::table::Predicate;
 ghost use mathlib.Core.Path.{_≡_};
 ghost use Rattle.searchroom.specs.Word.{packed};
@@ -11,17 +11,8 @@ fn check_question(catalogue: &[u8], question: &[u8]) -> Answer
     ensures { λ r. ⌜ Answered (questionAnswer (decodeInput (now (catalogue .entry)) (now (question .entry)))) r ⌝ }
 {
     let mut places = [0usize; Predicate::LIMIT];
-    let mut masks = [0u64; Ladder::TABLE];
-    let mut sorts = [0u8; Ladder::TABLE];
-    let mut heights = [0usize; Predicate::LIMIT];
-    let begun = crate::begin::begin(
-        catalogue,
-        question,
-        &mut places,
-        &mut masks,
-        &mut sorts,
-        &mut heights,
-    );
+    let mut ancestors = [0u8; Ancestors::TABLE];
+    let begun = crate::begin::begin(catalogue, question, &mut places, &mut ancestors);
     let refusal = begun.refusal;
     if refusal != 0 {
         return Answer::Refused(refusal);

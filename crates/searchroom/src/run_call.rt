@@ -1,67 +1,76 @@
 // Running a question in a given order.
+use crate::begin::Beginning;
 use crate::refusal::Refusal;
 use crate::word::Answer;
 use bitmaps::copy::Line;
-use query::ladder::Ladder;
+use plan::table::Plan;
+use query::ancestors::Ancestors;
 use query::table::Predicate;
-use run::plan::Plan;
+use run::rows::Extent;
 ghost use mathlib.Core.Path.{_≡_};
-ghost use Rattle.query.specs.Ladder.{tables};
+ghost use mathlib.Core.Bool.{true};
+ghost use Prim.Native.Nat.{_≤_};
+ghost use Rattle.strategy.specs.Order.{isOrder};
+ghost use Rattle.bitmaps.specs.Table.{lineSize};
+ghost use Rattle.query.specs.Format.{predicateLimit};
+ghost use Rattle.query.specs.Ancestors.{tables};
+ghost use Rattle.run.specs.Worked.{Empty};
 ghost use Rattle.searchroom.specs.Word.{packed, FitsWord};
-ghost use Rattle.searchroom.specs.Begun.{BegunWith};
-ghost use Rattle.searchroom.specs.Run.{ran, runOf};
+ghost use Rattle.searchroom.specs.Checks.{refusalBy};
+ghost use Rattle.searchroom.specs.Begun.{Begun, RunWorked};
+ghost use Rattle.searchroom.specs.Run.{requestChecks, lent, ran, runOf};
 
-// The checks of the order and of the lent tables, then the rows into tables of the run's own, and its end.
-fn run_accepted(
+// The checks that need no work: 0, or the number of the first that fails. A line of bits has this size, the lent tables are so long.
+fn check_request(order: &[u8], n: usize, size: usize, listed: usize, looks: usize) -> u8
+    requires { ⌜ (n ≤ predicateLimit) × (size ≤ lineSize) ⌝ }
+    ensures { λ r. ⌜ r ≡ refusalBy (requestChecks n size (now (order .entry)) listed looks) ⌝ }
+{
+    if !sets::is_order(order, fields::number::narrow(n)) {
+        return Refusal::NOT_ORDER;
+    }
+    if listed < size {
+        return Refusal::TABLE_TOO_SHORT;
+    }
+    if looks < n * size {
+        return Refusal::TABLE_TOO_SHORT;
+    }
+    0
+}
+
+// All rows into tables of the run's own.
+fn work(
     catalogue: &[u8],
     question: &[u8],
     order: &[u8],
-    tags: &[u8],
-    starts: &[usize],
+    begun: Beginning,
     places: &[usize],
-    masks: &[u64],
-    sorts: &[u8],
-    heights: &[usize],
-    n: usize,
-    rows: usize,
-    listed: &mut [u8],
-    looks: &mut [u8],
-    tally: &mut [u8],
-) -> Answer
-    requires { ⌜ BegunWith (now catalogue) (now question) (now tags) (now starts) n rows (tables (now places) (now masks) (now sorts) (now heights)) ⌝ }
-    ensures { λ r. ⌜ (ran (packed r) (now (listed .exit)) (now (looks .exit)) (now (tally .exit)) ≡ runOf (now (catalogue .entry)) (now (question .entry)) (now (order .entry)) (now (listed .entry)) (now (looks .entry)) (now (tally .entry))) × FitsWord r ⌝ }
+    ancestors: &[u8],
+    selected: &mut [u8],
+    probes: &mut [u8],
+)
+    requires { ⌜ Begun (now catalogue) (now question) begun (tables (now places) (now ancestors)) × (isOrder (begun .n) (now order) ≡ true) ⌝ }
+    requires { ⌜ Empty 1 (now selected) × Empty predicateLimit (now probes) ⌝ }
+    ensures { λ _. ⌜ RunWorked (now (catalogue .entry)) (now (question .entry)) (now (order .entry)) (begun .n) (now (selected .exit)) (now (probes .exit)) ⌝ }
 {
-    let count = fields::number::narrow(n);
-    if !sets::is_order(order, count) {
-        return Answer::Refused(Refusal::NOT_ORDER);
-    }
-    let size = bitmaps::size::bytes_for(rows);
-    if listed.len() < size {
-        return Answer::Refused(Refusal::TABLE_TOO_SHORT);
-    }
-    if looks.len() < n * size {
-        return Answer::Refused(Refusal::TABLE_TOO_SHORT);
-    }
+    let n = begun.n;
+    let tags = begun.tags;
+    let starts = begun.starts;
     let mut plan = [0usize; Plan::TABLE];
-    run::plan::fill_plan(tags, starts, question, places, n, &mut plan);
-    let fold = predicate::fold::fold_table();
-    let mut selected = [0u8; Line::SIZE];
-    let mut probes = [0u8; Predicate::LIMIT * Line::SIZE];
+    plan::table::fill_plan(&tags, &starts, question, places, n, &mut plan);
+    let extent = Extent {
+        rows: begun.rows,
+        start: sets::below(fields::number::narrow(n)),
+    };
     run::rows::work_rows(
-        &fold,
         catalogue,
         question,
         order,
         &plan,
-        masks,
-        sorts,
-        heights,
-        count,
-        rows,
-        &mut selected,
-        &mut probes,
+        ancestors,
+        extent,
+        selected,
+        probes,
     );
-    crate::finish::finish(&selected, &probes, n, rows, listed, looks, tally)
 }
 
 fn run_question(
@@ -72,44 +81,34 @@ fn run_question(
     looks: &mut [u8],
     tally: &mut [u8],
 ) -> Answer
-    ensures { λ r. ⌜ (ran (packed r) (now (listed .exit)) (now (looks .exit)) (now (tally .exit)) ≡ runOf (now (catalogue .entry)) (now (question .entry)) (now (order .entry)) (now (listed .entry)) (now (looks .entry)) (now (tally .entry))) × FitsWord r ⌝ }
+    ensures { λ r. ⌜ (ran (packed r) (now (listed .exit)) (now (looks .exit)) (now (tally .exit)) ≡ runOf (lent (now (catalogue .entry)) (now (question .entry)) (now (order .entry)) (now (listed .entry)) (now (looks .entry)) (now (tally .entry)))) × FitsWord r ⌝ }
 {
     let mut places = [0usize; Predicate::LIMIT];
-    let mut masks = [0u64; Ladder::TABLE];
-    let mut sorts = [0u8; Ladder::TABLE];
-    let mut heights = [0usize; Predicate::LIMIT];
-    let begun = crate::begin::begin(
-        catalogue,
-        question,
-        &mut places,
-        &mut masks,
-        &mut sorts,
-        &mut heights,
-    );
+    let mut ancestors = [0u8; Ancestors::TABLE];
+    let begun = crate::begin::begin(catalogue, question, &mut places, &mut ancestors);
     let refusal = begun.refusal;
     if refusal != 0 {
         return Answer::Refused(refusal);
     }
-    let rows = begun.rows;
     let n = begun.n;
-    let tags = begun.tags;
-    let starts = begun.starts;
-    run_accepted(
+    let size = bitmaps::size::bytes_for(begun.rows);
+    let failing = check_request(order, n, size, listed.len(), looks.len());
+    if failing != 0 {
+        return Answer::Refused(failing);
+    }
+    let mut selected = [0u8; Line::SIZE];
+    let mut probes = [0u8; Predicate::LIMIT * Line::SIZE];
+    work(
         catalogue,
         question,
         order,
-        &tags,
-        &starts,
+        begun,
         &places,
-        &masks,
-        &sorts,
-        &heights,
-        n,
-        rows,
-        listed,
-        looks,
-        tally,
-    )
+        &ancestors,
+        &mut selected,
+        &mut probes,
+    );
+    crate::finish::finish(&selected, &probes, n, size, listed, looks, tally)
 }
 
 #[no_mangle]
@@ -121,7 +120,7 @@ pub extern "C" fn searchroom_run(
     looks: &mut [u8],
     tally: &mut [u8],
 ) -> u64
-    ensures { λ r. ⌜ ran r (now (listed .exit)) (now (looks .exit)) (now (tally .exit)) ≡ runOf (now (catalogue .entry)) (now (question .entry)) (now (order .entry)) (now (listed .entry)) (now (looks .entry)) (now (tally .entry)) ⌝ }
+    ensures { λ r. ⌜ ran r (now (listed .exit)) (now (looks .exit)) (now (tally .exit)) ≡ runOf (lent (now (catalogue .entry)) (now (question .entry)) (now (order .entry)) (now (listed .entry)) (now (looks .entry)) (now (tally .entry))) ⌝ }
 {
     crate::word::pack(run_question(catalogue, question, order, listed, looks, tally))
 }

@@ -11,13 +11,13 @@ lay-out-requires : tie.Need-lay-out-requires
 lay-out-requires c κs = search needs
 
 returns : tie.Need-returns
-returns c = record { refuses = λ ne. layout-refuses (c .before .before .before .before .before .before .before .before .before .before .args .catalogue .now) (c .before .before .before .before .before .before .before .before .before .before .args .question .now) (c .before .before .before .lay-out .result) (c .before .before .before .lay-out .ensures) ne; accepts = λ z. absurd (c .if1 .taken z) }
+returns c = record { refuses = λ ne. layout-refuses _ _ _ (c .before .before .before .lay-out .ensures) ne; accepts = λ z. absurd (c .if1 .taken z) }
 
 array-share-prefix-tags : tie.Need-array-share-prefix-tags
-array-share-prefix-tags c = laid-columns-few (c .before .before .before .before .before .before .before .before .before .before .args .catalogue .now) (c .before .before .before .lay-out .result) (decodeCatalogue (c .before .before .before .before .before .before .before .before .before .before .args .catalogue .now)) (c .before .before .before .lay-out .ensures)
+array-share-prefix-tags c = let l = c .before .before .before .lay-out in laid-columns-few _ (l .result) (decodeCatalogue (c .before .before .before .before .before .before .before .before .args .catalogue .now)) (l .ensures)
 
 slice-aggregate-read-query : tie.Need-slice-aggregate-read-query
-slice-aggregate-read-query c = laid-tags-length (c .before .before .before .before .before .before .before .before .before .before .before .args .catalogue .now) (c .before .before .before .before .lay-out .result) (decodeCatalogue (c .before .before .before .before .before .before .before .before .before .before .before .args .catalogue .now)) (c .before .before .before .before .lay-out .ensures)
+slice-aggregate-read-query c = let l = c .before .before .before .before .lay-out in laid-tags-length _ (l .result) (decodeCatalogue (c .before .before .before .before .before .before .before .before .before .args .catalogue .now)) (l .ensures)
 
 read-query-requires : tie.Need-read-query-requires
 read-query-requires c κs = search needs
@@ -34,31 +34,27 @@ same-length c = search needs
 same-length-2 : tie.Need-same-length-2
 same-length-2 c = search needs
 
+returns-2 : tie.Need-returns-2
+returns-2 c =
+    let a = c .before .before .before .before .before .before .before in
+    let l = a .before .before .before .before .before .before .before .lay-out in
+    let h = question-refuses _ _ (l .result) _ refl _ _ (l .ensures) (a .before .before .before .before .if1 .left) (a .read-query .ensures) _ (c .before .e .given .1) in
+    record { refuses = λ ne. (h .0, h .1); accepts = λ z. absurd (omega (arith, h .2)) }
+
 same-length-3 : tie.Need-same-length-3
 same-length-3 c = search needs
 
 same-length-4 : tie.Need-same-length-4
 same-length-4 c = search needs
 
-returns-2 : tie.Need-returns-2
-returns-2 c =
-    let h = question-refuses (c .before .before .before .before .before .before .before .before .before .before .before .before .before .before .before .before .before .before .before .before .before .before .before .before .before .before .before .args .catalogue .now) (c .before .before .before .before .before .before .before .before .before .before .before .before .before .before .before .before .before .before .before .before .before .before .before .before .before .before .before .args .question .now) (c .before .before .before .before .before .before .before .before .before .before .before .before .before .before .before .before .before .before .before .before .lay-out .result) _ refl _ _ (c .before .before .before .before .before .before .before .before .before .before .before .before .before .before .before .before .before .before .before .before .lay-out .ensures) (c .before .before .before .before .before .before .before .before .before .before .before .before .before .before .before .before .before .if1 .left) (c .before .before .before .before .before .before .before .before .before .before .before .read-query .ensures) _ (c .before .e .given .1) in
-    record { refuses = λ ne. (h .0, h .1); accepts = λ z. absurd (omega (arith, h .2)) }
-
-same-length-5 : tie.Need-same-length-5
-same-length-5 c = search needs
-
-same-length-6 : tie.Need-same-length-6
-same-length-6 c = search needs
-
-same-length-7 : tie.Need-same-length-7
-same-length-7 c = search needs
-
-same-length-8 : tie.Need-same-length-8
-same-length-8 c = search needs
-
 returns-3 : tie.Need-returns-3
-returns-3 c = record { refuses = λ ne. absurd (ne refl); accepts = λ z. (c .before .before .before .before .before .before .before .before .before .before .before .before .before .before .before .before .before .before .before .before .lay-out .result, input-begun (c .before .before .before .before .before .before .before .before .before .before .before .before .before .before .before .before .before .before .before .before .before .before .before .before .before .before .before .args .catalogue .now) (c .before .before .before .before .before .before .before .before .before .before .before .before .before .before .before .before .before .before .before .before .before .before .before .before .before .before .before .args .question .now) (c .before .before .before .before .before .before .before .before .before .before .before .before .before .before .before .before .before .before .before .before .lay-out .result) _ refl _ _ (c .before .before .before .before .before .before .before .before .before .before .before .before .before .before .before .before .before .before .before .before .lay-out .ensures) (c .before .before .before .before .before .before .before .before .before .before .before .before .before .before .before .before .before .if1 .left) (c .before .before .before .before .before .before .before .before .before .before .before .read-query .ensures) _ (c .before .n .given .1), refl, refl, refl) }
+returns-3 c =
+    let a = c .before .before .before .before .before .before .before in
+    let l = a .before .before .before .before .before .before .before .lay-out in
+    record {
+      refuses = λ ne. absurd (ne refl);
+      accepts = λ z. input-begun _ _ (l .result) _ refl _ _ (l .ensures) (a .before .before .before .before .if1 .left) (a .read-query .ensures) _ (c .before .n .given .1);
+    }
 
 pub begin-spec : {M : Type 1} → statement M
 begin-spec =
@@ -73,11 +69,7 @@ begin-spec =
     enum-known-n
     same-length
     same-length-2
+    returns-2
     same-length-3
     same-length-4
-    returns-2
-    same-length-5
-    same-length-6
-    same-length-7
-    same-length-8
     returns-3)

@@ -1,15 +1,12 @@
 -- `finish` meets its contract: refused before anything is written, or every lent table as the end of a run says.
 use native.Mathlib.Omega.{arith}
-use Rattle.searchroom.proofs.Finishing.{lines-few, room-for, counter-size-wrong, counter-passed, counter-taken}
+use Rattle.searchroom.proofs.Finishing.{lines-few, counter-size-wrong, counter-passed, counter-taken}
 use borrow.Author.Needs.{needs}
 use Rattle.searchroom.proofs.finish.finish.Statement.{statement}
 use Rattle.searchroom.proofs.finish.finish.Tie as tie
 
 returns : tie.Need-returns
 returns c = (counter-size-wrong _ _ _ _ _ _ _ (c .if1 .taken), omega arith)
-
-bytes-for-requires : tie.Need-bytes-for-requires
-bytes-for-requires c κs = search needs
 
 count-lines-requires : tie.Need-count-lines-requires
 count-lines-requires c κs = search needs
@@ -27,13 +24,15 @@ same-length : tie.Need-same-length
 same-length c = search needs
 
 returns-2 : tie.Need-returns-2
-returns-2 c = (counter-passed _ _ _ _ _ _ _ _ (c .before .before .before .before .before .bytes-for .ensures) (c .before .before .before .before .before .before .if1 .left) _ _ (c .before .eight-bytes .ensures) (c .before .before .before .count-lines2 .ensures .0) (c .if2 .taken), omega arith)
+returns-2 c =
+    let a = c .before in
+    (counter-passed _ _ _ _ _ _ _ _ _ (c .before .before .before .before .before .if1 .left) (a .eight-bytes .ensures) (c .before .before .before .count-lines2 .ensures .0) (c .if2 .taken), omega arith)
 
 copy-lines-requires : tie.Need-copy-lines-requires
 copy-lines-requires c κs = search needs
 
 copy-lines-requires-2 : tie.Need-copy-lines-requires-2
-copy-lines-requires-2 c κs = (omega arith, omega arith, room-for (c .before .before .before .before .before .before .before .before .before .before .before .before .before .before .before .before .before .args .n) (c .before .before .before .before .before .before .before .before .before .before .bytes-for .result) (c .before .before .before .before .before .before .before .before .before .before .before .before .before .before .before .before .before .args .rows) (c .before .before .before .before .before .before .before .before .before .before .before .before .before .before .before .before .before .args .looks .now) (c .before .before .before .before .before .before .before .before .before .before .bytes-for .ensures) (c .before .before .before .before .before .before .before .before .before .before .before .before .before .before .before .before .before .pre .1 .1))
+copy-lines-requires-2 c κs = (omega arith, omega arith, c .before .before .before .before .before .before .before .before .before .before .before .before .before .before .before .before .pre .1 .1)
 
 add-put-eight-bytes : tie.Need-add-put-eight-bytes
 add-put-eight-bytes c = search needs
@@ -51,14 +50,20 @@ same-length-4 : tie.Need-same-length-4
 same-length-4 c = search needs
 
 returns-3 : tie.Need-returns-3
-returns-3 c = (counter-taken _ _ _ _ _ _ _ _ (c .before .before .before .before .before .before .before .before .before .before .before .before .before .before .before .before .before .bytes-for .ensures) (c .before .before .before .before .before .before .before .before .before .before .before .before .before .before .before .before .before .before .if1 .left) _ _ (c .before .before .before .before .before .before .before .before .before .before .before .before .before .eight-bytes .ensures) (c .before .before .before .before .before .before .before .before .before .before .before .before .before .before .before .count-lines2 .ensures .0) (omega arith) (omega arith) _ _ _ _ (c .before .before .before .before .before .before .before .before .before .before .before .before .before .before .before .before .count-lines .ensures .0) (c .before .before .before .before .before .before .before .before .before .before .copy-lines .ensures) (c .before .before .before .before .before .before .copy-lines2 .ensures) (c .before .before .put-eight-bytes .ensures), omega (arith, c .before .before .before .before .before .before .before .before .before .before .before .before .before .before .before .before .count-lines .ensures .1, c .before .before .before .before .before .before .before .before .before .before .before .before .before .before .before .count-lines2 .ensures .1, lines-few (c .before .before .before .before .before .before .before .before .before .before .before .before .before .before .before .before .before .before .before .before .before .before .before .before .args .n) (c .before .before .before .before .before .before .before .before .before .before .before .before .before .before .before .before .before .bytes-for .result) (omega arith) (omega arith)))
+returns-3 c =
+    let a = c .before .before .before .before .before .before .before .before .before .before .before .before .before in
+    let found = a .before .before .before .count-lines .ensures in
+    let looked = a .before .before .count-lines2 .ensures in (
+      counter-taken _ _ _ _ _ _ _ _ _ (a .before .before .before .before .if1 .left) (a .eight-bytes .ensures) (looked .0) (omega arith) (omega arith) _ _ _ _ (found .0)
+          (c .before .before .before .before .before .before .before .before .before .before .copy-lines .ensures) (c .before .before .before .before .before .before .copy-lines2 .ensures) (c .before .before .put-eight-bytes .ensures),
+      omega (arith, found .1, looked .1, lines-few (a .before .before .before .before .before .before .before .before .before .before .args .n) (a .before .before .before .before .before .before .before .before .before .before .args .size) (omega arith) (omega arith)),
+    )
 
 pub finish-spec : {M : Type 1} → statement M
 finish-spec =
     tie.close
     (tie.spec
     returns
-    bytes-for-requires
     count-lines-requires
     count-lines-requires-2
     eight-bytes-requires

@@ -10,29 +10,17 @@ slice-aggregate-begin c = search needs
 slice-aggregate-begin-2 : tie.Need-slice-aggregate-begin-2
 slice-aggregate-begin-2 c = search needs
 
-slice-aggregate-begin-3 : tie.Need-slice-aggregate-begin-3
-slice-aggregate-begin-3 c = search needs
-
-slice-aggregate-begin-4 : tie.Need-slice-aggregate-begin-4
-slice-aggregate-begin-4 c = search needs
-
 begin-requires : tie.Need-begin-requires
 begin-requires c κs = search needs
 
 returns : tie.Need-returns
-returns c = outcome-answer-refused _ _ _ _ (c .before .before .before .before .before .begin .ensures .refuses (c .if1 .taken))
+returns c = outcome-answer-refused _ _ _ _ (c .before .before .before .begin .ensures .refuses (c .if1 .taken))
 
 slice-aggregate-outcome-accepted : tie.Need-slice-aggregate-outcome-accepted
 slice-aggregate-outcome-accepted c = search needs
 
-slice-aggregate-outcome-accepted-2 : tie.Need-slice-aggregate-outcome-accepted-2
-slice-aggregate-outcome-accepted-2 c = search needs
-
-slice-aggregate-outcome-accepted-3 : tie.Need-slice-aggregate-outcome-accepted-3
-slice-aggregate-outcome-accepted-3 c = search needs
-
 outcome-accepted-requires : tie.Need-outcome-accepted-requires
-outcome-accepted-requires c κs = (_, _, _, c .before .before .before .before .before .before .before .before .before .before .begin .ensures .accepts (c .before .before .before .before .before .if1 .left))
+outcome-accepted-requires c κs = (_, c .before .before .before .before .begin .ensures .accepts (c .before .if1 .left))
 
 returns-2 : tie.Need-returns-2
 returns-2 c = search needs
@@ -43,12 +31,8 @@ outcome-at-spec =
     (tie.spec
     slice-aggregate-begin
     slice-aggregate-begin-2
-    slice-aggregate-begin-3
-    slice-aggregate-begin-4
     begin-requires
     returns
     slice-aggregate-outcome-accepted
-    slice-aggregate-outcome-accepted-2
-    slice-aggregate-outcome-accepted-3
     outcome-accepted-requires
     returns-2)

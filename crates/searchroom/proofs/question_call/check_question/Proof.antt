@@ -10,20 +10,14 @@ slice-aggregate-begin c = search needs
 slice-aggregate-begin-2 : tie.Need-slice-aggregate-begin-2
 slice-aggregate-begin-2 c = search needs
 
-slice-aggregate-begin-3 : tie.Need-slice-aggregate-begin-3
-slice-aggregate-begin-3 c = search needs
-
-slice-aggregate-begin-4 : tie.Need-slice-aggregate-begin-4
-slice-aggregate-begin-4 c = search needs
-
 begin-requires : tie.Need-begin-requires
 begin-requires c κs = search needs
 
 returns : tie.Need-returns
-returns c = question-answer-refused _ _ (c .before .before .before .before .before .begin .ensures .refuses (c .if1 .taken))
+returns c = question-answer-refused _ _ (c .before .before .before .begin .ensures .refuses (c .if1 .taken))
 
 returns-2 : tie.Need-returns-2
-returns-2 c = let g = c .before .before .before .before .before .begin .ensures .accepts (c .if1 .left) in question-answer-accepted _ _ (g .0) _ _ (g .1)
+returns-2 c = question-answer-accepted (c .before .before .before .begin .ensures .accepts (c .if1 .left))
 
 pub check-question-spec : {M : Type 1} → statement M
 check-question-spec =
@@ -31,8 +25,6 @@ check-question-spec =
     (tie.spec
     slice-aggregate-begin
     slice-aggregate-begin-2
-    slice-aggregate-begin-3
-    slice-aggregate-begin-4
     begin-requires
     returns
     returns-2)

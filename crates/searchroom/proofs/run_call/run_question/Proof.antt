@@ -1,5 +1,9 @@
 -- `run_question` meets its contract: the first check that fails, or the run of what was read.
-use Rattle.searchroom.proofs.Running.{run-refused}
+use native.Mathlib.Omega.{arith}
+use mathlib.Core.Path.{_∙_}
+use lib.ListN.{length}
+use Rattle.bitmaps.specs.TableLaws.{holds-none}
+use Rattle.searchroom.proofs.Running.{begun-short, request-order, request-room, run-refused, run-declined, run-finished}
 use borrow.Author.Needs.{needs}
 use Rattle.searchroom.proofs.run_call.run_question.Statement.{statement}
 use Rattle.searchroom.proofs.run_call.run_question.Tie as tie
@@ -10,38 +14,60 @@ slice-aggregate-begin c = search needs
 slice-aggregate-begin-2 : tie.Need-slice-aggregate-begin-2
 slice-aggregate-begin-2 c = search needs
 
-slice-aggregate-begin-3 : tie.Need-slice-aggregate-begin-3
-slice-aggregate-begin-3 c = search needs
-
-slice-aggregate-begin-4 : tie.Need-slice-aggregate-begin-4
-slice-aggregate-begin-4 c = search needs
-
 begin-requires : tie.Need-begin-requires
 begin-requires c κs = search needs
 
 returns : tie.Need-returns
-returns c = run-refused (c .before .before .before .before .before .before .before .before .before .before .before .before .before .before .before .before .args .catalogue .now) (c .before .before .before .before .before .before .before .before .before .before .before .before .before .before .before .before .args .question .now) (c .before .before .before .before .before .before .before .before .before .before .before .before .before .before .before .before .args .order .now) (c .before .before .before .before .before .before .before .before .before .before .before .before .before .before .before .before .args .listed .now) (c .before .before .before .before .before .before .before .before .before .before .before .before .before .before .before .before .args .looks .now) (c .before .before .before .before .before .before .before .before .before .before .before .before .before .before .before .before .args .tally .now) _ (c .before .before .before .before .before .begin .ensures .refuses (c .if1 .taken))
+returns c = run-refused _ _ (c .before .before .before .begin .ensures .refuses (c .if1 .taken))
 
-slice-aggregate-run-accepted : tie.Need-slice-aggregate-run-accepted
-slice-aggregate-run-accepted c = search needs
+bytes-for-requires : tie.Need-bytes-for-requires
+bytes-for-requires c κs = let G = c .before .before .before .begin .ensures .accepts (c .if1 .left) in omega (arith, begun-short G)
 
-slice-aggregate-run-accepted-2 : tie.Need-slice-aggregate-run-accepted-2
-slice-aggregate-run-accepted-2 c = search needs
+check-request-requires : tie.Need-check-request-requires
+check-request-requires c κs =
+    let G = c .before .before .before .before .begin .ensures .accepts (c .before .if1 .left) in
+    (G .tabled .few, omega (arith, begun-short G, c .bytes-for .ensures))
 
-slice-aggregate-run-accepted-3 : tie.Need-slice-aggregate-run-accepted-3
-slice-aggregate-run-accepted-3 c = search needs
+returns-2 : tie.Need-returns-2
+returns-2 c =
+    let G = c .before .before .before .before .before .before .begin .ensures .accepts (c .before .before .before .if1 .left) in
+    (run-declined G _ _ _ _ _ (c .before .before .bytes-for .ensures) _ (c .before .check-request .ensures) (c .if2 .taken), omega arith)
 
-slice-aggregate-run-accepted-4 : tie.Need-slice-aggregate-run-accepted-4
-slice-aggregate-run-accepted-4 c = search needs
+slice-aggregate-work : tie.Need-slice-aggregate-work
+slice-aggregate-work c = search needs
 
-slice-aggregate-run-accepted-5 : tie.Need-slice-aggregate-run-accepted-5
-slice-aggregate-run-accepted-5 c = search needs
+slice-aggregate-work-2 : tie.Need-slice-aggregate-work-2
+slice-aggregate-work-2 c = search needs
 
-slice-aggregate-run-accepted-6 : tie.Need-slice-aggregate-run-accepted-6
-slice-aggregate-run-accepted-6 c = search needs
+slice-aggregate-work-3 : tie.Need-slice-aggregate-work-3
+slice-aggregate-work-3 c = search needs
 
-run-accepted-requires : tie.Need-run-accepted-requires
-run-accepted-requires c κs = c .before .before .before .before .before .before .before .before .before .before .before .before .before .before .before .before .begin .ensures .accepts (c .before .before .before .before .before .before .before .before .before .before .before .if1 .left)
+slice-aggregate-work-4 : tie.Need-slice-aggregate-work-4
+slice-aggregate-work-4 c = search needs
+
+work-requires : tie.Need-work-requires
+work-requires c κs =
+    let a = c .before .before .before .before in
+    let x = a .before .before .before .before .before .before .before .before .before .before .before .before .before .before .before .args in
+    let G = a .before .before .before .before .before .before .begin .ensures .accepts (a .before .before .before .if1 .left) in
+    let order = request-order _ (a .before .before .bytes-for .result) (x .order .now) (length (x .listed .now)) (length (x .looks .now)) _ (a .before .check-request .ensures) (a .if2 .left) in
+    ((G, order), (holds-none 1, holds-none 64))
+
+slice-aggregate-finish : tie.Need-slice-aggregate-finish
+slice-aggregate-finish c = search needs
+
+slice-aggregate-finish-2 : tie.Need-slice-aggregate-finish-2
+slice-aggregate-finish-2 c = search needs
+
+finish-requires : tie.Need-finish-requires
+finish-requires c κs =
+    let a = c .before .before .before .before .before .before .before .before .before .before .before .before in
+    let x = a .before .before .before .before .before .before .before .before .before .before .before .before .before .before .before .args in
+    let G = a .before .before .before .before .before .before .begin .ensures .accepts (a .before .before .before .if1 .left) in
+    let W = c .before .before .before .before .before .before .before .work .ensures (G .input) (G .decoded) in (
+      (W .selected-size, W .probes-size, G .tabled .few, omega (arith, begun-short G, a .before .before .bytes-for .ensures)),
+      request-room _ _ (x .order .now) _ _ _ (a .before .check-request .ensures) (a .if2 .left),
+    )
 
 same-length : tie.Need-same-length
 same-length c = search needs
@@ -52,8 +78,12 @@ same-length-2 c = search needs
 same-length-3 : tie.Need-same-length-3
 same-length-3 c = search needs
 
-returns-2 : tie.Need-returns-2
-returns-2 c = search needs
+returns-3 : tie.Need-returns-3
+returns-3 c =
+    let a = c .before .before .before .before .before .before .before .before .before .before .before .before .before .before .before .before .before .before .before in
+    let G = a .before .before .before .before .before .before .begin .ensures .accepts (a .before .before .before .if1 .left) in
+    let end = c .before .before .before .before .before .before .finish .ensures in
+    (end .0 ∙ run-finished G _ _ _ _ _ (a .before .before .bytes-for .ensures) _ (a .before .check-request .ensures) (a .if2 .left) _ _ (c .before .before .before .before .before .before .before .before .before .before .before .before .before .before .work .ensures), end .1)
 
 pub run-question-spec : {M : Type 1} → statement M
 run-question-spec =
@@ -61,18 +91,20 @@ run-question-spec =
     (tie.spec
     slice-aggregate-begin
     slice-aggregate-begin-2
-    slice-aggregate-begin-3
-    slice-aggregate-begin-4
     begin-requires
     returns
-    slice-aggregate-run-accepted
-    slice-aggregate-run-accepted-2
-    slice-aggregate-run-accepted-3
-    slice-aggregate-run-accepted-4
-    slice-aggregate-run-accepted-5
-    slice-aggregate-run-accepted-6
-    run-accepted-requires
+    bytes-for-requires
+    check-request-requires
+    returns-2
+    slice-aggregate-work
+    slice-aggregate-work-2
+    slice-aggregate-work-3
+    slice-aggregate-work-4
+    work-requires
+    slice-aggregate-finish
+    slice-aggregate-finish-2
+    finish-requires
     same-length
     same-length-2
     same-length-3
-    returns-2)
+    returns-3)
