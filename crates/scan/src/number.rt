@@ -3,6 +3,7 @@ ghost use mathlib.Core.Path.{_≡_};
 ghost use Prim.Native.Nat.{_+_, _*_, _^_, _<_};
 ghost use Rattle.fields.specs.Numbers.{numberAt};
 ghost use Rattle.catalogue.specs.Format.{numberTag, numberSize};
+ghost use Rattle.sets.specs.Set.{belowSet};
 ghost use Rattle.sets.specs.Kept.{KeptBy};
 ghost use Rattle.filters.specs.Block.{DueRows};
 ghost use Rattle.scan.specs.Met.{within};
@@ -15,8 +16,23 @@ fn is_within(low: u32, width: u32, n: u32) -> bool
     std::num::wrapping_sub_u32(n, low) <= width
 }
 
+// The rows of a whole block whose numbers are among those: straight through, which is faster than by the bits of a word.
+fn all_within(b: &[u8], start: usize, base: usize, low: u32, width: u32) -> u64
+    requires { ⌜ DueRows (now b) numberTag start base (belowSet 64) × (low + width < 2 ^ 32) ⌝ }
+    ensures { λ r. ⌜ KeptBy (λ d. within low width (numberAt (now (b .entry)) (start + numberSize * (base + d)) numberSize)) (belowSet 64) r ⌝ }
+{
+    let mut met: u64 = 0;
+    let mut d: u8 = 0;
+    while d < 64 {
+        let n = catalogue::column::number_at(b, start, base + fields::number::widen(d));
+        met = met | sets::kept(is_within(low, width, n), sets::single(d));
+        d += 1;
+    }
+    met
+}
+
 // The due rows whose numbers are among those.
-pub fn numbers_within(b: &[u8], start: usize, base: usize, low: u32, width: u32, due: u64) -> u64
+fn due_within(b: &[u8], start: usize, base: usize, low: u32, width: u32, due: u64) -> u64
     requires { ⌜ DueRows (now b) numberTag start base due × (low + width < 2 ^ 32) ⌝ }
     ensures { λ r. ⌜ KeptBy (λ d. within low width (numberAt (now (b .entry)) (start + numberSize * (base + d)) numberSize)) due r ⌝ }
 {
@@ -30,4 +46,15 @@ pub fn numbers_within(b: &[u8], start: usize, base: usize, low: u32, width: u32,
         left = next;
     }
     met
+}
+
+// The same, by the shorter way.
+pub fn numbers_within(b: &[u8], start: usize, base: usize, low: u32, width: u32, due: u64) -> u64
+    requires { ⌜ DueRows (now b) numberTag start base due × (low + width < 2 ^ 32) ⌝ }
+    ensures { λ r. ⌜ KeptBy (λ d. within low width (numberAt (now (b .entry)) (start + numberSize * (base + d)) numberSize)) due r ⌝ }
+{
+    if due == sets::below(64) {
+        return all_within(b, start, base, low, width);
+    }
+    due_within(b, start, base, low, width, due)
 }
