@@ -1,10 +1,10 @@
 -- The numbers of a set that a test keeps, worked out number by number, lowest first.
-use Prim.Native.Nat.{ℕ, _^_, _≤_, _<_}
+use Prim.Native.Nat.{ℕ, _^_, _<_}
 use mathlib.Core.Path.{_≡_}
 use mathlib.Core.Bool.{Bool, true, _&&_, _||_}
 use lib.Bits.{bitXor}
 use lib.Count.{trailingZeros}
-use Rattle.sets.specs.Set.{member, oneSet, belowSet}
+use Rattle.sets.specs.Set.{member, oneSet}
 
 -- r holds the numbers of x that P keeps
 abbrev pub KeptBy : (P : ℕ → Bool) → (x r : ℕ) → Type 0
@@ -35,8 +35,3 @@ pub record Sorting (P : ℕ → Bool) (x left met : ℕ) : Type 0 where
   pub small : left < 2 ^ 64
   pub within : (d : ℕ) → member left d ≡ true → member x d ≡ true
   pub sorted : (d : ℕ) → (member met d || (member left d && P d)) ≡ (member x d && P d)
-
--- a loop through all numbers below n: `met` is what P keeps of those below i
-pub record Straight (P : ℕ → Bool) (n i met : ℕ) : Type 0 where
-  pub inside : i ≤ n
-  pub kept : KeptBy P (belowSet i) met

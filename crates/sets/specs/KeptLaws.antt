@@ -1,17 +1,17 @@
 -- The numbers of a set one after the other, lowest first: what `x & (x - 1)` leaves, and the loop that sorts them by a test.
-use Prim.Native.Nat.{ℕ, zero, suc, _+_, _-_, _*_, _/_, _%_, _^_, _≤_, _<_}
+use Prim.Native.Nat.{ℕ, zero, suc, _+_, _-_, _*_, _/_, _%_, _^_, _<_}
 use native.Mathlib.Nat.{mod-lt, pow-suc}
 use native.Mathlib.Omega.{arith}
 use mathlib.Core.Path.{_≡_, refl, sym, ap, ap₂, _∙_}
 use mathlib.Core.Bool.{Bool, true, false, _&&_, _||_, not, cond, xor, and-false}
 use mathlib.Core.Logic.{_⊎_, inl, inr}
-use lib.Dec.{eqb, ltb}
+use lib.Dec.{eqb}
 use lib.Bits.{bitAnd, bitOr, bitXor, and-le-r, and-step, xor-step, and-self, xor-self}
 use lib.Count.{trailingZeros, under}
-use Rattle.strategy.specs.Bools.{clash, and-parts, same?, eqb-self, eqb-ne, ltb-yes, ltb-no, ltb-lt, ltb-le}
-use Rattle.sets.specs.Set.{member, oneSet, belowSet}
-use Rattle.sets.specs.SetLaws.{member-or, member-xor, member-half, member-none, member-below, member-one}
-use Rattle.sets.specs.Kept.{KeptBy, Sifted, First, Rest, Sorting, Straight}
+use Rattle.strategy.specs.Bools.{clash, and-parts, same?, eqb-self, eqb-ne}
+use Rattle.sets.specs.Set.{member, oneSet}
+use Rattle.sets.specs.SetLaws.{member-or, member-xor, member-half, member-none, member-one}
+use Rattle.sets.specs.Kept.{KeptBy, Sifted, First, Rest, Sorting}
 
 -- the lowest digit of x is a member
 
@@ -101,11 +101,6 @@ module _ {left t next : ℕ} (F : First left t) (R : Rest left next) where
       back false true q e f = clash (f (sym e)) refl
       back false false q e f = rw (← e)
 
--- what is kept by an answer
-kept-member : (b : Bool) (z d : ℕ) → member (cond b z 0) d ≡ (b && member z d)
-kept-member true z d = refl
-kept-member false z d = member-none d
-
 -- the number at hand is t, at whatever width w the code has it
 module _ {P : ℕ → Bool} {x left met t w : ℕ} (S : Sorting P x left met) (F : First left t) (w-is : w ≡ t) where
   pub sort-among : member x w ≡ true
@@ -123,6 +118,10 @@ module _ {P : ℕ → Bool} {x left met t w : ℕ} (S : Sorting P x left met) (F
         left-of : (q l : Bool) → cond q false l ≡ true → l ≡ true
         left-of true l y = clash y refl
         left-of false l y = y
+
+        kept-member : (b : Bool) (z d : ℕ) → member (cond b z 0) d ≡ (b && member z d)
+        kept-member true z d = refl
+        kept-member false z d = member-none d
 
         met-member : (d : ℕ) → member more d ≡ (p && eqb d t)
         met-member d = ap (λ (z : ℕ). member z d) m ∙ kept-member p (bitXor left next) d ∙ ap (λ (b : Bool). p && b) (one F R d)
@@ -142,45 +141,6 @@ module _ {P : ℕ → Bool} {x left met t w : ℕ} (S : Sorting P x left met) (F
         go : (d : ℕ) → (d ≡ t) ⊎ (d ≡ t → ⊥) → ((member met d || (p && eqb d t)) || (cond (eqb d t) false (member left d) && P d)) ≡ (member met d || (member left d && P d))
         go d (inl q) = rw (q, eqb-self t, F .among, e ∙ ap P w-is) (here (member met t) (P t))
         go d (inr ne) = rw (eqb-ne d t ne) (elsewhere (member met d) (member left d) p (P d))
-
--- the loop through all numbers below n: none is tried yet, one number after the other is, all are
-
-pub below-among : (n d : ℕ) → d < n → member (belowSet n) d ≡ true
-below-among n d l = member-below n d ∙ ltb-yes d n l
-
-pub straight-none : (P : ℕ → Bool) (n : ℕ) → Straight P n 0 0
-straight-none P n = record { inside = omega arith; kept = λ d. rw (member-none d) }
-
-pub straight-end : {P : ℕ → Bool} {n i met : ℕ} → Straight P n i met → n ≤ i → KeptBy P (belowSet n) met
-straight-end {P} {n} {i} {met} S l = let m = S .inside in let e : i ≡ n = omega arith in rw e at (S .kept)
-
--- the number at hand is i, at whatever width w the code has it
-pub straight-next : {P : ℕ → Bool} {n i met w : ℕ} → Straight P n i met → i < n → w ≡ i → {p : Bool} {one more : ℕ} → p ≡ P w → one ≡ oneSet i → more ≡ cond p one 0 → Straight P n (i + 1) (bitOr met more)
-straight-next {P} {n} {i} {met} {w} S l w-is {p} {one} {more} e o m = record {
-  inside = omega arith;
-  kept =
-      λ d.
-      member-or met more d ∙ ap₂ (λ (k q : Bool). k || q) (S .kept d ∙ ap (λ (b : Bool). b && P d) (member-below i d)) (more-member d) ∙ go d (same? d i) ∙ sym (ap (λ (b : Bool). b && P d) (member-below (i + 1) d));
-}
-  where
-    more-member : (d : ℕ) → member more d ≡ (p && eqb d i)
-    more-member d = ap (λ (z : ℕ). member z d) m ∙ kept-member p one d ∙ ap (λ (b : Bool). p && b) (ap (λ (z : ℕ). member z d) o ∙ member-one i d)
-
-    here : (q : Bool) → ((false && q) || (q && true)) ≡ (true && q)
-    here true = refl
-    here false = refl
-
-    elsewhere : (k q : Bool) → (k || (q && false)) ≡ k
-    elsewhere true q = refl
-    elsewhere false q = and-false q
-
-    before : (d : ℕ) → (d ≡ i → ⊥) → (b : Bool) → ltb d i ≡ b → ltb d (i + 1) ≡ b
-    before d ne true y = let h : d < i = ltb-lt d i y in ltb-yes d (i + 1) (omega arith)
-    before d ne false y = let h : i ≤ d = ltb-le d i y in ltb-no d (i + 1) (omega arith)
-
-    go : (d : ℕ) → (d ≡ i) ⊎ (d ≡ i → ⊥) → ((ltb d i && P d) || (p && eqb d i)) ≡ (ltb d (i + 1) && P d)
-    go d (inl q) = rw (q, eqb-self i, e ∙ ap P w-is, ltb-no i i (omega arith), ltb-yes i (i + 1) (omega arith)) (here (P i))
-    go d (inr ne) = rw (eqb-ne d i ne, before d ne (ltb d i) refl) (elsewhere (ltb d i && P d) p)
 
 -- a filter first, and the test where it passes
 pub sift-kept : {P : ℕ → Bool} {x y : ℕ} (r : ℕ) → Sifted P x y → KeptBy P y r → KeptBy P x r

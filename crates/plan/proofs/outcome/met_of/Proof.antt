@@ -1,5 +1,4 @@
 -- `met_of` meets its contract: what it hands on is what the access of the predicate shows.
-use native.Mathlib.Omega.{arith}
 use borrow.Author.Needs.{needs}
 use Rattle.plan.proofs.Outcomes.{kind-small, operand-in, has-rows, met-is}
 use Rattle.plan.proofs.outcome.met_of.Statement.{statement}

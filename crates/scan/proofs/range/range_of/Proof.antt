@@ -2,7 +2,6 @@
 use native.Mathlib.Omega.{arith}
 use mathlib.Core.Path.{refl}
 use Rattle.scan.proofs.Ranges.{range-fits}
-use borrow.Author.Needs.{needs}
 use Rattle.scan.proofs.range.range_of.Statement.{statement}
 use Rattle.scan.proofs.range.range_of.Tie as tie
 
