@@ -2,7 +2,7 @@
 use Prim.Native.Nat.{ℕ, zero, suc, _+_, _-_, _≤_, _<_}
 use native.Mathlib.Omega.{arith}
 use mathlib.Core.Path.{_≡_, refl, sym, ap, _∙_}
-use mathlib.Core.Bool.{true, false, true≢false}
+use mathlib.Core.Bool.{true, true≢false}
 use mathlib.Core.Logic.{_⊎_, inl, inr}
 use mathlib.Core.List.{List, [], _∷_}
 use lib.ListN.{length, getD, drop, length-drop}
@@ -14,7 +14,7 @@ use Rattle.catalogue.specs.Slots.{textAt}
 use Rattle.predicate.specs.Meaning.{fold, folded, begins, occurs, equals, beginsWith, contains}
 use Rattle.predicate.proofs.TextLaws.{equals-begins, equals-other}
 use Rattle.filters.specs.declared.pair.Pair.{Pair}
-use Rattle.filters.specs.Filter.{Sought, PairFor, pairAt}
+use Rattle.filters.specs.Filter.{PairFor, pairAt}
 
 -- a text that begins with the operand is not shorter, and has its bytes, folded
 
@@ -73,9 +73,8 @@ module _ (b : List ℕ) (p : ℕ) (inside : p + slotSize ≤ length b) (short : 
         let z : p + 1 + (a + i) ≡ p + 1 + a + i = omega arith in
         ap (λ (j : ℕ). fold (getD b j 0)) (sym z) ∙ ap fold (sym (text-byte (a + i) (omega arith))) ∙ ap fold (sym (getD-drop a (textAt b p) i 0)) ∙ begins-byte o (drop a (textAt b p)) i h found
 
-    pub found-pair : ((i : ℕ) → getD b i 0 < 256) → {first second : ℕ} → Sought o first second → (k : Pair) → PairFor (length o) first second k
-        → pairAt b (p + 1 + a) (p + 1 + a + k .gap) k ≡ true
-    found-pair bytes S k K =
+    pub found-pair : ((i : ℕ) → getD b i 0 < 256) → (k : Pair) → PairFor o k → pairAt b (p + 1 + a) (p + 1 + a + k .gap) k ≡ true
+    found-pair bytes k K =
         let z : p + 1 + a + 0 ≡ p + 1 + a = omega arith in
-        both (K .first-may (getD b (p + 1 + a) 0) (bytes (p + 1 + a)) (ap (λ (j : ℕ). fold (getD b j 0)) (sym z) ∙ found-byte 0 some ∙ sym (S .first-is)))
-        (K .second-may (getD b (p + 1 + a + k .gap) 0) (bytes (p + 1 + a + k .gap)) (found-byte (k .gap) (K .inside) ∙ ap (λ (j : ℕ). fold (getD o j 0)) (K .gap-is) ∙ sym (S .second-is)))
+        both (K .first-may (getD b (p + 1 + a) 0) (bytes (p + 1 + a)) (ap (λ (j : ℕ). fold (getD b j 0)) (sym z) ∙ found-byte 0 some))
+        (K .second-may (getD b (p + 1 + a + k .gap) 0) (bytes (p + 1 + a + k .gap)) (found-byte (k .gap) (K .inside)))

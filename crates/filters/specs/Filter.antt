@@ -5,28 +5,21 @@ use mathlib.Core.Bool.{Bool, false, _&&_, _||_, cond}
 use mathlib.Core.List.{List}
 use lib.ListN.{length, getD}
 use lib.Dec.{leb}
-use Rattle.predicate.specs.Meaning.{fold, textTest}
-use Rattle.sets.specs.Kept.{Sifted}
+use Rattle.predicate.specs.Meaning.{fold}
 use Rattle.filters.specs.declared.pair.Pair.{Pair}
 use Rattle.filters.specs.Look.{looks, MayFold}
-use Rattle.filters.specs.Block.{textOf}
 
 -- how far the second byte is from the first: the operand's last, or byte 8
 abbrev pub gapOf : (size : ℕ) → ℕ
 gapOf size = cond (leb size 9) (size - 1) 8
 
--- the operand's two bytes, folded
-pub record Sought (o : List ℕ) (first second : ℕ) : Type 0 where
-  pub first-is : first ≡ fold (getD o 0 0)
-  pub second-is : second ≡ fold (getD o (gapOf (length o)) 0)
-
--- the tests of the two bytes at their distance
-pub record PairFor (size first second : ℕ) (k : Pair) : Type 0 where
-  pub gap-is : k .gap ≡ gapOf size
-  pub inside : k .gap < size
+-- the tests of the operand's two bytes at their distance
+pub record PairFor (o : List ℕ) (k : Pair) : Type 0 where
+  pub gap-is : k .gap ≡ gapOf (length o)
+  pub inside : k .gap < length o
   pub near : k .gap ≤ 8
-  pub first-may : MayFold first (k .first)
-  pub second-may : MayFold second (k .second)
+  pub first-may : MayFold (fold (getD o 0 0)) (k .first)
+  pub second-may : MayFold (fold (getD o (k .gap) 0)) (k .second)
 
 abbrev pub pairAt : List ℕ → (p q : ℕ) → Pair → Bool
 pairAt b p q k = looks (k .first) (getD b p 0) && looks (k .second) (getD b q 0)
@@ -43,8 +36,3 @@ pairIn b p q k (suc n) = pairAt b p q k || pairIn b (p + 1) (q + 1) k n
 -- contains: in the 16 places from the slot's first byte on, or in the last 16 that the pair has in it
 abbrev pub windowsPass : List ℕ → (p : ℕ) → Pair → Bool
 windowsPass b p k = pairIn b p (p + k .gap) k 16 || pairIn b (p + 8 - k .gap) (p + 8) k 16
-
--- no text is lost whose test holds, whatever the operand of that size with those two bytes
-abbrev pub SiftedTexts : List ℕ → (start base kind size first second due r : ℕ) → Type 0
-SiftedTexts b start base kind size first second due r =
-    (o : List ℕ) → length o ≡ size → Sought o first second → Sifted (λ d. textTest kind o (textOf b start (base + d))) due r

@@ -4,6 +4,7 @@ ghost use mathlib.Core.Path.{_≡_};
 ghost use mathlib.Core.Bool.{cond};
 ghost use Prim.Native.Nat.{_≤_, _<_};
 ghost use lib.ListN.{length};
+ghost use Rattle.predicate.specs.Outcome.{Folds};
 ghost use Rattle.filters.specs.Filter.{gapOf, pairAt, PairFor};
 
 pub struct Pair {
@@ -13,19 +14,21 @@ pub struct Pair {
 }
 
 // The place of the second byte in an operand of so many bytes: at most eight, so that two windows of 16 cover a slot.
-pub fn gap_of(size: usize) -> usize
+fn gap_of(size: usize) -> usize
     requires { ⌜ 0 < size ⌝ }
     ensures { λ r. ⌜ (r ≡ gapOf size) × (r < size) × (r ≤ 8) ⌝ }
 {
     if size <= 9 { size - 1 } else { 8 }
 }
 
-// The pair for the two folded bytes.
-pub fn pair_of(size: usize, first: u8, second: u8) -> Pair
-    requires { ⌜ 0 < size ⌝ }
-    ensures { λ r. ⌜ PairFor size first second r ⌝ }
+// The pair of an operand, its bytes folded.
+pub fn pair_of(table: &[u8], operand: &[u8]) -> Pair
+    requires { ⌜ Folds (now table) × (0 < length (now operand)) ⌝ }
+    ensures { λ r. ⌜ PairFor (now (operand .entry)) r ⌝ }
 {
-    let gap = gap_of(size);
+    let gap = gap_of(operand.len());
+    let first = predicate::text::fold_byte(table, operand[0]);
+    let second = predicate::text::fold_byte(table, operand[gap]);
     Pair {
         gap,
         first: crate::look::look_of(first),

@@ -1,32 +1,33 @@
 // The filter of each text kind that has an operand.
 use catalogue::format::Text;
 use predicate::kind::Kind;
-ghost use Prim.Native.Nat.{_≤_, _<_};
+ghost use Prim.Native.Nat.{_+_, _≤_, _<_};
+ghost use lib.ListN.{length};
 ghost use Rattle.catalogue.specs.Format.{textTag, textLimit};
 ghost use Rattle.predicate.specs.Kinds.{equalsKind, containsKind};
-ghost use Rattle.filters.specs.Block.{DueRows};
-ghost use Rattle.filters.specs.Filter.{SiftedTexts};
+ghost use Rattle.predicate.specs.Meaning.{textTest};
+ghost use Rattle.predicate.specs.Outcome.{Folds};
+ghost use Rattle.sets.specs.Kept.{Sifted};
+ghost use Rattle.filters.specs.Block.{DueRows, textOf};
 
-// The due rows whose texts may pass the test of kind 2, 3 or 4 by an operand of so many bytes, of which first and second
-// are two, folded.
+// The due rows whose texts may pass the test of kind 2, 3 or 4 by the operand.
 pub fn sift(
+    table: &[u8],
     b: &[u8],
     start: usize,
     base: usize,
     kind: u8,
-    size: usize,
-    first: u8,
-    second: u8,
+    operand: &[u8],
     due: u64,
 ) -> u64
-    requires { ⌜ DueRows (now b) textTag start base due × (equalsKind ≤ kind) × (kind ≤ containsKind) × (0 < size) × (size ≤ textLimit) ⌝ }
-    ensures { λ r. ⌜ SiftedTexts (now (b .entry)) start base kind size first second due r ⌝ }
+    requires { ⌜ Folds (now table) × DueRows (now b) textTag start base due × (equalsKind ≤ kind) × (kind ≤ containsKind) × (0 < length (now operand)) × (length (now operand) ≤ textLimit) ⌝ }
+    ensures { λ r. ⌜ Sifted (λ d. textTest kind (now (operand .entry)) (textOf (now (b .entry)) start (base + d))) due r ⌝ }
 {
-    let k = crate::pair::pair_of(size, first, second);
+    let k = crate::pair::pair_of(table, operand);
     if kind == Kind::CONTAINS {
         return crate::windows::windows_rows(b, start, base, k, due);
     }
-    let low = fields::number::narrow(size);
+    let low = fields::number::narrow(operand.len());
     if kind == Kind::EQUALS {
         return crate::front::front_rows(b, start, base, low, low, k, due);
     }

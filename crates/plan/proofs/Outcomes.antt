@@ -1,8 +1,8 @@
 -- What the code hands on of an access is what the access shows.
 use Prim.Native.Nat.{ℕ, _+_, _-_, _*_, _≤_, _<_}
 use native.Mathlib.Omega.{arith}
-use mathlib.Core.Path.{_≡_, sym, ap₂, _∙_, subst}
-use mathlib.Core.Bool.{true, _&&_}
+use mathlib.Core.Path.{_≡_, ap₂, _∙_}
+use mathlib.Core.Bool.{_&&_}
 use mathlib.Core.List.{List, []}
 use lib.ListN.{length, getD, take, drop}
 use Rattle.catalogue.specs.Catalogue.{Catalogue, numbers}
@@ -11,11 +11,9 @@ use Rattle.predicate.specs.declared.answer.Answer.{Answer}
 use Rattle.predicate.specs.Kinds.{plainKind}
 use Rattle.predicate.specs.Meaning.{Predicate, outcomeOf, truth}
 use Rattle.predicate.specs.Outcome.{HasRange, OutcomeIs}
-use Rattle.predicate.specs.Payload.{operandFits}
 use Rattle.predicate.proofs.PayloadLaws.{range-size}
 use Rattle.sets.specs.Set.{member}
-use Rattle.scan.specs.declared.test.Test.{Test}
-use Rattle.scan.specs.Met.{Prepared, ShownRows, HasRows, MetAt}
+use Rattle.scan.specs.Met.{ShownRows, HasRows, MetAt}
 use Rattle.plan.specs.Plan.{Access, accessWidth, accessAt}
 use Rattle.plan.specs.Access.{Accessed, HasOutcome, AnswerIs, RowsIn, HasOutcomes, MetIs}
 
@@ -81,28 +79,16 @@ module _ (b q P : List ℕ) (c base due : ℕ) where
     part-is : take (place + len - place) (drop place q) ≡ take len (drop place q)
     part-is = let e : place + len - place ≡ len = omega arith in rw e
 
-    pub operand-fits : HasOutcomes b q (accessAt P c) base due → operandFits (plainKind kind) (take (place + len - place) (drop place q)) ≡ true
+    shown-rows : (C : Catalogue) (p : Predicate) → Accessed b q C p (accessAt P c) → RowsIn base due (C .rows)
+        → ShownRows b (getD P (accessWidth * c + 1) 0) base kind (take (place + len - place) (drop place q)) due (C .rows) (getD P (accessWidth * c) 0) (getD (C .columns) (p .column) (numbers []))
     unfolding accessAt
-    operand-fits h = rw (k, part-is) (h .2 .operand-fits)
+    shown-rows C p A R = record { shown = A .shown; kind-fits = rw k (A .kind-fits); operand-fits = rw (k, part-is) (A .operand-fits); inside = R }
 
-    -- the test that was prepared, over whatever column the access shows
-    module _ (t : Test) (made : Prepared kind (take (place + len - place) (drop place q)) t) where
-      shown-rows : (C : Catalogue) (p : Predicate) → Accessed b q C p (accessAt P c) → RowsIn base due (C .rows)
-          → ShownRows b (getD P (accessWidth * c + 1) 0) base t (take (place + len - place) (drop place q)) due (C .rows) (getD P (accessWidth * c) 0) (getD (C .columns) (p .column) (numbers []))
-      unfolding accessAt
-      shown-rows C p A R = record {
-        shown = A .shown;
-        kind-fits = rw (made .kind-is, k) (A .kind-fits);
-        operand-fits = rw (made .kind-is, k, part-is) (A .operand-fits);
-        prepared = subst (λ (z : ℕ). Prepared z (take (place + len - place) (drop place q)) t) (sym (made .kind-is)) made;
-        inside = R;
-      }
+    pub has-rows : HasOutcomes b q (accessAt P c) base due → HasRows b (getD P (accessWidth * c + 1) 0) base kind (take (place + len - place) (drop place q)) due
+    has-rows h = (h .0 .rows, getD P (accessWidth * c) 0, getD (h .0 .columns) (h .1 .column) (numbers []), shown-rows (h .0) (h .1) (h .2) (h .3))
 
-      pub has-rows : HasOutcomes b q (accessAt P c) base due → HasRows b (getD P (accessWidth * c + 1) 0) base t (take (place + len - place) (drop place q)) due
-      has-rows h = (h .0 .rows, getD P (accessWidth * c) 0, getD (h .0 .columns) (h .1 .column) (numbers []), shown-rows (h .0) (h .1) (h .2) (h .3))
-
-      pub met-is : (r : ℕ) → MetAt b (getD P (accessWidth * c + 1) 0) base t (take (place + len - place) (drop place q)) due r → MetIs b q (accessAt P c) base due r
-      unfolding accessAt
-      met-is r m C p A R d =
-          m (C .rows) (getD P (accessWidth * c) 0) (getD (C .columns) (p .column) (numbers [])) (shown-rows C p A R) d
-          ∙ ap₂ (λ (z : ℕ) (y : List ℕ). member due d && truth (outcomeOf (getD (C .columns) (p .column) (numbers [])) z y (base + d))) (made .kind-is ∙ k ∙ A .kind) (part-is ∙ A .operand)
+    pub met-is : (r : ℕ) → MetAt b (getD P (accessWidth * c + 1) 0) base kind (take (place + len - place) (drop place q)) due r → MetIs b q (accessAt P c) base due r
+    unfolding accessAt
+    met-is r m C p A R d =
+        m (C .rows) (getD P (accessWidth * c) 0) (getD (C .columns) (p .column) (numbers [])) (shown-rows C p A R) d
+        ∙ ap₂ (λ (z : ℕ) (y : List ℕ). member due d && truth (outcomeOf (getD (C .columns) (p .column) (numbers [])) z y (base + d))) (k ∙ A .kind) (part-is ∙ A .operand)

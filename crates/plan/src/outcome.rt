@@ -48,6 +48,5 @@ pub fn met_of(
     let kind = fields::number::narrow(plan[i + 2]);
     let from = plan[i + 3];
     let to = from + plan[i + 4];
-    let test = scan::test::prepare(fold, kind, &q[from..to]);
-    scan::met::met_at(fold, catalogue, start, base, test, &q[from..to], due)
+    scan::met::met_at(fold, catalogue, start, base, kind, &q[from..to], due)
 }

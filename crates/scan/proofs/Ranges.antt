@@ -1,4 +1,4 @@
--- The number kinds as one test: what is prepared, and one comparison.
+-- The number kinds as one test: a lowest number and how many follow it, and one comparison.
 use Prim.Native.Nat.{ℕ, _+_, _-_, _%_, _^_, _≤_, _<_}
 use native.Mathlib.Omega.{arith}
 use mathlib.Core.Path.{_≡_, refl}
@@ -10,11 +10,11 @@ use lib.Dec.{leb, ltb, eqb}
 use borrow.Author.Tests.{le-leb, lt-leb, leb-true, eq-eqb, eqb-true, ltb-true}
 use Rattle.strategy.specs.Bools.{both, and-parts, iff-eq, same?, eqb-ne}
 use Rattle.catalogue.specs.Format.{blankNumber, textLimit}
-use Rattle.predicate.specs.Kinds.{rangeKind, numberBlankKind, equalsKind, containsKind, textBlankKind, plainKind}
+use Rattle.predicate.specs.Kinds.{rangeKind, numberBlankKind, equalsKind, containsKind, textBlankKind}
 use Rattle.predicate.specs.Meaning.{inRange, numberBlank, lowOf, highOf, numberTest}
 use Rattle.predicate.specs.Payload.{rangeFits, operandFits}
-use Rattle.scan.specs.declared.test.Test.{Test}
-use Rattle.scan.specs.Met.{Prepared, within}
+use Rattle.scan.specs.declared.range.Range.{Range}
+use Rattle.scan.specs.Met.{RangeFor, within}
 
 -- the distance from low, wrapped, is at most the width just from low to low + width
 pub within-wraps : (low width n r : ℕ) → r < 2 ^ 32 → low + width < 2 ^ 32 → (r + low) % 2 ^ 32 ≡ n → leb r width ≡ within low width n
@@ -38,10 +38,6 @@ range-fits kind o h e =
     let p = and-parts (eqb (length o) 8) (leb (lowOf o) (highOf o) && ltb (highOf o) blankNumber) (rw (eq-eqb kind rangeKind e) at h) in
     let q = and-parts (leb (lowOf o) (highOf o)) (ltb (highOf o) blankNumber) (p .1) in
     (eqb-true (length o) 8 (p .0), leb-true (lowOf o) (highOf o) (q .0), ltb-true (highOf o) blankNumber (q .1))
-
-pub blank-fits : (kind : ℕ) (o : List ℕ) → operandFits kind o ≡ true → kind ≡ numberBlankKind → length o ≡ 0
-unfolding operandFits
-blank-fits kind o h e = eqb-true (length o) 0 (rw e at h)
 
 pub text-fits : (kind : ℕ) (o : List ℕ) → operandFits kind o ≡ true → equalsKind ≤ kind → kind ≤ containsKind → (0 < length o) × (length o ≤ textLimit)
 unfolding operandFits
@@ -80,26 +76,26 @@ is-blank n = iff-eq (within blankNumber 0 n) (numberBlank n) to from
     from : numberBlank n ≡ true → within blankNumber 0 n ≡ true
     from t = let e : n ≡ blankNumber = eqb-true n blankNumber t in both (le-leb blankNumber n (omega arith)) (le-leb n (blankNumber + 0) (omega arith))
 
--- the prepared test of a number kind
-module _ {kind : ℕ} {o : List ℕ} {t : Test} (P : Prepared kind o t) (fits : operandFits (plainKind kind) o ≡ true) (number : plainKind kind ≤ numberBlankKind) where
-  each : ((plainKind kind ≡ rangeKind) ⊎ (plainKind kind ≡ numberBlankKind))
-  each = go (same? (plainKind kind) rangeKind)
+-- what a number kind asks, and its test
+module _ {kind : ℕ} {o : List ℕ} {r : Range} (P : RangeFor kind o r) (fits : operandFits kind o ≡ true) (number : kind ≤ numberBlankKind) where
+  each : (kind ≡ rangeKind) ⊎ (kind ≡ numberBlankKind)
+  each = go (same? kind rangeKind)
     where
-      go : (plainKind kind ≡ rangeKind) ⊎ (plainKind kind ≡ rangeKind → ⊥) → (plainKind kind ≡ rangeKind) ⊎ (plainKind kind ≡ numberBlankKind)
+      go : (kind ≡ rangeKind) ⊎ (kind ≡ rangeKind → ⊥) → (kind ≡ rangeKind) ⊎ (kind ≡ numberBlankKind)
       go (inl e) = inl e
       go (inr ne) = inr (omega arith)
 
-  pub width-fits : t .low + t .width < 2 ^ 32
+  pub width-fits : r .low + r .width < 2 ^ 32
   width-fits = go each
     where
-      go : (plainKind kind ≡ rangeKind) ⊎ (plainKind kind ≡ numberBlankKind) → t .low + t .width < 2 ^ 32
-      go (inl e) = let p = P .range e in let f = range-fits (plainKind kind) o fits e in omega arith
+      go : (kind ≡ rangeKind) ⊎ (kind ≡ numberBlankKind) → r .low + r .width < 2 ^ 32
+      go (inl e) = let p = P .range e in let f = range-fits kind o fits e in omega arith
       go (inr e) = let p = P .blank e in omega arith
 
-  pub number-means : (n : ℕ) → within (t .low) (t .width) n ≡ numberTest (plainKind kind) o n
+  pub number-means : (n : ℕ) → within (r .low) (r .width) n ≡ numberTest kind o n
   unfolding numberTest
   number-means n = go each
     where
-      go : (plainKind kind ≡ rangeKind) ⊎ (plainKind kind ≡ numberBlankKind) → within (t .low) (t .width) n ≡ numberTest (plainKind kind) o n
-      go (inl e) = let p = P .range e in let f = range-fits (plainKind kind) o fits e in rw (p .0, p .1, e) (in-range (lowOf o) (highOf o) n (f .1) (f .2))
+      go : (kind ≡ rangeKind) ⊎ (kind ≡ numberBlankKind) → within (r .low) (r .width) n ≡ numberTest kind o n
+      go (inl e) = let p = P .range e in let f = range-fits kind o fits e in rw (p .0, p .1, e) (in-range (lowOf o) (highOf o) n (f .1) (f .2))
       go (inr e) = let p = P .blank e in rw (p .0, p .1, e) (is-blank n)

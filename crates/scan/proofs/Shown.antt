@@ -19,14 +19,13 @@ use Rattle.predicate.specs.declared.answer.Answer.{Answer}
 use Rattle.predicate.specs.declared.answer.Answer.the-variants.{No, Yes}
 use Rattle.predicate.specs.Kinds.{numberBlankKind, containsKind, textBlankKind, oppositeFrom, plainKind}
 use Rattle.predicate.specs.Meaning.{answerOf, opposite, truth, textBlank, numberTest, textTest, plainOf, outcomeOf}
-use Rattle.predicate.specs.Payload.{kindFits}
+use Rattle.predicate.specs.Payload.{kindFits, operandFits}
 use Rattle.predicate.proofs.OutcomeLaws.{number-row, text-row}
 use Rattle.sets.specs.Kept.{KeptBy, Sifted}
 use Rattle.sets.specs.KeptLaws.{sift-kept, kept-same, kept-others}
 use Rattle.filters.specs.Block.{DueRows, slotOf, textOf}
-use Rattle.filters.specs.Filter.{SiftedTexts}
-use Rattle.scan.specs.declared.test.Test.{Test}
-use Rattle.scan.specs.Met.{ShownRows, HasRows, MetAt, PlainMetAt, within}
+use Rattle.scan.specs.declared.range.Range.{Range}
+use Rattle.scan.specs.Met.{RangeFor, ShownRows, HasRows, MetAt, PlainMetAt, within}
 use Rattle.scan.proofs.Ranges.{text-fits, width-fits, number-means}
 
 abbrev pub numberOf : List ℕ → (start row : ℕ) → ℕ
@@ -70,73 +69,75 @@ truth-opposite : (a : Answer) → not (truth a) ≡ truth (opposite a)
 truth-opposite No = refl
 truth-opposite Yes = refl
 
--- one predicate, of the plain kind `kind`
-module _ {b : List ℕ} {start base : ℕ} {t : Test} {o : List ℕ} {due kind : ℕ} (k : kind ≡ plainKind (t .kind)) where
+-- one predicate, and its plain kind
+module _ {b : List ℕ} {start base kind : ℕ} {o : List ℕ} {due plain : ℕ} (k : plain ≡ plainKind kind) where
   -- the due rows, as the leaves take them
-  pub due-numbers : HasRows b start base t o due → kind ≤ numberBlankKind → DueRows b numberTag start base due
+  pub due-numbers : HasRows b start base kind o due → plain ≤ numberBlankKind → DueRows b numberTag start base due
   due-numbers (rows, tag, c, R) l d m =
-      number-row b tag start (base + d) (number-kind tag (plainKind (t .kind)) (R .kind-fits) (omega arith)) (rows, c, R .shown, R .inside d m)
+      number-row b tag start (base + d) (number-kind tag (plainKind kind) (R .kind-fits) (omega arith)) (rows, c, R .shown, R .inside d m)
 
-  pub due-width : HasRows b start base t o due → kind ≤ numberBlankKind → t .low + t .width < 2 ^ 32
-  due-width (rows, tag, c, R) l = width-fits (R .prepared) (R .operand-fits) (omega arith)
+  fits : {rows tag : ℕ} {c : Column} → ShownRows b start base kind o due rows tag c → operandFits plain o ≡ true
+  fits R = ap (λ (j : ℕ). operandFits j o) k ∙ R .operand-fits
 
-  pub due-texts : HasRows b start base t o due → numberBlankKind < kind → DueRows b textTag start base due
+  pub due-fits : HasRows b start base kind o due → operandFits plain o ≡ true
+  due-fits (rows, tag, c, R) = fits R
+
+  pub due-width : {g : Range} → HasRows b start base kind o due → RangeFor plain o g → plain ≤ numberBlankKind → g .low + g .width < 2 ^ 32
+  due-width h P l = width-fits P (due-fits h) l
+
+  pub due-texts : HasRows b start base kind o due → numberBlankKind < plain → DueRows b textTag start base due
   due-texts (rows, tag, c, R) l d m =
-      let f = text-kind tag (plainKind (t .kind)) (R .kind-fits) (omega arith) in
+      let f = text-kind tag (plainKind kind) (R .kind-fits) (omega arith) in
       text-row b tag start (base + d) (λ e. omega arith) (rows, c, R .shown, R .inside d m)
 
-  -- the kinds with an operand: its size, and its two bytes as the filter takes them
-  pub due-operand : HasRows b start base t o due → numberBlankKind < kind → (kind ≡ textBlankKind → ⊥) → (kind ≤ containsKind) × (0 < length o) × (length o ≤ textLimit)
+  -- the kinds with an operand: its size
+  pub due-operand : HasRows b start base kind o due → numberBlankKind < plain → (plain ≡ textBlankKind → ⊥) → (plain ≤ containsKind) × (0 < length o) × (length o ≤ textLimit)
   due-operand (rows, tag, c, R) l ne =
-      let f = text-kind tag (plainKind (t .kind)) (R .kind-fits) (omega arith) in
-      let m : plainKind (t .kind) ≤ containsKind = omega arith in
-      let s = text-fits (plainKind (t .kind)) o (R .operand-fits) (omega arith) m in
-      (omega arith, s .0, s .1)
+      let f = text-kind tag (plainKind kind) (R .kind-fits) (omega arith) in
+      let m : plain ≤ containsKind = omega arith in
+      let s = text-fits plain o (fits R) (omega arith) m in
+      (m, s .0, s .1)
 
-  module _ (may : ℕ) (l : numberBlankKind < kind) (ne : kind ≡ textBlankKind → ⊥) (S : SiftedTexts b start base kind (length o) (t .first) (t .second) due may) where
-    sifted : (rows tag : ℕ) (c : Column) → ShownRows b start base t o due rows tag c → Sifted (λ d. textTest kind o (textOf b start (base + d))) due may
-    sifted rows tag c R = let f = due-operand (rows, tag, c, R) l ne in S o refl (R .prepared .bytes (omega arith) (omega arith))
-
-    pub due-sifted : HasRows b start base t o due → DueRows b textTag start base may
-    due-sifted (rows, tag, c, R) d e = due-texts (rows, tag, c, R) l d (sifted rows tag c R .within d e)
+  pub due-sifted : {may : ℕ} → HasRows b start base kind o due → numberBlankKind < plain → Sifted (λ d. textTest plain o (textOf b start (base + d))) due may → DueRows b textTag start base may
+  due-sifted h l S d e = due-texts h l d (S .within d e)
 
   -- and what they answer, as the column has it
   module _ (r : ℕ) where
-    pub numbers-met : kind ≤ numberBlankKind → KeptBy (λ d. within (t .low) (t .width) (numberOf b start (base + d))) due r → PlainMetAt b start base t o due r
-    numbers-met l K rows tag (numbers ns) R =
+    pub numbers-met : {g : Range} → RangeFor plain o g → plain ≤ numberBlankKind → KeptBy (λ d. within (g .low) (g .width) (numberOf b start (base + d))) due r → PlainMetAt b start base kind o due r
+    numbers-met P l K rows tag (numbers ns) R =
         kept-same _ _ due r
-        (λ d m. number-means (R .prepared) (R .operand-fits) (omega arith) (numberOf b start (base + d))
-        ∙ ap (numberTest (plainKind (t .kind)) o) (number-is b start (base + d) (numberOf b start (base + d)) refl rows ns (refl, R .shown .1, R .shown .2) (R .inside d m))
-        ∙ sym (truth-of (numberTest (plainKind (t .kind)) o (getD ns (base + d) 0)))) K
-    numbers-met l K rows tag (texts ts) R =
-        let e = number-kind tag (plainKind (t .kind)) (R .kind-fits) (omega arith) in let f : tag ≡ textTag = R .shown .0 in absurd (omega arith)
+        (λ d m. number-means P (fits R) l (numberOf b start (base + d)) ∙ ap (λ (j : ℕ). numberTest j o (numberOf b start (base + d))) k
+        ∙ ap (numberTest (plainKind kind) o) (number-is b start (base + d) (numberOf b start (base + d)) refl rows ns (refl, R .shown .1, R .shown .2) (R .inside d m))
+        ∙ sym (truth-of (numberTest (plainKind kind) o (getD ns (base + d) 0)))) K
+    numbers-met P l K rows tag (texts ts) R =
+        let e = number-kind tag (plainKind kind) (R .kind-fits) (omega arith) in let f : tag ≡ textTag = R .shown .0 in absurd (omega arith)
 
-    pub texts-met : numberBlankKind < kind → KeptBy (λ d. textTest kind o (textOf b start (base + d))) due r → PlainMetAt b start base t o due r
+    pub texts-met : numberBlankKind < plain → KeptBy (λ d. textTest plain o (textOf b start (base + d))) due r → PlainMetAt b start base kind o due r
     texts-met l K rows tag (numbers ns) R =
-        let e = text-kind tag (plainKind (t .kind)) (R .kind-fits) (omega arith) in let f : tag ≡ numberTag = R .shown .0 in absurd (omega arith)
+        let e = text-kind tag (plainKind kind) (R .kind-fits) (omega arith) in let f : tag ≡ numberTag = R .shown .0 in absurd (omega arith)
     texts-met l K rows tag (texts ts) R =
         kept-same _ _ due r
         (λ d m. ap (λ (j : ℕ). textTest j o (textOf b start (base + d))) k
-        ∙ ap (textTest (plainKind (t .kind)) o) (text-shown b start (base + d) rows ts (refl, R .shown .1, R .shown .2, R .shown .3) (R .inside d m))
-        ∙ sym (truth-of (textTest (plainKind (t .kind)) o (getD ts (base + d) [])))) K
+        ∙ ap (textTest (plainKind kind) o) (text-shown b start (base + d) rows ts (refl, R .shown .1, R .shown .2, R .shown .3) (R .inside d m))
+        ∙ sym (truth-of (textTest (plainKind kind) o (getD ts (base + d) [])))) K
 
-    pub blanks-met : kind ≡ textBlankKind → KeptBy (λ d. textBlank (textOf b start (base + d))) due r → PlainMetAt b start base t o due r
+    pub blanks-met : plain ≡ textBlankKind → KeptBy (λ d. textBlank (textOf b start (base + d))) due r → PlainMetAt b start base kind o due r
     unfolding textTest
-    blanks-met e K = texts-met (omega arith) (kept-same _ (λ d. textTest kind o (textOf b start (base + d))) due r (λ d m. rw e) K)
+    blanks-met e K = texts-met (omega arith) (kept-same _ (λ d. textTest plain o (textOf b start (base + d))) due r (λ d m. rw e) K)
 
-    pub sifted-met : (may : ℕ) → numberBlankKind < kind → (kind ≡ textBlankKind → ⊥) → SiftedTexts b start base kind (length o) (t .first) (t .second) due may
-        → KeptBy (λ d. textTest kind o (textOf b start (base + d))) may r → PlainMetAt b start base t o due r
-    sifted-met may l ne S K rows tag c R = texts-met l (sift-kept r (sifted may l ne S rows tag c R) K) rows tag c R
+    pub sifted-met : (may : ℕ) → numberBlankKind < plain → Sifted (λ d. textTest plain o (textOf b start (base + d))) due may
+        → KeptBy (λ d. textTest plain o (textOf b start (base + d))) may r → PlainMetAt b start base kind o due r
+    sifted-met may l S K = texts-met l (sift-kept r S K)
 
 -- a kind below the opposites, and an opposite one
-module _ {b : List ℕ} {start base : ℕ} {t : Test} {o : List ℕ} {due : ℕ} (r : ℕ) (K : PlainMetAt b start base t o due r) where
-  pub plain-met : t .kind < oppositeFrom → MetAt b start base t o due r
+module _ {b : List ℕ} {start base kind : ℕ} {o : List ℕ} {due : ℕ} (r : ℕ) (K : PlainMetAt b start base kind o due r) where
+  pub plain-met : kind < oppositeFrom → MetAt b start base kind o due r
   unfolding outcomeOf
-  plain-met h rows tag c R = rw (lt-ltb (t .kind) oppositeFrom h) (K rows tag c R)
+  plain-met h rows tag c R = rw (lt-ltb kind oppositeFrom h) (K rows tag c R)
 
-  pub opposite-met : oppositeFrom ≤ t .kind → MetAt b start base t o due (bitXor due r)
+  pub opposite-met : oppositeFrom ≤ kind → MetAt b start base kind o due (bitXor due r)
   unfolding outcomeOf
   opposite-met h rows tag c R =
-      rw (le-ltb (t .kind) oppositeFrom h)
-      (kept-same _ _ due (bitXor due r) (λ d m. truth-opposite (plainOf c (plainKind (t .kind)) o (base + d)))
-      (kept-others (λ d. truth (plainOf c (plainKind (t .kind)) o (base + d))) due r (K rows tag c R)))
+      rw (le-ltb kind oppositeFrom h)
+      (kept-same _ _ due (bitXor due r) (λ d m. truth-opposite (plainOf c (plainKind kind) o (base + d)))
+      (kept-others (λ d. truth (plainOf c (plainKind kind) o (base + d))) due r (K rows tag c R)))

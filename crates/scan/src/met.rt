@@ -1,32 +1,31 @@
 // The due rows at which a predicate's outcome is yes, the kind looked at once.
-use crate::test::Test;
 use predicate::kind::Kind;
 ghost use Rattle.predicate.specs.Outcome.{Folds};
 ghost use Rattle.scan.specs.Met.{HasRows, PlainMetAt, MetAt};
 
-// Of the kind below the opposites.
+// Of the kind below the opposites. What a leaf takes of the operand is worked out for each block: a table of it is no faster.
 fn plain_met_at(
     table: &[u8],
     b: &[u8],
     start: usize,
     base: usize,
-    test: Test,
+    kind: u8,
     operand: &[u8],
     due: u64,
 ) -> u64
-    requires { ⌜ Folds (now table) × HasRows (now b) start base test (now operand) due ⌝ }
-    ensures { λ r. ⌜ PlainMetAt (now (b .entry)) start base test (now (operand .entry)) due r ⌝ }
+    requires { ⌜ Folds (now table) × HasRows (now b) start base kind (now operand) due ⌝ }
+    ensures { λ r. ⌜ PlainMetAt (now (b .entry)) start base kind (now (operand .entry)) due r ⌝ }
 {
-    let kind = predicate::kind::plain_kind(test.kind);
-    if kind <= Kind::NUMBER_BLANK {
-        return crate::number::numbers_within(b, start, base, test.low, test.width, due);
+    let plain = predicate::kind::plain_kind(kind);
+    if plain <= Kind::NUMBER_BLANK {
+        let range = crate::range::range_of(plain, operand);
+        return crate::number::numbers_within(b, start, base, range.low, range.width, due);
     }
-    if kind == Kind::TEXT_BLANK {
+    if plain == Kind::TEXT_BLANK {
         return crate::text::texts_blank(b, start, base, due);
     }
-    let size = operand.len();
-    let may = filters::sift::sift(b, start, base, kind, size, test.first, test.second, due);
-    crate::text::texts_that_pass(table, b, start, base, kind, operand, may)
+    let may = filters::sift::sift(table, b, start, base, plain, operand, due);
+    crate::text::texts_that_pass(table, b, start, base, plain, operand, may)
 }
 
 pub fn met_at(
@@ -34,15 +33,15 @@ pub fn met_at(
     b: &[u8],
     start: usize,
     base: usize,
-    test: Test,
+    kind: u8,
     operand: &[u8],
     due: u64,
 ) -> u64
-    requires { ⌜ Folds (now table) × HasRows (now b) start base test (now operand) due ⌝ }
-    ensures { λ r. ⌜ MetAt (now (b .entry)) start base test (now (operand .entry)) due r ⌝ }
+    requires { ⌜ Folds (now table) × HasRows (now b) start base kind (now operand) due ⌝ }
+    ensures { λ r. ⌜ MetAt (now (b .entry)) start base kind (now (operand .entry)) due r ⌝ }
 {
-    let met = plain_met_at(table, b, start, base, test, operand, due);
-    if test.kind < Kind::OPPOSITE_FROM {
+    let met = plain_met_at(table, b, start, base, kind, operand, due);
+    if kind < Kind::OPPOSITE_FROM {
         return met;
     }
     // An opposite kind: the due rows that its plain kind leaves.

@@ -2,4 +2,5 @@ pub mod Set
 pub mod SetLaws
 pub mod Kept
 pub mod KeptLaws
+pub mod Gathered
 pub mod OrderSet

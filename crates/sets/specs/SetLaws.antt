@@ -94,6 +94,9 @@ member-below (suc n) (suc d) =
     let q : (2 ^ suc n - 1) / 2 ≡ 2 ^ n - 1 = omega arith in
     member-half (2 ^ suc n - 1) d ∙ ap (λ (z : ℕ). member z d) q ∙ member-below n d ∙ sym (leb·suc-suc (suc d) n)
 
+pub below-has : (n d : ℕ) → d < n → member (belowSet n) d ≡ true
+below-has n d l = member-below n d ∙ ltb-yes d n l
+
 pub member-one : (c d : ℕ) → member (oneSet c) d ≡ eqb d c
 unfolding member
 member-one zero zero = refl

@@ -1,6 +1,6 @@
 -- `met_of` meets its contract: what it hands on is what the access of the predicate shows.
 use borrow.Author.Needs.{needs}
-use Rattle.plan.proofs.Outcomes.{kind-small, operand-in, operand-fits, has-rows, met-is}
+use Rattle.plan.proofs.Outcomes.{kind-small, operand-in, has-rows, met-is}
 use Rattle.plan.proofs.outcome.met_of.Statement.{statement}
 use Rattle.plan.proofs.outcome.met_of.Tie as tie
 
@@ -49,21 +49,6 @@ shared-slice-read-to c = search needs
 add-to-2 : tie.Need-add-to-2
 add-to-2 c = let w = operand-in _ _ _ _ _ _ (c .before .before .before .before .before .before .before .before .before .pre .3) in search needs
 
-sub-prepare : tie.Need-sub-prepare
-sub-prepare c = search needs
-
-part-prepare-start : tie.Need-part-prepare-start
-part-prepare-start c = search needs
-
-part-prepare-end : tie.Need-part-prepare-end
-part-prepare-end c = operand-in _ _ _ _ _ _ (c .before .before .before .before .before .before .before .before .before .pre .3)
-
-prepare-requires : tie.Need-prepare-requires
-prepare-requires c κs =
-    let e = c .before .before .before .before .before .before .before .before .before .before in
-    let a = e .args in
-    (e .pre .0, operand-fits (a .catalogue .now) (a .q .now) (a .plan .now) (a .c) (a .base) (a .due) (c .before .before .before .narrow .result) (c .before .before .before .narrow .ensures) (e .pre .3))
-
 sub-met-at : tie.Need-sub-met-at
 sub-met-at c = search needs
 
@@ -71,22 +56,20 @@ part-met-at-start : tie.Need-part-met-at-start
 part-met-at-start c = search needs
 
 part-met-at-end : tie.Need-part-met-at-end
-part-met-at-end c = operand-in _ _ _ _ _ _ (c .before .before .before .before .before .before .before .before .before .before .before .pre .3)
+part-met-at-end c = operand-in _ _ _ _ _ _ (c .before .before .before .before .before .before .before .before .before .pre .3)
 
 met-at-requires : tie.Need-met-at-requires
 met-at-requires c κs =
-    let e = c .before .before .before .before .before .before .before .before .before .before .before .before in
+    let e = c .before .before .before .before .before .before .before .before .before .before in
     let a = e .args in
-    let n = c .before .before .before .before .before .narrow in
-    let p = c .before .prepare in
-    (e .pre .0, has-rows (a .catalogue .now) (a .q .now) (a .plan .now) (a .c) (a .base) (a .due) (n .result) (n .ensures) (p .result) (p .ensures) (e .pre .3))
+    let n = c .before .before .before .narrow in
+    (e .pre .0, has-rows (a .catalogue .now) (a .q .now) (a .plan .now) (a .c) (a .base) (a .due) (n .result) (n .ensures) (e .pre .3))
 
 returns : tie.Need-returns
 returns c =
-    let a = c .before .before .before .before .before .before .before .before .before .before .before .before .before .args in
-    let n = c .before .before .before .before .before .before .narrow in
-    let p = c .before .before .prepare in
-    met-is (a .catalogue .now) (a .q .now) (a .plan .now) (a .c) (a .base) (a .due) (n .result) (n .ensures) (p .result) (p .ensures) (c .met-at .result) (c .met-at .ensures)
+    let a = c .before .before .before .before .before .before .before .before .before .before .before .args in
+    let n = c .before .before .before .before .narrow in
+    met-is (a .catalogue .now) (a .q .now) (a .plan .now) (a .c) (a .base) (a .due) (n .result) (n .ensures) (c .met-at .result) (c .met-at .ensures)
 
 pub met-of-spec : {M : Type 1} → statement M
 met-of-spec =
@@ -107,10 +90,6 @@ met-of-spec =
     mul-to
     shared-slice-read-to
     add-to-2
-    sub-prepare
-    part-prepare-start
-    part-prepare-end
-    prepare-requires
     sub-met-at
     part-met-at-start
     part-met-at-end

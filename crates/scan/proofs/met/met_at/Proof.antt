@@ -8,10 +8,10 @@ plain-met-at-requires : tie.Need-plain-met-at-requires
 plain-met-at-requires c κs = search needs
 
 returns : tie.Need-returns
-returns c = plain-met _ (c .before .before .plain-met-at .ensures) (c .if1 .taken)
+returns c = plain-met _ (c .before .plain-met-at .ensures) (c .if1 .taken)
 
 returns-2 : tie.Need-returns-2
-returns-2 c = opposite-met _ (c .before .before .plain-met-at .ensures) (c .if1 .left)
+returns-2 c = opposite-met _ (c .before .plain-met-at .ensures) (c .if1 .left)
 
 pub met-at-spec : {M : Type 1} → statement M
 met-at-spec = tie.close (tie.spec plain-met-at-requires returns returns-2)

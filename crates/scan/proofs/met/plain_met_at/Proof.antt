@@ -1,6 +1,6 @@
 -- `plain_met_at` meets its contract: each leaf answers as the column has it.
 use native.Mathlib.Omega.{arith}
-use Rattle.scan.proofs.Shown.{due-numbers, due-width, due-texts, due-operand, due-sifted, numbers-met, blanks-met, sifted-met}
+use Rattle.scan.proofs.Shown.{due-numbers, due-fits, due-width, due-texts, due-operand, due-sifted, numbers-met, blanks-met, sifted-met}
 use borrow.Author.Needs.{needs}
 use Rattle.scan.proofs.met.plain_met_at.Statement.{statement}
 use Rattle.scan.proofs.met.plain_met_at.Tie as tie
@@ -8,11 +8,18 @@ use Rattle.scan.proofs.met.plain_met_at.Tie as tie
 plain-kind-requires : tie.Need-plain-kind-requires
 plain-kind-requires c κs = search needs
 
+range-of-requires : tie.Need-range-of-requires
+range-of-requires c κs = due-fits (c .before .plain-kind .ensures) (c .before .before .before .before .before .pre .1)
+
 numbers-within-requires : tie.Need-numbers-within-requires
-numbers-within-requires c κs = let k = c .before .plain-kind .ensures in (due-numbers k (c .before .before .before .before .before .pre .1) (c .if1 .taken), due-width k (c .before .before .before .before .before .pre .1) (c .if1 .taken))
+numbers-within-requires c κs =
+    let k = c .before .before .plain-kind .ensures in
+    let h = c .before .before .before .before .before .before .pre .1 in
+    let l = c .before .if1 .taken in
+    (due-numbers k h l, due-width k h (c .range-of .ensures) l)
 
 returns : tie.Need-returns
-returns c = numbers-met (c .before .before .plain-kind .ensures) _ (c .before .if1 .taken) (c .numbers-within .ensures)
+returns c = numbers-met (c .before .before .before .plain-kind .ensures) _ (c .before .range-of .ensures) (c .before .before .if1 .taken) (c .numbers-within .ensures)
 
 texts-blank-requires : tie.Need-texts-blank-requires
 texts-blank-requires c κs = due-texts (c .before .before .plain-kind .ensures) (c .before .before .before .before .before .before .pre .1) (c .before .if1 .left)
@@ -23,14 +30,18 @@ returns-2 c = blanks-met (c .before .before .before .plain-kind .ensures) _ (c .
 sift-requires : tie.Need-sift-requires
 sift-requires c κs =
     let k = c .before .before .plain-kind .ensures in
-    let o = due-operand k (c .before .before .before .before .before .before .pre .1) (c .before .if1 .left) (c .if2 .left) in
-    (due-texts k (c .before .before .before .before .before .before .pre .1) (c .before .if1 .left), omega arith, o .0, o .1, o .2)
+    let p = c .before .before .before .before .before .before .pre in
+    let l = c .before .if1 .left in
+    let o = due-operand k (p .1) l (c .if2 .left) in
+    (p .0, due-texts k (p .1) l, omega arith, o .0, o .1, o .2)
 
 texts-that-pass-requires : tie.Need-texts-that-pass-requires
-texts-that-pass-requires c κs = (c .before .before .before .before .before .before .before .pre .0, due-sifted (c .before .before .before .plain-kind .ensures) _ (c .before .before .if1 .left) (c .before .if2 .left) (c .sift .ensures) (c .before .before .before .before .before .before .before .pre .1))
+texts-that-pass-requires c κs =
+    let p = c .before .before .before .before .before .before .before .pre in
+    (p .0, due-sifted (c .before .before .before .plain-kind .ensures) (p .1) (c .before .before .if1 .left) (c .sift .ensures))
 
 returns-3 : tie.Need-returns-3
-returns-3 c = sifted-met (c .before .before .before .before .plain-kind .ensures) _ _ (c .before .before .before .if1 .left) (c .before .before .if2 .left) (c .before .sift .ensures) (c .texts-that-pass .ensures)
+returns-3 c = sifted-met (c .before .before .before .before .plain-kind .ensures) _ _ (c .before .before .before .if1 .left) (c .before .sift .ensures) (c .texts-that-pass .ensures)
 
 pub plain-met-at-spec : {M : Type 1} → statement M
-plain-met-at-spec = tie.close (tie.spec plain-kind-requires numbers-within-requires returns texts-blank-requires returns-2 sift-requires texts-that-pass-requires returns-3)
+plain-met-at-spec = tie.close (tie.spec plain-kind-requires range-of-requires numbers-within-requires returns texts-blank-requires returns-2 sift-requires texts-that-pass-requires returns-3)

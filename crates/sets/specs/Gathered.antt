@@ -1,0 +1,119 @@
+-- The numbers below n that a test keeps, gathered into one number: bit d is number d.
+use Prim.Native.Nat.{ℕ, zero, suc, _+_, _-_, _*_, _/_, _%_, _^_, _≤_, _<_}
+use native.Mathlib.Nat.{zero-add, suc-add, one-mul, mul-comm, mul-assoc, pow-suc}
+use native.Mathlib.Omega.{arith}
+use mathlib.Core.Path.{_≡_, refl, sym, ap, ap₂, _∙_}
+use mathlib.Core.Bool.{Bool, true, false, _&&_, cond}
+use lib.Dec.{eqb, ltb, leb·suc-suc}
+use lib.Pow.{pow-mono}
+use Rattle.strategy.specs.Bools.{ltb-yes, ltb-no}
+use Rattle.sets.specs.Set.{member, belowSet}
+use Rattle.sets.specs.SetLaws.{member-half, member-none, member-below}
+use Rattle.sets.specs.Kept.{KeptBy}
+
+abbrev pub bitOf : Bool → ℕ
+bitOf p = cond p 1 0
+
+unfoldable pub gathered : (P : ℕ → Bool) → (n : ℕ) → ℕ
+gathered P zero = 0
+gathered P (suc n) = bitOf (P 0) + 2 * gathered (λ d. P (suc d)) n
+
+bit-small : (p : Bool) → bitOf p < 2
+bit-small true = omega arith
+bit-small false = omega arith
+
+bit-is : (p : Bool) → eqb (bitOf p) 1 ≡ p
+bit-is true = refl
+bit-is false = refl
+
+pub gathered-lt : (P : ℕ → Bool) (n : ℕ) → gathered P n < 2 ^ n
+unfolding gathered
+gathered-lt P zero = omega arith
+gathered-lt P (suc n) =
+    let e : 2 ^ suc n ≡ 2 ^ n * 2 = pow-suc 2 n in
+    let s = bit-small (P 0) in
+    let l = gathered-lt (λ d. P (suc d)) n in
+    omega arith
+
+member-gathered : (P : ℕ → Bool) (n d : ℕ) → member (gathered P n) d ≡ (ltb d n && P d)
+unfolding gathered member
+member-gathered P zero d = member-none d ∙ ap (λ (b : Bool). b && P d) (sym (ltb-no d 0 (omega arith)))
+member-gathered P (suc n) zero =
+    let s = bit-small (P 0) in
+    let e : gathered P (suc n) / 2 ^ 0 % 2 ≡ bitOf (P 0) = omega arith in
+    ap (λ (z : ℕ). eqb z 1) e ∙ bit-is (P 0) ∙ ap (λ (b : Bool). b && P 0) (sym (ltb-yes 0 (suc n) (omega arith)))
+member-gathered P (suc n) (suc d) =
+    let s = bit-small (P 0) in
+    let e : gathered P (suc n) / 2 ≡ gathered (λ c. P (suc c)) n = omega arith in
+    member-half (gathered P (suc n)) d ∙ ap (λ (z : ℕ). member z d) e ∙ member-gathered (λ c. P (suc c)) n d ∙ ap (λ (b : Bool). b && P (suc d)) (sym (leb·suc-suc (suc d) n))
+
+-- it is what is kept of all numbers below n
+pub gathered-kept : (P : ℕ → Bool) (n : ℕ) → KeptBy P (belowSet n) (gathered P n)
+gathered-kept P n d = member-gathered P n d ∙ ap (λ (b : Bool). b && P d) (sym (member-below n d))
+
+pub gathered-same : (P Q : ℕ → Bool) (n : ℕ) → ((d : ℕ) → P d ≡ Q d) → gathered P n ≡ gathered Q n
+unfolding gathered
+gathered-same P Q zero e = refl
+gathered-same P Q (suc n) e = ap₂ (λ (p : Bool) (g : ℕ). bitOf p + 2 * g) (e 0) (gathered-same (λ d. P (suc d)) (λ d. Q (suc d)) n (λ d. e (suc d)))
+
+-- the first m, and the n after them
+pub gathered-cat : (P : ℕ → Bool) (m n : ℕ) → gathered P (m + n) ≡ gathered P m + 2 ^ m * gathered (λ d. P (m + d)) n
+unfolding gathered
+gathered-cat P zero n =
+    ap (gathered P) (zero-add n) ∙ gathered-same P (λ d. P (0 + d)) n (λ d. ap P (sym (zero-add d))) ∙ sym (zero-add _ ∙ one-mul _)
+gathered-cat P (suc m) n =
+    ap (gathered P) (suc-add m n) ∙ ap (λ (x : ℕ). bitOf (P 0) + 2 * x) (gathered-cat (λ d. P (suc d)) m n)
+    ∙ step (bitOf (P 0)) (gathered (λ d. P (suc d)) m) (2 ^ m * gathered (λ d. P (suc (m + d))) n) (2 ^ suc m * gathered (λ d. P (suc m + d)) n) twice
+  where
+    twice : 2 ^ suc m * gathered (λ d. P (suc m + d)) n ≡ 2 * (2 ^ m * gathered (λ d. P (suc (m + d))) n)
+    twice =
+        ap₂ (λ (x y : ℕ). x * y) (pow-suc 2 m ∙ mul-comm (2 ^ m) 2) (gathered-same (λ d. P (suc m + d)) (λ d. P (suc (m + d))) n (λ d. ap P (suc-add m d)))
+        ∙ mul-assoc 2 (2 ^ m) (gathered (λ d. P (suc (m + d))) n)
+
+    step : (b a x y : ℕ) → y ≡ 2 * x → b + 2 * (a + x) ≡ b + 2 * a + y
+    step b a x y e = omega arith
+
+-- eight bits in one sum
+pub gathered-eight : (P : ℕ → Bool) {a b c d e f g h : ℕ} → a ≡ bitOf (P 0) → b ≡ bitOf (P 1) → c ≡ bitOf (P 2) → d ≡ bitOf (P 3) → e ≡ bitOf (P 4) → f ≡ bitOf (P 5) → g ≡ bitOf (P 6)
+    → h ≡ bitOf (P 7) → a + 2 * b + 4 * c + 8 * d + 16 * e + 32 * f + 64 * g + 128 * h ≡ gathered P 8
+unfolding gathered
+gathered-eight P p q r s t u v w = omega arith
+
+-- a loop down through the 64 numbers, eight at a time: those from 8 k on are gathered
+pub record Octets (P : ℕ → Bool) (k met : ℕ) : Type 0 where
+  pub inside : k ≤ 8
+  pub gathered-is : met ≡ gathered (λ d. P (8 * k + d)) (64 - 8 * k)
+
+pub octets-none : (P : ℕ → Bool) → Octets P 8 0
+unfolding gathered
+octets-none P = record { inside = omega arith; gathered-is = refl }
+
+module _ {P : ℕ → Bool} {k met : ℕ} (O : Octets P k met) where
+  pub octets-end : k ≡ 0 → KeptBy P (belowSet 64) met
+  octets-end e =
+      let m : met ≡ gathered (λ d. P (8 * 0 + d)) 64 = rw e at (O .gathered-is) in
+      let s = gathered-same (λ d. P (8 * 0 + d)) P 64 (λ d. ap P (omega arith)) in
+      rw (m ∙ s) (gathered-kept P 64)
+
+  module _ (more : 0 < k) where
+    pub octets-small : met < 2 ^ 56
+    octets-small =
+        let g = gathered-lt (λ d. P (8 * k + d)) (64 - 8 * k) in
+        let e = O .gathered-is in
+        let m = pow-mono {i = 64 - 8 * k} {j = 56} (omega arith) in
+        omega arith
+
+    pub octets-next : {octet : ℕ} → octet ≡ gathered (λ d. P (8 * (k - 1) + d)) 8 → Octets P (k - 1) (256 * met + octet)
+    octets-next {octet} o = record {
+      inside = let l = O .inside in omega arith;
+      gathered-is =
+          let l = O .inside in
+          let n : 8 + (64 - 8 * k) ≡ 64 - 8 * (k - 1) = omega arith in
+          let s = gathered-same (λ d. P (8 * k + d)) (λ d. P (8 * (k - 1) + (8 + d))) (64 - 8 * k) (λ d. ap P (omega arith)) in
+          let c = gathered-cat (λ d. P (8 * (k - 1) + d)) 8 (64 - 8 * k) in
+          sum met octet (gathered (λ d. P (8 * (k - 1) + d)) 8) (gathered (λ d. P (8 * (k - 1) + (8 + d))) (64 - 8 * k)) (gathered (λ d. P (8 * (k - 1) + d)) (8 + (64 - 8 * k))) (O .gathered-is ∙ s) o c
+          ∙ ap (gathered (λ d. P (8 * (k - 1) + d))) n;
+    }
+      where
+        sum : (x y u v z : ℕ) → x ≡ v → y ≡ u → z ≡ u + 256 * v → 256 * x + y ≡ z
+        sum x y u v z e f g = omega arith
