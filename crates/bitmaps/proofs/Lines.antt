@@ -9,7 +9,9 @@ use lib.ListN.{length, take, drop, getD, set, length-append, length-take, length
 use borrow.Rule.Slice.PartMut.{putMid}
 use lib.Seq.{take-suc, drop-cons, set-at, length-take-le, take-at, drop-at, drop-drop, take-all}
 use Rattle.bitmaps.specs.Sums.{joined}
-use Rattle.bitmaps.specs.Bitmap.{onesIn, putFront}
+use Rattle.fields.specs.Output.{putFront}
+use Rattle.fields.proofs.OutputLaws.{length-front}
+use Rattle.bitmaps.specs.Bitmap.{onesIn}
 use Rattle.bitmaps.specs.Table.{lineSize, linesOf}
 use Rattle.bitmaps.specs.SumLaws.{joined-length}
 use Rattle.bitmaps.specs.OnesLaws.{ones-append}
@@ -31,9 +33,6 @@ unfolding linesOf
 lines-length size from n s h =
     joined-length (λ c. take size (drop (c * lineSize) from)) size n
     (λ c l. length-take-le size (drop (c * lineSize) from) (simp length-drop (omega (arith, h, mul-le-mul-right lineSize l, suc-mul c lineSize))))
-
-front-length : (new old : List ℕ) → length new ≤ length old → length (putFront new old) ≡ length old
-front-length new old l = omega (arith, length-append new (drop (length new) old), length-drop (length new) old)
 
 -- line c, written at its place, stands behind the lines before it
 module _ (size : ℕ) (from old to : List ℕ) (c : ℕ) (s : size ≤ lineSize) (h : suc c * lineSize ≤ length from) (q : to ≡ putFront (linesOf size from c) old) where
@@ -71,7 +70,7 @@ line-fits size n c l = omega (arith, mul-le-mul-right size l)
 module _ (size n : ℕ) (from old to : List ℕ) (c line at : ℕ) (s : size ≤ lineSize) (h : n * lineSize ≤ length from) (m : n * size ≤ length old) (l : c < n) where
   pub copy-line : (new : List ℕ) → line ≡ c * lineSize → at ≡ c * size → to ≡ putFront (linesOf size from c) old → new ≡ take (line + size - line) (drop line from)
       → (length (putMid at (at + size - at) to new) ≡ length old) × (putMid at (at + size - at) to new ≡ putFront (linesOf size from (c + 1)) old)
-  copy-line new e f q p = (ap length same ∙ front-length (linesOf size from (c + 1)) old fits, same)
+  copy-line new e f q p = (ap length same ∙ length-front (linesOf size from (c + 1)) old fits, same)
     where
       fits : length (linesOf size from (c + 1)) ≤ length old
       fits = omega (arith, lines-length size from (c + 1) s (omega arith), line-fits size n c l)

@@ -27,7 +27,3 @@ bitmaps f n rows = joined (λ c. bitmap (f c) rows) n
 unfoldable pub onesIn : List ℕ → ℕ
 onesIn [] = 0
 onesIn (x ∷ xs) = ones x + onesIn xs
-
--- "Longer tables keep their further bytes": the new bytes, then those of the old table beyond them
-abbrev pub putFront : (new old : List ℕ) → List ℕ
-putFront new old = new ++ drop (length new) old

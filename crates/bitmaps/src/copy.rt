@@ -2,7 +2,7 @@
 ghost use mathlib.Core.Path.{_≡_};
 ghost use Prim.Native.Nat.{_*_, _≤_};
 ghost use lib.ListN.{length};
-ghost use Rattle.bitmaps.specs.Bitmap.{putFront};
+ghost use Rattle.fields.specs.Output.{putFront};
 ghost use Rattle.bitmaps.specs.Table.{lineSize, linesOf};
 
 // A line of a run's own tables: a bit for each row that a catalogue may have (catalogue's Row::LIMIT).

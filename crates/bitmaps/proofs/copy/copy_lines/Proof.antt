@@ -3,7 +3,7 @@ use Prim.Native.Nat.{_-_, _*_, _≤_}
 use native.Mathlib.Omega.{arith}
 use mathlib.Core.Path.{_≡_, refl}
 use lib.ListN.{length}
-use Rattle.bitmaps.specs.Bitmap.{putFront}
+use Rattle.fields.specs.Output.{putFront}
 use Rattle.bitmaps.specs.Table.{lineSize, linesOf}
 use Rattle.bitmaps.specs.Sums.{joined}
 use Rattle.bitmaps.proofs.Lines.{copy-line, line-fits, parts-length}
