@@ -5,7 +5,7 @@ use native.Mathlib.Numerals.{add-one}
 use native.Mathlib.Omega.{arith}
 use mathlib.Core.Path.{_≡_, refl, sym, ap, ap₂, _∙_}
 use mathlib.Core.List.{List, [], _∷_, _++_, append-assoc}
-use lib.ListN.{length, take, drop, getD, set, length-append, length-drop}
+use lib.ListN.{length, take, drop, getD, set, length-append}
 use lib.Seq.{length-take-le, take-at, drop-at, drop-drop, take-length, set-split, append-snoc, paste, paste-zero, paste-suc}
 use Rattle.fields.specs.Output.{putAt, putFront, Wrote}
 
@@ -58,6 +58,3 @@ wrote-byte at b old l =
 -- from the first byte on
 pub put-front : (new old : List ℕ) → putAt 0 new old ≡ putFront new old
 put-front new old = ap (λ (k : ℕ). new ++ drop k old) (zero-add (length new))
-
-pub length-front : (new old : List ℕ) → length new ≤ length old → length (putFront new old) ≡ length old
-length-front new old l = omega (arith, length-append new (drop (length new) old), length-drop (length new) old)

@@ -1,5 +1,4 @@
 // The register: its first line, and what a run found or the number of its refusal.
-ghost use mathlib.Core.Path.{_≡_};
 ghost use Prim.Native.Nat.{_+_, _*_, _/_, _^_, _≤_, _<_};
 ghost use lib.ListN.{length};
 ghost use Rattle.fields.specs.Output.{Wrote};
