@@ -1,8 +1,7 @@
 -- Document 01's listed table and looks table, our selection bitmap and probe bitmaps, and the number of ones in a table.
 use Prim.Native.Nat.{ℕ, _+_, _*_, _/_, _^_}
 use mathlib.Core.Bool.{Bool, _&&_}
-use mathlib.Core.List.{List, [], _∷_, _++_}
-use lib.ListN.{length, drop}
+use mathlib.Core.List.{List, [], _∷_}
 use lib.Dec.{ltb}
 use lib.Count.{ones}
 use Rattle.bitmaps.specs.Sums.{sumOf, joined, digit}
@@ -27,7 +26,3 @@ bitmaps f n rows = joined (λ c. bitmap (f c) rows) n
 unfoldable pub onesIn : List ℕ → ℕ
 onesIn [] = 0
 onesIn (x ∷ xs) = ones x + onesIn xs
-
--- "Longer tables keep their further bytes": the new bytes, then those of the old table beyond them
-abbrev pub putFront : (new old : List ℕ) → List ℕ
-putFront new old = new ++ drop (length new) old

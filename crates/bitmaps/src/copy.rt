@@ -2,7 +2,7 @@
 ghost use mathlib.Core.Path.{_≡_};
 ghost use Prim.Native.Nat.{_*_, _≤_};
 ghost use lib.ListN.{length};
-ghost use Rattle.bitmaps.specs.Bitmap.{putFront};
+ghost use Rattle.fields.specs.Output.{putFront};
 ghost use Rattle.bitmaps.specs.Table.{lineSize, linesOf};
 
 // A line of a run's own tables: a bit for each row that a catalogue may have (catalogue's Row::LIMIT).
@@ -14,17 +14,6 @@ impl Line {
     pub const BITS: usize = 8 * Line::SIZE;
 }
 
-fn copy_part(from: &[u8], to: &mut [u8])
-    requires { ⌜ length (now from) ≡ length (now to) ⌝ }
-    ensures { λ _. ⌜ now (to .exit) ≡ now (from .entry) ⌝ }
-{
-    let mut i: usize = 0;
-    while i < from.len() {
-        to[i] = from[i];
-        i += 1;
-    }
-}
-
 // The first bytes of each of the first n lines, to the front of a table, which keeps its further bytes.
 pub fn copy_lines(from: &[u8], to: &mut [u8], n: usize, size: usize)
     requires { ⌜ (size ≤ lineSize) × (n * lineSize ≤ length (now from)) × (n * size ≤ length (now to)) ⌝ }
@@ -34,10 +23,8 @@ pub fn copy_lines(from: &[u8], to: &mut [u8], n: usize, size: usize)
     let mut line: usize = 0;
     let mut at: usize = 0;
     while c < n {
-        let next = at + size;
-        copy_part(&from[line..line + size], &mut to[at..next]);
+        at = fields::output::put(to, at, &from[line..line + size]);
         c += 1;
         line += Line::SIZE;
-        at = next;
     }
 }

@@ -24,8 +24,9 @@ use Rattle.searchroom.specs.Input.{decodeInput}
 use Rattle.searchroom.specs.Run.{selection, probes, runOn, runOf}
 use Rattle.bitmaps.specs.Bit.{bit}
 use Rattle.sets.specs.Set as sets
-use Rattle.register.specs.Decimal.{digits, decimal}
-use Rattle.register.specs.Register.{header, line, entries, conditionLine, conditions, accepted}
+use Rattle.lines.specs.Decimal.{digits, decimal}
+use Rattle.lines.specs.Line.{line}
+use Rattle.register.specs.Register.{header, entries, conditionLine, conditions, accepted}
 use Rattle.searchroom.specs.Parish.{parish, question}
 use Rattle.consultation.specs.Consultation.{consultationOf}
 

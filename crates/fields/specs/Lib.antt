@@ -1,3 +1,4 @@
 pub mod Decoded
 pub mod Numbers
 pub mod Header
+pub mod Output

@@ -5,9 +5,11 @@ use mathlib.Core.Bool.{Bool, true, false}
 use mathlib.Core.List.{List, [], _∷_, _++_}
 use lib.ListN.{length, take, drop}
 use Rattle.bitmaps.specs.Sums.{joined}
-use Rattle.bitmaps.specs.Bitmap.{bytesFor, onesIn, putFront}
+use Rattle.fields.specs.Output.{putFront}
+use Rattle.bitmaps.specs.Bitmap.{bytesFor, onesIn}
 use Rattle.bitmaps.specs.Bit.{bit}
-use Rattle.register.specs.Decimal.{decimal}
+use Rattle.lines.specs.Decimal.{decimal}
+use Rattle.lines.specs.Line.{line}
 
 -- the first line, "consultation register" and byte 10
 abbrev pub header : List ℕ
@@ -28,10 +30,6 @@ conditionLabel = 99 ∷ 111 ∷ 110 ∷ 100 ∷ 105 ∷ 116 ∷ 105 ∷ 111 ∷ 
 
 abbrev pub refusedLabel : List ℕ
 refusedLabel = 114 ∷ 101 ∷ 102 ∷ 117 ∷ 115 ∷ 101 ∷ 100 ∷ 32 ∷ []
-
--- a label and a number, "each ended by byte 10"
-unfoldable pub line : (label : List ℕ) (x : ℕ) → List ℕ
-line label x = label ++ decimal x ++ (10 ∷ [])
 
 abbrev pub entryIf : (listed : Bool) (row : ℕ) → List ℕ
 entryIf true row = line entryLabel row

@@ -1,3 +1,2 @@
 // The text of the register that `consult` prints.
-pub mod piece;
 pub mod text;

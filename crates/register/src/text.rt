@@ -1,25 +1,18 @@
 // The register: its first line, and what a run found or the number of its refusal.
-ghost use mathlib.Core.Path.{_≡_};
 ghost use Prim.Native.Nat.{_+_, _*_, _/_, _^_, _≤_, _<_};
 ghost use lib.ListN.{length};
+ghost use Rattle.fields.specs.Output.{Wrote};
 ghost use Rattle.bitmaps.specs.Bitmap.{bytesFor};
 ghost use Rattle.bitmaps.specs.Bit.{bit};
 ghost use Rattle.register.specs.Register.{header, entryIf, entries, conditionLine, conditions, accepted, refused, registerOf, Printed};
-ghost use Rattle.register.specs.Writing.{entryRoom, conditionRoom, refusedRoom, roomFor, Wrote};
-
-fn is_listed(listed: &[u8], row: usize) -> bool
-    requires { ⌜ row / 8 < length (now listed) ⌝ }
-    ensures { λ r. ⌜ r ≡ bit (now (listed .entry)) row ⌝ }
-{
-    (listed[row / 8] >> (row % 8)) % 2 == 1
-}
+ghost use Rattle.register.specs.Writing.{entryRoom, conditionRoom, refusedRoom, roomFor};
 
 fn put_entry(out: &mut [u8], at: usize, listed: &[u8], row: usize) -> usize
     requires { ⌜ (row / 8 < length (now listed)) × (at + entryRoom ≤ length (now out)) ⌝ }
     ensures { λ r. ⌜ Wrote at (entryIf (bit (now (listed .entry)) row) row) (now (out .entry)) r (now (out .exit)) × (r ≤ at + entryRoom) ⌝ }
 {
-    if is_listed(listed, row) {
-        return crate::piece::put_line(out, at, b"entry ", row as u64);
+    if bitmaps::bit::is_marked(listed, row) {
+        return lines::put_line(out, at, b"entry ", row as u64);
     }
     at
 }
@@ -41,9 +34,9 @@ fn put_condition(out: &mut [u8], at: usize, c: usize, count: u64) -> usize
     requires { ⌜ at + conditionRoom ≤ length (now out) ⌝ }
     ensures { λ r. ⌜ Wrote at (conditionLine c count) (now (out .entry)) r (now (out .exit)) × (r ≤ at + conditionRoom) ⌝ }
 {
-    let number = crate::piece::put(out, at, b"condition ");
-    let end = crate::piece::put_number(out, number, c as u64);
-    crate::piece::put_line(out, end, b" ", count)
+    let number = fields::output::put(out, at, b"condition ");
+    let end = lines::put_number(out, number, c as u64);
+    lines::put_line(out, end, b" ", count)
 }
 
 fn put_conditions(out: &mut [u8], at: usize, looks: &[u8], size: usize, n: usize) -> usize
@@ -67,7 +60,7 @@ fn put_header(out: &mut [u8]) -> usize
     requires { ⌜ length header ≤ length (now out) ⌝ }
     ensures { λ r. ⌜ Wrote 0 header (now (out .entry)) r (now (out .exit)) ⌝ }
 {
-    crate::piece::put(out, 0, b"consultation register\n")
+    fields::output::put(out, 0, b"consultation register\n")
 }
 
 fn write_accepted(
@@ -83,9 +76,9 @@ fn write_accepted(
     ensures { λ r. ⌜ Printed (accepted found looked rows n (now (listed .entry)) (now (looks .entry))) (now (out .entry)) r (now (out .exit)) ⌝ }
 {
     let found_line = put_header(out);
-    let entry_lines = crate::piece::put_line(out, found_line, b"found ", found);
+    let entry_lines = lines::put_line(out, found_line, b"found ", found);
     let looks_line = put_entries(out, entry_lines, listed, rows);
-    let condition_lines = crate::piece::put_line(out, looks_line, b"looks ", looked);
+    let condition_lines = lines::put_line(out, looks_line, b"looks ", looked);
     put_conditions(
         out,
         condition_lines,
@@ -101,7 +94,7 @@ pub fn write_refused(number: u64, out: &mut [u8]) -> usize
     ensures { λ r. ⌜ Printed (refused number) (now (out .entry)) r (now (out .exit)) ⌝ }
 {
     let next = put_header(out);
-    crate::piece::put_line(out, next, b"refused ", number)
+    lines::put_line(out, next, b"refused ", number)
 }
 
 // The register of a run that gave this number and these counts and wrote the two tables, to the front of the output; its length.

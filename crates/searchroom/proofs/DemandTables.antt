@@ -19,7 +19,8 @@ use Rattle.strategy.specs.Trace.{trace}
 use Rattle.strategy.specs.TraceLaws.{trace-among, trace-once, trace-due}
 use Rattle.bitmaps.specs.Sums.{sumOf, digit, countOf}
 use Rattle.bitmaps.specs.SumLaws.{sum-same, sum-zero, count-same}
-use Rattle.bitmaps.specs.Bitmap.{bytesFor, bitmap, putFront}
+use Rattle.fields.specs.Output.{putFront}
+use Rattle.bitmaps.specs.Bitmap.{bytesFor, bitmap}
 use Rattle.bitmaps.specs.Bit.{bit}
 use Rattle.bitmaps.specs.BitmapLaws.{bitmap-length, bitmap-bytes, bitmap-bit, bitmap-ones, bitmaps-length, bitmaps-line, bitmaps-ones}
 use Rattle.run.specs.Run.{isSelected, traceAt, isProbed}

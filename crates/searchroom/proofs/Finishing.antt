@@ -7,7 +7,8 @@ use mathlib.Core.List.{List}
 use lib.ListN.{length}
 use borrow.Author.Tests.{eq-eqb, ne-eqb, lt-ltb, le-ltb}
 use Rattle.fields.specs.Numbers.{numberAt, bytesOf}
-use Rattle.bitmaps.specs.Bitmap.{onesIn, putFront}
+use Rattle.fields.specs.Output.{putFront}
+use Rattle.bitmaps.specs.Bitmap.{onesIn}
 use Rattle.bitmaps.specs.Table.{lineSize, linesOf}
 use Rattle.query.specs.Format.{predicateLimit}
 use Rattle.searchroom.specs.declared.word.Answer.the-variants.{Accepted}

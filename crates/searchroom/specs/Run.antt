@@ -7,7 +7,8 @@ use lib.Dec.{leb, ltb, eqb}
 use Rattle.fields.specs.Decoded.{Decoded, refused, accepted}
 use Rattle.fields.specs.Numbers.{numberAt, bytesOf}
 use Rattle.strategy.specs.Order.{isOrder}
-use Rattle.bitmaps.specs.Bitmap.{bytesFor, bitmap, bitmaps, onesIn, putFront}
+use Rattle.fields.specs.Output.{putFront}
+use Rattle.bitmaps.specs.Bitmap.{bytesFor, bitmap, bitmaps, onesIn}
 use Rattle.run.specs.Run.{Task, isSelected, isProbed}
 use Rattle.searchroom.specs.declared.word.Answer.the-variants.{Refused, Accepted}
 use Rattle.searchroom.specs.Word.{packed}

@@ -5,7 +5,8 @@ use borrow.Author.Needs.{needs}
 use mathlib.Core.Path.{_≡_, refl}
 use lib.ListN.{length}
 use Rattle.register.specs.Register.{conditions}
-use Rattle.register.specs.Writing.{conditionRoom, Wrote}
+use Rattle.fields.specs.Output.{Wrote}
+use Rattle.register.specs.Writing.{conditionRoom}
 use Rattle.register.specs.RegisterLaws.{conditions-none, conditions-more, condition-row, row-fits, row-short}
 use Rattle.register.proofs.text.put_conditions.Statement.{statement}
 use Rattle.register.proofs.text.put_conditions.Tie as tie

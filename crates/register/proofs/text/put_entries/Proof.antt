@@ -5,7 +5,8 @@ use borrow.Author.Needs.{needs}
 use mathlib.Core.Path.{_≡_, refl}
 use lib.ListN.{length}
 use Rattle.register.specs.Register.{entries}
-use Rattle.register.specs.Writing.{entryRoom, Wrote}
+use Rattle.fields.specs.Output.{Wrote}
+use Rattle.register.specs.Writing.{entryRoom}
 use Rattle.register.specs.RegisterLaws.{entries-none, entries-more}
 use Rattle.register.proofs.text.put_entries.Statement.{statement}
 use Rattle.register.proofs.text.put_entries.Tie as tie

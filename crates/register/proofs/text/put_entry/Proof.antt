@@ -6,8 +6,8 @@ use Rattle.register.specs.RegisterLaws.{entry-listed, entry-not}
 use Rattle.register.proofs.text.put_entry.Statement.{statement}
 use Rattle.register.proofs.text.put_entry.Tie as tie
 
-is-listed-requires : tie.Need-is-listed-requires
-is-listed-requires c κs = search needs
+is-marked-requires : tie.Need-is-marked-requires
+is-marked-requires c κs = search needs
 
 slice-aggregate-put-line : tie.Need-slice-aggregate-put-line
 slice-aggregate-put-line c = search needs
@@ -19,16 +19,16 @@ same-length : tie.Need-same-length
 same-length c = search needs
 
 returns : tie.Need-returns
-returns c = (entry-listed _ _ _ _ _ _ (sym (c .before .before .before .before .before .before .is-listed .ensures) ∙ c .before .before .before .before .before .if1 .taken) (c .before .before .put-line .ensures .0), omega arith)
+returns c = (entry-listed _ _ _ _ _ _ (sym (c .before .before .before .before .before .before .is-marked .ensures) ∙ c .before .before .before .before .before .if1 .taken) (c .before .before .put-line .ensures .0), omega arith)
 
 returns-2 : tie.Need-returns-2
-returns-2 c = (entry-not _ _ _ _ (sym (c .before .is-listed .ensures) ∙ c .if1 .left), omega arith)
+returns-2 c = (entry-not _ _ _ _ (sym (c .before .is-marked .ensures) ∙ c .if1 .left), omega arith)
 
 pub put-entry-spec : {M : Type 1} → statement M
 put-entry-spec =
     tie.close
     (tie.spec
-    is-listed-requires
+    is-marked-requires
     slice-aggregate-put-line
     put-line-requires
     same-length

@@ -5,7 +5,7 @@ use native.Mathlib.Omega.{arith}
 use mathlib.Core.Path.{_≡_, refl, ap}
 use mathlib.Core.List.{List, [], _∷_, _++_}
 use lib.ListN.{length, length-append}
-use Rattle.register.specs.Decimal.{digits, digitsOf, decimal, numberRoom}
+use Rattle.lines.specs.Decimal.{digits, digitsOf, decimal, numberRoom}
 
 digits-same : (a b x : ℕ) → x < a → x < b → digits a x ≡ digits b x
 unfolding digits

@@ -1,22 +1,10 @@
-// Writing pieces of text into a lent output, one behind the other.
+// Lines of a text: a label, a number in decimal digits, and byte 10, written into a lent output.
+// Each function writes from `at` on and gives the place behind.
 ghost use Prim.Native.Nat.{_+_, _≤_};
 ghost use lib.ListN.{length};
-ghost use Rattle.register.specs.Decimal.{digitsOf, decimal, numberRoom};
-ghost use Rattle.register.specs.Register.{line};
-ghost use Rattle.register.specs.Writing.{lineRoom, Wrote};
-
-// Each function here writes its piece from `at` on and gives the place behind it.
-pub fn put(out: &mut [u8], at: usize, piece: &[u8]) -> usize
-    requires { ⌜ at + length (now piece) ≤ length (now out) ⌝ }
-    ensures { λ r. ⌜ Wrote at (now (piece .entry)) (now (out .entry)) r (now (out .exit)) ⌝ }
-{
-    let mut i: usize = 0;
-    while i < piece.len() {
-        out[at + i] = piece[i];
-        i += 1;
-    }
-    at + i
-}
+ghost use Rattle.fields.specs.Output.{Wrote};
+ghost use Rattle.lines.specs.Decimal.{digitsOf, decimal, numberRoom};
+ghost use Rattle.lines.specs.Line.{line, lineRoom};
 
 // The digits of a number, none for 0.
 fn put_digits(out: &mut [u8], at: usize, x: u64) -> usize
@@ -36,7 +24,7 @@ pub fn put_number(out: &mut [u8], at: usize, x: u64) -> usize
     ensures { λ r. ⌜ Wrote at (decimal x) (now (out .entry)) r (now (out .exit)) × (r ≤ at + numberRoom) ⌝ }
 {
     if x == 0 {
-        return put(out, at, b"0");
+        return fields::output::put(out, at, b"0");
     }
     put_digits(out, at, x)
 }
@@ -45,7 +33,7 @@ pub fn put_line(out: &mut [u8], at: usize, label: &[u8], x: u64) -> usize
     requires { ⌜ at + lineRoom (now label) ≤ length (now out) ⌝ }
     ensures { λ r. ⌜ Wrote at (line (now (label .entry)) x) (now (out .entry)) r (now (out .exit)) × (r ≤ at + lineRoom (now (label .entry))) ⌝ }
 {
-    let number = put(out, at, label);
+    let number = fields::output::put(out, at, label);
     let end = put_number(out, number, x);
-    put(out, end, b"\n")
+    fields::output::put(out, end, b"\n")
 }

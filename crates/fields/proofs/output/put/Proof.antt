@@ -4,10 +4,10 @@ use native.Mathlib.Omega.{arith}
 use mathlib.Core.Path.{_≡_, refl, _∙_}
 use lib.ListN.{length, getD, length-set}
 use lib.Seq.{paste, paste-zero}
-use Rattle.register.specs.RegisterLaws.{piece-byte, piece-end}
+use Rattle.fields.proofs.OutputLaws.{piece-byte, piece-end}
 use borrow.Author.Needs.{needs}
-use Rattle.register.proofs.piece.put.Statement.{statement}
-use Rattle.register.proofs.piece.put.Tie as tie
+use Rattle.fields.proofs.output.put.Statement.{statement}
+use Rattle.fields.proofs.output.put.Tie as tie
 
 abbrev Inv-loop : tie.InvT-loop
 Inv-loop out₀ at piece i₀ out i = (i ≤ length piece) × (at + length piece ≤ length out₀) × (length out ≡ length out₀) × (out ≡ paste out₀ at piece i)

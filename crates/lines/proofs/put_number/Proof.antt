@@ -1,10 +1,10 @@
 -- `put_number` meets its contract: "0", or the digits.
 use native.Mathlib.Omega.{arith}
-use Rattle.register.specs.DecimalLaws.{digits-length}
-use Rattle.register.specs.RegisterLaws.{number-zero, number-more}
+use Rattle.lines.specs.DecimalLaws.{digits-length}
+use Rattle.lines.specs.LineLaws.{number-zero, number-more}
 use borrow.Author.Needs.{needs}
-use Rattle.register.proofs.piece.put_number.Statement.{statement}
-use Rattle.register.proofs.piece.put_number.Tie as tie
+use Rattle.lines.proofs.put_number.Statement.{statement}
+use Rattle.lines.proofs.put_number.Tie as tie
 
 slice-aggregate-put : tie.Need-slice-aggregate-put
 slice-aggregate-put c = search needs

@@ -1,9 +1,9 @@
 -- `put_line` meets its contract: label, number and byte 10, one behind the other.
 use native.Mathlib.Omega.{arith}
 use borrow.Author.Needs.{needs}
-use Rattle.register.specs.RegisterLaws.{line-end}
-use Rattle.register.proofs.piece.put_line.Statement.{statement}
-use Rattle.register.proofs.piece.put_line.Tie as tie
+use Rattle.lines.specs.LineLaws.{line-end}
+use Rattle.lines.proofs.put_line.Statement.{statement}
+use Rattle.lines.proofs.put_line.Tie as tie
 
 put-requires : tie.Need-put-requires
 put-requires c κs = search needs

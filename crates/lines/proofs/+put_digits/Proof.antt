@@ -1,16 +1,16 @@
 -- `put_digits` meets its contract: the last digit stands behind those of a tenth. The measure is the number.
 use native.Mathlib.Omega.{arith}
-use Rattle.register.specs.RegisterLaws.{digits-end, tenth-fits, digit-behind}
+use Rattle.lines.specs.LineLaws.{digits-end, tenth-fits, digit-behind}
 use lib.ListN.{length}
 use borrow.Author.Needs.{needs}
 use Prim.Native.Nat.{ℕ, _<_}
 use borrow.Fn.Kinds.{In}
 use borrow.Fn.PlainCycle.{Measures, is, falls, and}
-use Rattle.register.proofs.piece.put_digits.Reads as put-digits
-use Rattle.register.proofs.piece.put_digits.Kinds as put-digits-kinds
-use Rattle.register.proofs.piece.+put_digits.Lts-put_digits as put-digits-lts
-use Rattle.register.proofs.piece.+put_digits.{statement}
-use Rattle.register.proofs.piece.+put_digits.Tie.{close}
+use Rattle.lines.proofs.put_digits.Reads as put-digits
+use Rattle.lines.proofs.put_digits.Kinds as put-digits-kinds
+use Rattle.lines.proofs.+put_digits.Lts-put_digits as put-digits-lts
+use Rattle.lines.proofs.+put_digits.{statement}
+use Rattle.lines.proofs.+put_digits.Tie.{close}
 
 abbrev μ-put-digits : Measures 1 put-digits-kinds.ps ℕ
 μ-put-digits κs a = a .1 .1 .0
