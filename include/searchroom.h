@@ -1,8 +1,8 @@
 /*
  * searchroom.h - the search engine of a record office's catalogue, for C99 and C++.
  *
- * Link with libsearchroom.a. The calls keep no state, allocate nothing and may be made from any thread that has 256 KiB of
- * stack left: each takes less.
+ * Link with libsearchroom.a (x86-64). The calls keep no state, allocate nothing and may be made from any thread that has
+ * 256 KiB of stack left: each takes less.
  *
  * What a caller gives: byte slices, each a pointer and the number of bytes behind it, and numbers. Any bytes may be
  * given: the engine trusts none of them, and there is nothing to check beforehand. Three things only are the caller's:
@@ -42,8 +42,8 @@ enum {
     SEARCHROOM_MAX_TEXT = 23,       /* bytes of a text in a catalogue, or of a text operand */
     SEARCHROOM_MAX_CONDITIONS = 64, /* conditions of a question, which has at least one */
     SEARCHROOM_MAX_DEPTH = 8,       /* groups inside each other, the outermost being 1 */
-    SEARCHROOM_LISTED_BYTES = 256,  /* bytes that any run may write to the listed table */
-    SEARCHROOM_LOOKS_BYTES = 16384, /* bytes that any run may write to the looks table */
+    SEARCHROOM_LISTED_BYTES = 256,  /* the most bytes that a run writes to the listed table */
+    SEARCHROOM_LOOKS_BYTES = 16384, /* the most bytes that a run writes to the looks table */
     SEARCHROOM_TALLY_BYTES = 8      /* bytes of the house tally */
 };
 
@@ -86,22 +86,22 @@ enum {
     SEARCHROOM_SHORT_TABLE = 16,
     /* Run: the tally is not eight bytes, or the sum would pass 2^64 - 1. */
     SEARCHROOM_BAD_TALLY = 17,
-    /* Numbers: no such entry or condition. */
+    /* Outcome: no such entry or condition. */
     SEARCHROOM_NO_SUCH_PLACE = 18
 };
 
 /* The refusal's number in a packed word, SEARCHROOM_ACCEPTED where the call is accepted. */
-static inline unsigned searchroom_number(uint64_t word) { return (unsigned)(word & 0xFF); }
+static inline unsigned searchroom_refusal(uint64_t word) { return (unsigned)(word & 0xFF); }
 
 /* The three results in a packed word. */
 static inline unsigned searchroom_first(uint64_t word) { return (unsigned)(word >> 8 & 0xFFFF); }
 static inline unsigned searchroom_second(uint64_t word) { return (unsigned)(word >> 24 & 0xFFFF); }
 static inline uint32_t searchroom_third(uint64_t word) { return (uint32_t)(word >> 40); }
 
-/* The reason for a refusal in plain words, for messages. */
-static inline const char *searchroom_text(unsigned number)
+/* The reason for a refusal, given by its number, in plain words, for messages. */
+static inline const char *searchroom_refusal_text(unsigned refusal)
 {
-    switch (number) {
+    switch (refusal) {
     case SEARCHROOM_ACCEPTED: return "accepted";
     case SEARCHROOM_CATALOGUE_FIELD: return "a field of the catalogue is cut short";
     case SEARCHROOM_CATALOGUE_HEADER: return "the catalogue does not start with a field of tag 67 and length 3";
@@ -156,8 +156,9 @@ static inline unsigned searchroom_columns(uint64_t word) { return searchroom_sec
  *     1  number blank: no operand
  *     2  text equals, 3 text begins with, 4 text contains: an operand of 1 to 23 bytes
  *     5  text blank: no operand
- *     128 to 133  the opposite outcome of 0 to 5, at every entry
- * Text and operand are compared after folding (ISO/IEC 8859-1): bytes 65 to 90, and 192 to 222 except 215, gain 32.
+ *     128 to 133  the opposite outcome of 0 to 5, at every entry; operands as there
+ * Text and operand are compared after folding (ISO/IEC 8859-1): bytes 65 to 90, and 192 to 222 except 215, gain 32; every
+ * other byte is unchanged.
  *
  * Results: first the number of conditions n (searchroom_conditions).
  * Refusals: 1 to 6 for the catalogue; then 7 to 14, met while walking the question from front to back: at each field 7,
@@ -172,7 +173,7 @@ static inline unsigned searchroom_conditions(uint64_t word) { return searchroom_
 /*
  * Works out one condition of a question at one entry of a catalogue.
  *
- * Results: first the answer, 1 for yes and 0 for no (searchroom_answer).
+ * Results: first the outcome, 1 for yes and 0 for no (searchroom_answer).
  * Refusals: 1 to 14 as for searchroom_check_question; then 18, the entry is not below the number of entries or the
  * condition not below the number of conditions. Any 64-bit numbers may be given.
  * Writes nothing.
@@ -186,21 +187,23 @@ static inline unsigned searchroom_answer(uint64_t word) { return searchroom_firs
 /*
  * Runs a question over a catalogue in a running order.
  *
- * An entry is listed exactly if the question's tree holds of it. Conditions are taken in the running order, n bytes that
- * hold each condition number once. A look at a condition is made, and registered, exactly if it is due: with the conditions
- * earlier in the order at their true outcomes, some outcomes of the later ones make this condition alone decide the tree.
- * No way of working that is always right makes fewer looks.
+ * An entry is listed exactly if the question's tree holds of it. On each entry the conditions are taken in the running
+ * order, n bytes that hold each condition number once. A look at a condition is registered exactly if it is due: with the
+ * conditions earlier in the order at their true outcomes, some outcomes of the later ones make this condition alone decide
+ * the tree, its yes and its no giving the tree different values. Any way of working in the same order that is right whatever
+ * the pattern of outcomes makes each of these looks, so none makes fewer.
  *
- * With E entries, a row of bits takes searchroom_row(E) bytes: entry e is the bit of weight 2^(e mod 8) in byte e div 8,
- * unused bits are zero (searchroom_bit).
- *     listed  at least one row; its first row is written: the listed entries
- *     looks   at least n rows; its first n rows are written, one for each condition in condition-number order: the entries
- *             at which it was looked at
- *     tally   eight bytes, a number; the look count is added to it
+ * With E entries, a row of bits takes searchroom_row_bytes(E) bytes: entry e is the bit of weight 2^(e mod 8) in byte
+ * e div 8, unused bits are zero (searchroom_bit).
+ *     listed  the listed table, at least one row; its first row is written: the listed entries
+ *     looks   the looks table, at least n rows; its first n rows are written, one for each condition in condition-number
+ *             order: the entries at which a look at it is registered
+ *     tally   the house tally, eight bytes, a number; the look count is added to it
  * Further bytes of listed and looks stay as they are. SEARCHROOM_LISTED_BYTES and SEARCHROOM_LOOKS_BYTES bytes are enough for
  * any run.
  *
- * Results: first the number of listed entries, third that of looks (searchroom_found, searchroom_look_count).
+ * Results: first the found count, the number of listed entries (searchroom_found); third the look count, the number of
+ * registered looks (searchroom_look_count).
  * Refusals: 1 to 14 as for searchroom_check_question; then 15, then 16, then 17. Nothing is then written.
  */
 uint64_t searchroom_run(const uint8_t *catalogue, size_t catalogue_len,
@@ -213,8 +216,8 @@ uint64_t searchroom_run(const uint8_t *catalogue, size_t catalogue_len,
 static inline unsigned searchroom_found(uint64_t word) { return searchroom_first(word); }
 static inline uint32_t searchroom_look_count(uint64_t word) { return searchroom_third(word); }
 
-/* The bytes of a row of bits for so many entries. */
-static inline size_t searchroom_row(unsigned entries) { return ((size_t)entries + 7) / 8; }
+/* The number of bytes of a row of bits for so many entries. */
+static inline size_t searchroom_row_bytes(unsigned entries) { return ((size_t)entries + 7) / 8; }
 
 /* The bit of an entry in a row: 1 or 0. */
 static inline unsigned searchroom_bit(const uint8_t *row, unsigned entry) { return row[entry / 8] >> entry % 8 & 1u; }

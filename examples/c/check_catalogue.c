@@ -25,9 +25,9 @@ int main(int argc, char **argv)
     fclose(file);
 
     uint64_t word = searchroom_check_catalogue(catalogue, len);
-    unsigned refusal = searchroom_number(word);
+    unsigned refusal = searchroom_refusal(word);
     if (refusal != SEARCHROOM_ACCEPTED) {
-        printf("refused %u: %s\n", refusal, searchroom_text(refusal));
+        printf("refused %u: %s\n", refusal, searchroom_refusal_text(refusal));
         return 1;
     }
     printf("entries %u columns %u\n", searchroom_entries(word), searchroom_columns(word));

@@ -43,9 +43,9 @@ static File read_file(const char *folder, const char *name)
 /* Gives back an accepted word; says why and ends the program where the call was refused. */
 static uint64_t accepted(const char *call, uint64_t word)
 {
-    unsigned refusal = searchroom_number(word);
+    unsigned refusal = searchroom_refusal(word);
     if (refusal != SEARCHROOM_ACCEPTED) {
-        printf("%s refused %u: %s\n", call, refusal, searchroom_text(refusal));
+        printf("%s refused %u: %s\n", call, refusal, searchroom_refusal_text(refusal));
         exit(1);
     }
     return word;
@@ -89,7 +89,7 @@ int main(int argc, char **argv)
         if (searchroom_bit(listed, e))
             printf(" %u", e);
     printf("\n%u looks instead of %u:\n", (unsigned)searchroom_look_count(ran), entries * conditions);
-    size_t row = searchroom_row(entries);
+    size_t row = searchroom_row_bytes(entries);
     for (unsigned c = 0; c < conditions; c++)
         printf("  condition %u at %u entries\n", c, ones(looks + c * row, entries));
 

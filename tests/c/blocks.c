@@ -60,14 +60,14 @@ static void expect_run(unsigned entries)
 {
     static uint8_t filled[CONDITIONS * MOST / 8 + FURTHER];
     memset(filled, FILL, sizeof filled);
-    size_t catalogue_len = make(entries), row = searchroom_row(entries);
+    size_t catalogue_len = make(entries), row = searchroom_row_bytes(entries);
     size_t listed_len = row + FURTHER, looks_len = CONDITIONS * row + FURTHER;
     uint8_t *catalogue = lend(made, catalogue_len);
     uint8_t *listed = lend(filled, listed_len), *looks = lend(filled, looks_len);
     uint8_t tally[8] = {0};
     uint64_t word = searchroom_run(catalogue, catalogue_len, question, sizeof question, order, sizeof order, listed,
                                    listed_len, looks, looks_len, tally, sizeof tally);
-    EXPECT_EQ(searchroom_number(word), SEARCHROOM_ACCEPTED);
+    EXPECT_EQ(searchroom_refusal(word), SEARCHROOM_ACCEPTED);
     unsigned found = 0, looked = 0;
     for (unsigned entry = 0; entry < entries; entry++) {
         expect_entry(entry, listed, looks, row);

@@ -20,7 +20,7 @@ static void parish_is_accepted(void)
     uint8_t *bytes = read_file("examples/parish/catalogue.bin", &len);
     uint64_t word = check(bytes, len);
     EXPECT_EQ(len, 96);
-    EXPECT_EQ(searchroom_number(word), SEARCHROOM_ACCEPTED);
+    EXPECT_EQ(searchroom_refusal(word), SEARCHROOM_ACCEPTED);
     EXPECT_EQ(searchroom_entries(word), 3);
     EXPECT_EQ(searchroom_columns(word), 2);
     EXPECT_EQ(searchroom_third(word), 0);
@@ -68,7 +68,7 @@ static void largest_catalogue(void)
     for (size_t c = 0; c < SEARCHROOM_MAX_COLUMNS; c++)
         memcpy(bytes + 6 + c * column, (const uint8_t[]){84, 0xC0, 0x00}, 3);
     uint64_t word = check(bytes, size);
-    EXPECT_EQ(searchroom_number(word), SEARCHROOM_ACCEPTED);
+    EXPECT_EQ(searchroom_refusal(word), SEARCHROOM_ACCEPTED);
     EXPECT_EQ(searchroom_entries(word), SEARCHROOM_MAX_ENTRIES);
     EXPECT_EQ(searchroom_columns(word), SEARCHROOM_MAX_COLUMNS);
     bytes[size - 1] = 1;
@@ -79,7 +79,7 @@ static void largest_catalogue(void)
 static void packed_word_is_taken_apart(void)
 {
     const uint64_t word = UINT64_C(0xABCDEF567890123F);
-    EXPECT_EQ(searchroom_number(word), 0x3F);
+    EXPECT_EQ(searchroom_refusal(word), 0x3F);
     EXPECT_EQ(searchroom_first(word), 0x9012);
     EXPECT_EQ(searchroom_second(word), 0x5678);
     EXPECT_EQ(searchroom_third(word), 0xABCDEF);
@@ -88,7 +88,7 @@ static void packed_word_is_taken_apart(void)
 static void every_refusal_has_a_text(void)
 {
     for (unsigned number = SEARCHROOM_ACCEPTED; number <= SEARCHROOM_NO_SUCH_PLACE; number++)
-        EXPECT(strcmp(searchroom_text(number), searchroom_text(255)) != 0);
+        EXPECT(strcmp(searchroom_refusal_text(number), searchroom_refusal_text(255)) != 0);
 }
 
 void catalogue_cases(void)

@@ -57,7 +57,7 @@ static void parish_question(void)
     uint8_t *question = read_file("examples/parish/question.bin", &len);
     uint64_t word = check(question, len);
     EXPECT_EQ(len, 32);
-    EXPECT_EQ(searchroom_number(word), SEARCHROOM_ACCEPTED);
+    EXPECT_EQ(searchroom_refusal(word), SEARCHROOM_ACCEPTED);
     EXPECT_EQ(searchroom_conditions(word), 3);
     EXPECT_EQ(word >> 24, 0);
     for (size_t end = 0; end < len; end++)
@@ -97,7 +97,7 @@ static void parish_outcomes(void)
     for (unsigned c = 0; c < 3; c++) {
         for (unsigned e = 0; e < 3; e++) {
             uint64_t word = searchroom_outcome(catalogue, catalogue_len, question, len, e, c);
-            EXPECT_EQ(searchroom_number(word), SEARCHROOM_ACCEPTED);
+            EXPECT_EQ(searchroom_refusal(word), SEARCHROOM_ACCEPTED);
             EXPECT_EQ(searchroom_answer(word), expected[c][e]);
             EXPECT_EQ(word >> 24, 0);
         }

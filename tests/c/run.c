@@ -62,15 +62,15 @@ static const uint8_t forward[] = {0, 1, 2}, backward[] = {2, 1, 0}, repeated[] =
 static void parish_in_order(void)
 {
     uint64_t word = run((Lengths){forward, 3, 1, 3, 8, 0});
-    EXPECT_EQ(searchroom_number(word), SEARCHROOM_ACCEPTED);
+    EXPECT_EQ(searchroom_refusal(word), SEARCHROOM_ACCEPTED);
     EXPECT_EQ(searchroom_found(word), 2);
     EXPECT_EQ(searchroom_second(word), 0);
     EXPECT_EQ(searchroom_look_count(word), 6);
     EXPECT_EQ(listed[0], 5);
     EXPECT(memcmp(looks, (const uint8_t[]){7, 1, 6}, 3) == 0);
     EXPECT(memcmp(tally, (const uint8_t[]){0, 0, 0, 0, 0, 0, 0, 6}, 8) == 0);
-    EXPECT_EQ(searchroom_row(3), 1);
-    EXPECT_EQ(searchroom_row(9), 2);
+    EXPECT_EQ(searchroom_row_bytes(3), 1);
+    EXPECT_EQ(searchroom_row_bytes(9), 2);
     EXPECT_EQ(searchroom_bit(listed, 1), 0);
     EXPECT_EQ(searchroom_bit(listed, 2), 1);
 }

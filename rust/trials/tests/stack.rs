@@ -56,15 +56,21 @@ extern "C" fn every_call(given: *mut c_void) -> *mut c_void {
         searchroom::raw::check_catalogue(catalogue),
         searchroom::raw::check_question(catalogue, question),
         searchroom::raw::outcome(catalogue, question, 0, 0),
+        searchroom::raw::outcome(catalogue, question, 0, 1),
         searchroom::raw::run(catalogue, question, order, listed, looks, tally),
     ];
     if words.iter().all(|word| word.number() == 0) { given } else { ptr::null_mut() }
 }
 
-/// Eight groups deep, with 64 conditions, over 2,048 entries.
+/// Eight groups deep, with 64 conditions on numbers and on texts, over 2,048 entries.
 fn largest() -> Run {
-    let made = Catalogue { entries: 2_048, columns: vec![Column::Numbers((0..2_048).collect())] };
-    let condition = |low| Condition { column: 0, test: Test::NumberFrom { low, high: 2_000 }, opposite: false };
+    let texts = vec![(1..=23).collect(); 2_048];
+    let made = Catalogue { entries: 2_048, columns: vec![Column::Numbers((0..2_048).collect()), Column::Texts(texts)] };
+    let condition = |number: u8| {
+        let on_number = Test::NumberFrom { low: number.into(), high: 2_000 };
+        let (column, test) = if number % 2 == 0 { (0, on_number) } else { (1, Test::Contains(vec![number])) };
+        Condition { column, test, opposite: false }
+    };
     let mut tree = Tree::AnyOf((7..64).map(Tree::Condition).collect());
     for number in (0..7).rev() {
         tree = Tree::AllOf(vec![Tree::Condition(number), tree]);
