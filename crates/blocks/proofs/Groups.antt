@@ -97,16 +97,16 @@ settled-all k active met r e f d = rw (e, f) (minus-member active met d ∙ bits
 
 -- ONE GROUP, AT EVERY ROW
 
-module _ (g : Group) (active met settled left unsettled idle : ℕ) (L N : List ℕ) (S : SettledRows (g .absorbing) active met settled)
-    (T : TakenOut (g .first) (g .count) settled left L N) (u : unsettled ≡ setMinus active settled) (i : idle ≡ setMinus unsettled left) where
-  abbrev next : ℕ
-  next = bitOr settled idle
+module _ (g : Group) (active met settled left next : ℕ) (L N : List ℕ) (S : SettledRows (g .absorbing) active met settled)
+    (T : TakenOut (g .first) (g .count) settled left L N) (n : next ≡ setMinus active left) where
+  next-bit : (d : ℕ) → member next d ≡ cond (member left d) false (member active d)
+  next-bit d = ap (λ (z : ℕ). member z d) n ∙ minus-member active left d
 
-  next-bit : (d : ℕ) → member next d ≡ (member settled d || cond (member left d) false (cond (member settled d) false (member active d)))
-  next-bit d =
-      rw (i, u)
-      (member-or settled (setMinus (setMinus active settled) left) d
-      ∙ ap (λ (b : Bool). member settled d || b) (minus-member (setMinus active settled) left d ∙ ap (λ (b : Bool). cond (member left d) false b) (minus-member active settled d)))
+  -- nothing of the group is live where it is settled
+  none-left : (d : ℕ) → member settled d ≡ true → member left d ≡ false
+  none-left d s =
+      T .meeting d
+      ∙ meets-no (g .first) (g .count) (rowLive N d) (λ c r. T .words c d ∙ ap₂ (λ (p q : Bool). cond (p && q) false (rowLive L d c)) (inRun-yes (g .first) (g .count) c r) s)
 
   steps : {l m : Live} {s t : Bool} → l ≡ m → s ≡ t → _≡_ {A = Step} (record { live = l; settled = s }) (record { live = m; settled = t })
   steps e f = ap₂ (λ (l : Live) (s : Bool). record { live = l; settled = s }) e f
@@ -131,26 +131,26 @@ module _ (g : Group) (active met settled left unsettled idle : ℕ) (L N : List 
       → rowStep N next d ≡ through (g .absorbing) (member met d) (g .first) (g .count) (rowStep L active d)
   row d (inl p) (inl v) =
       let s : member settled d ≡ true = S d ∙ ap₂ (λ (x y : Bool). x && y) p v in
-      steps (emptied d s) (next-bit d ∙ ap (λ (b : Bool). b || cond (member left d) false (cond (member settled d) false (member active d))) s)
+      steps (emptied d s) (next-bit d ∙ ap₂ (λ (b c : Bool). cond b false c) (none-left d s) p)
       ∙ sym (through-settles (g .absorbing) (member met d) (g .first) (g .count) (rowStep L active d) p (settles-yes (g .absorbing) (member met d) v))
   row d (inl p) (inr v) =
       let s : member settled d ≡ false = S d ∙ ap₂ (λ (x y : Bool). x && y) p v in
       steps (untouched d s)
-      (next-bit d ∙ ap₂ (λ (b c : Bool). b || cond (member left d) false (cond b false c)) s p ∙ other (member left d)
+      (next-bit d ∙ ap (cond (member left d) false) p ∙ other (member left d)
       ∙ ap not (T .meeting d ∙ ap (meets (g .first) (g .count)) (untouched d s)))
       ∙ sym (through-asks (g .absorbing) (member met d) (g .first) (g .count) (rowStep L active d) p (settles-no (g .absorbing) (member met d) v))
     where
-      other : (p : Bool) → (false || cond p false true) ≡ not p
+      other : (p : Bool) → cond p false true ≡ not p
       other true = refl
       other false = refl
   row d (inr p) v =
       let s : member settled d ≡ false = S d ∙ ap (λ (b : Bool). b && settles (g .absorbing) (member met d)) p in
-      steps (untouched d s) (next-bit d ∙ ap₂ (λ (b c : Bool). b || cond (member left d) false (cond b false c)) s p ∙ none (member left d) ∙ sym p)
+      steps (untouched d s) (next-bit d ∙ ap (cond (member left d) false) p ∙ none (member left d) ∙ sym p)
       ∙ sym (through-stopped (g .absorbing) (member met d) (g .first) (g .count) (rowStep L active d) p)
     where
-      none : (p : Bool) → (false || cond p false false) ≡ false
+      none : (p : Bool) → cond p false false ≡ false
       none true = refl
       none false = refl
 
-  pub group-passed : Passed g met active (bitOr settled idle) L N
+  pub group-passed : Passed g met active next L N
   group-passed = record { size = T .size; rows = λ d. row d (which (member active d)) (which (settles (g .absorbing) (member met d))) }

@@ -29,8 +29,8 @@ fn settled_rows(absorbing: bool, active: u64, met: u64) -> u64
     sets::minus(active, met)
 }
 
-// Outward through the group of the predicates from a up to e; the rows at which the climb goes on: those that the outcome
-// settles, and those at which nothing of the group is live any more.
+// Outward through the group of the predicates from a up to e; the rows at which the climb goes on: the active ones at which
+// nothing of the group is live any more, as where the outcome settles it.
 pub fn pass_group(
     live: &mut [u64],
     a: usize,
@@ -44,5 +44,5 @@ pub fn pass_group(
 {
     let settled = settled_rows(absorbing, active, met);
     let left = take_out(live, a, e, settled);
-    settled | sets::minus(sets::minus(active, settled), left)
+    sets::minus(active, left)
 }

@@ -14,28 +14,17 @@ take-out-requires c κs = search needs
 minus-requires : tie.Need-minus-requires
 minus-requires c κs = search needs
 
-minus-requires-2 : tie.Need-minus-requires-2
-minus-requires-2 c κs = search needs
-
 same-length : tie.Need-same-length
 same-length c = search needs
 
 returns : tie.Need-returns
 returns c =
-    let b = c .before .before .before .before in
+    let b = c .before .before .before in
     let a = b .before .before .before .before .args in
     let s = b .before .before .settled-rows in
     let t = b .take-out in
-    group-passed (record { absorbing = a .absorbing; first = a .a; count = a .e - a .a }) (a .active) (a .met) (s .result) (t .result) (c .before .minus .result) (c .minus2 .result)
-    (a .live .now) (t .last .0) (s .ensures) (t .ensures) (c .before .minus .ensures) (c .minus2 .ensures)
+    group-passed (record { absorbing = a .absorbing; first = a .a; count = a .e - a .a }) (a .active) (a .met) (s .result) (t .result) (c .minus .result) (a .live .now) (t .last .0)
+    (s .ensures) (t .ensures) (c .minus .ensures)
 
 pub pass-group-spec : {M : Type 1} → statement M
-pass-group-spec =
-    tie.close
-    (tie.spec
-    settled-rows-requires
-    take-out-requires
-    minus-requires
-    minus-requires-2
-    same-length
-    returns)
+pass-group-spec = tie.close (tie.spec settled-rows-requires take-out-requires minus-requires same-length returns)
