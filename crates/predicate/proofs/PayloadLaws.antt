@@ -1,13 +1,12 @@
--- The check of a payload, path by path, and what a valid payload gives.
-use Prim.Native.Nat.{ℕ, zero, suc, _-_, _≤_, _<_}
+-- What a valid payload gives.
+use Prim.Native.Nat.{ℕ, zero, suc, _≤_, _<_}
 use native.Mathlib.Omega.{arith}
 use mathlib.Core.Path.{_≡_, refl, ap}
-use mathlib.Core.Bool.{Bool, true, false}
+use mathlib.Core.Bool.{true}
 use mathlib.Core.List.{List, [], _∷_}
-use lib.ListN.{length, getD, take, drop, length-drop}
-use lib.Seq.{take-all}
+use lib.ListN.{length, getD}
 use lib.Dec.{ltb, leb}
-use borrow.Author.Tests.{lt-ltb, le-leb, le-ltb, lt-leb, eq-eqb, ltb-true, leb-true, eqb-true}
+use borrow.Author.Tests.{eq-eqb, ltb-true, leb-true, eqb-true}
 use Rattle.catalogue.specs.Catalogue.{Column, numbers, texts}
 use Rattle.catalogue.specs.Layout.{Shows}
 use Rattle.predicate.specs.Kinds.{plainKind}
@@ -15,34 +14,7 @@ use Rattle.predicate.specs.Outcome.{HasRange}
 use Rattle.predicate.specs.Payload.{tagOf, tagsIn, payloadHead, columnByte, kindByte, operandOf, kindFits, rangeFits, operandFits, validPayload}
 use Rattle.fields.proofs.Conjunctions.{and-left, and-right}
 
-module _ (tags payload : List ℕ) where
-  pub payload-short : length payload < 2 → false ≡ validPayload tags payload
-  unfolding validPayload
-  payload-short h = rw (lt-leb 2 (length payload) h)
-
-  module _ (two : 2 ≤ length payload) (column : ℕ) (column-is : column ≡ columnByte payload) where
-    pub payload-no-column : length tags ≤ column → false ≡ validPayload tags payload
-    unfolding validPayload
-    payload-no-column h = rw (le-leb 2 (length payload) two, ← column-is, le-ltb column (length tags) h)
-
-    module _ (inside : column < length tags) (kind : ℕ) (kind-is : kind ≡ plainKind (kindByte payload))
-        (fits : Bool) (fits-is : fits ≡ kindFits (getD tags column 0) kind) where
-      pub payload-no-kind : fits ≡ false → false ≡ validPayload tags payload
-      unfolding validPayload
-      payload-no-kind h =
-          rw (le-leb 2 (length payload) two, ← column-is, lt-ltb column (length tags) inside, ← kind-is, ← fits-is, h)
-
-      -- the operand is handed on as a part, up to the payload's end
-      pub payload-operand : fits ≡ true → (r : Bool) → r ≡ operandFits kind (take (length payload - 2) (drop 2 payload)) →
-          r ≡ validPayload tags payload
-      unfolding validPayload
-      payload-operand h r r-is =
-          let whole : take (length payload - 2) (drop 2 payload) ≡ drop 2 payload =
-          take-all (length payload - 2) (drop 2 payload) (rw length-drop (omega arith)) in
-          rw (le-leb 2 (length payload) two, ← column-is, lt-ltb column (length tags) inside, ← kind-is, ← fits-is, h)
-          (rw whole at r-is)
-
--- what the check gives, over the tags alone
+-- over the tags alone
 
 pub record Valid (tags payload : List ℕ) : Type 0 where
   pub head : payloadHead ≤ length payload

@@ -1,8 +1,7 @@
-// One predicate, document 01's condition: its payload checked, and its outcome at one row.
+// One predicate, document 01's condition: its outcome at one row.
 pub mod answer;
 pub mod fold;
 pub mod kind;
 pub mod number;
 pub mod outcome;
-pub mod payload;
 pub mod text;

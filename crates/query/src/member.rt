@@ -48,7 +48,7 @@ fn predicate_field(
     if Predicate::LIMIT <= n {
         return MemberField::Refused(Refusal::TOO_MANY_PREDICATES);
     }
-    if !predicate::payload::payload_is_valid(tags, &q[start..end]) {
+    if !payload::payload_is_valid(tags, &q[start..end]) {
         return MemberField::Refused(Refusal::INVALID_PAYLOAD);
     }
     if crate::repeated::is_repeated(&q[start..end], q, places, n) {

@@ -1,6 +1,6 @@
 // The table of predicates: a record for each, in the order of the predicates.
 use fields::header::Header;
-use predicate::payload::Payload;
+use payload::Payload;
 ghost use mathlib.Core.Path.{_≡_};
 ghost use mathlib.Core.List.{_++_};
 ghost use Prim.Native.Nat.{_+_, _≤_};

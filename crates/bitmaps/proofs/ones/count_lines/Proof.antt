@@ -33,10 +33,17 @@ part-count-ones-end : tie.Need-part-count-ones-end Inv-loop μ-loop
 part-count-ones-end c = omega (arith, line-fits lineSize (c .before .before .before .args .n) (c .before .loop .c) (omega arith))
 
 count-ones-requires : tie.Need-count-ones-requires Inv-loop μ-loop
-count-ones-requires c κs = part-small (c .before .before .before .before .args .size) (c .before .before .before .before .args .table .now) (c .before .before .loop .c) (c .before .before .loop .line) (c .before .before .loop .line + c .before .before .before .before .args .size) (c .before .before .loop .inv .1) refl (c .before .before .before .before .pre .2)
+count-ones-requires c κs =
+    let s = c .before .before .before .before in
+    let l = c .before .before .loop in
+    part-small (s .args .size) (s .args .table .now) (l .c) (l .line) (l .line + s .args .size) (l .inv .1) refl (s .pre .2)
 
 add-sum : tie.Need-add-sum Inv-loop μ-loop
-add-sum c = omega (arith, part-short (c .before .before .before .before .before .args .size) (c .before .before .before .before .before .args .table .now) (c .before .before .before .loop .c) (c .before .before .before .loop .line) (c .before .before .before .loop .line + c .before .before .before .before .before .args .size) (c .before .before .before .loop .inv .1) refl, lines-next (c .before .before .before .loop .c) (c .before .before .before .before .before .args .size), line-fits (c .before .before .before .before .before .args .size) (c .before .before .before .before .before .args .n) (c .before .before .before .loop .c) (omega arith), lines-small (c .before .before .before .before .before .args .size) (c .before .before .before .before .before .args .n) (c .before .before .before .before .before .pre .0))
+add-sum c =
+    let s = c .before .before .before .before .before in
+    let l = c .before .before .before .loop in
+    let size = s .args .size in
+    omega (arith, part-short size (s .args .table .now) (l .c) (l .line) (l .line + size) (l .inv .1) refl, lines-next (l .c) size, line-fits size (s .args .n) (l .c) (omega arith), lines-small size (s .args .n) (s .pre .0))
 
 add-c : tie.Need-add-c Inv-loop μ-loop
 add-c c = search needs
@@ -48,7 +55,11 @@ loop-less : tie.Need-loop-less Inv-loop μ-loop
 loop-less c = search needs
 
 loop-again : tie.Need-loop-again Inv-loop μ-loop
-loop-again c = (omega arith, omega arith, count-line (c .before .before .before .before .before .args .size) (c .before .before .before .before .before .args .table .now) (c .before .before .before .loop .c) (c .before .before .before .loop .line) (c .before .before .before .loop .line + c .before .before .before .before .before .args .size) (c .before .before .before .loop .inv .1) refl _ _ (c .before .before .before .loop .inv .2) (c .count-ones .ensures .0), omega (arith, part-short (c .before .before .before .before .before .args .size) (c .before .before .before .before .before .args .table .now) (c .before .before .before .loop .c) (c .before .before .before .loop .line) (c .before .before .before .loop .line + c .before .before .before .before .before .args .size) (c .before .before .before .loop .inv .1) refl, lines-next (c .before .before .before .loop .c) (c .before .before .before .before .before .args .size)))
+loop-again c =
+    let a = c .before .before .before .before .before .args in
+    let l = c .before .before .before .loop in
+    let next = l .line + a .size in
+    (omega arith, omega arith, count-line (a .size) (a .table .now) (l .c) (l .line) next (l .inv .1) refl _ _ (l .inv .2) (c .count-ones .ensures .0), omega (arith, part-short (a .size) (a .table .now) (l .c) (l .line) next (l .inv .1) refl, lines-next (l .c) (a .size)))
 
 returns : tie.Need-returns Inv-loop μ-loop
 returns c = let e : c .before .loop .c ≡ c .before .before .before .args .n = omega arith in rw (← e) (c .before .loop .inv .2, c .before .loop .inv .3)

@@ -41,7 +41,12 @@ slots-are-valid-requires c κs = let o = rw (c .before .before .before .before .
 
 returns-3 : tie.Need-returns-3
 unfolding columnOf
-returns-3 c = let o = rw (c .before .before .before .before .before .before .tag .given .1) at (c .before .before .before .before .before .before .before .before .read-header .ensures .1) in let g = sym (c .before .slots-are-valid .ensures) ∙ c .if5 .taken in (search (tests, ← c .before .before .before .before .before .before .before .before .read-header .ensures .0, c .before .before .before .before .before .before .tag .given .1, g), (omega (arith, o), omega (arith, o), g))
+returns-3 c =
+    let read = c .before .before .before .before .before .before .before .before .read-header .ensures in
+    let field = c .before .before .before .before .before .before .tag .given .1 in
+    let o = rw field at (read .1) in
+    let g = sym (c .before .slots-are-valid .ensures) ∙ c .if5 .taken in
+    (search (tests, ← read .0, field, g), (omega (arith, o), omega (arith, o), g))
 
 returns-4 : tie.Need-returns-4
 unfolding columnOf

@@ -56,7 +56,13 @@ unfolding firstOf
 returns-6 c = (search (tests, ← c .before .before .read-header .ensures .0, c .enum-told .given .1), omega arith)
 
 returns-7 : tie.Need-returns-7
-returns-7 c = let o = rw (c .before .before .before .before .before .before .before .before .before .tag .given .1) at (c .before .before .before .before .before .before .before .before .before .before .before .read-header .ensures .1) in (rw (← c .before .before .before .before .before .before .before .before .before .before .before .read-header .ensures .0) (first-counts _ _ _ _ _ _ _ (c .before .before .before .before .before .before .before .before .before .tag .given .1) (c .before .before .before .before .before .before .before .if1 .left) (c .before .before .before .before .before .before .if2 .left) (c .before .before .before .before .before .two-bytes .ensures .0) (c .before .before .before .widen .ensures .0) (omega arith) (omega arith) (omega arith)), omega (arith, o))
+returns-7 c =
+    let at-two = c .before .before .before .before .before in
+    let at-tag = at-two .before .before .before .before in
+    let read = at-tag .before .before .read-header .ensures in
+    let field = at-tag .tag .given .1 in
+    let o = rw field at (read .1) in
+    (rw (← read .0) (first-counts _ _ _ _ _ _ _ field (at-two .before .before .if1 .left) (at-two .before .if2 .left) (at-two .two-bytes .ensures .0) (c .before .before .before .widen .ensures .0) (omega arith) (omega arith) (omega arith)), omega (arith, o))
 
 pub read-first-spec : {M : Type 1} → statement M
 read-first-spec =

@@ -60,7 +60,13 @@ loop-less : tie.Need-loop-less Inv-loop μ-loop
 loop-less c = search needs
 
 loop-again : tie.Need-loop-again Inv-loop μ-loop
-loop-again c = ⊎-elim (λ w. reading-numbers _ _ _ _ _ _ _ _ (c .before .before .before .loop .inv) _ (c .before .read-column .ensures .0) (c .before .read-column .ensures .1) (omega arith) _ _ _ _ _ (w .1 .given .1) (w .3) (w .4) (w .5)) (λ w. reading-texts _ _ _ _ _ _ _ _ (c .before .before .before .loop .inv) _ (c .before .read-column .ensures .0) (c .before .read-column .ensures .1) (omega arith) _ _ _ _ _ (w .1 .given .1) (w .3) (w .4) (w .5)) (c .match .came)
+loop-again c =
+    let inv = c .before .before .before .loop .inv in
+    let read = c .before .read-column .ensures in
+    ⊎-elim
+    (λ w. reading-numbers _ _ _ _ _ _ _ _ inv _ (read .0) (read .1) (omega arith) _ _ _ _ _ (w .1 .given .1) (w .3) (w .4) (w .5))
+    (λ w. reading-texts _ _ _ _ _ _ _ _ inv _ (read .0) (read .1) (omega arith) _ _ _ _ _ (w .1 .given .1) (w .3) (w .4) (w .5))
+    (c .match .came)
 
 refuse-requires-2 : tie.Need-refuse-requires-2 Inv-loop μ-loop
 refuse-requires-2 c κs = search needs

@@ -45,7 +45,11 @@ loop-less : tie.Need-loop-less Inv-loop μ-loop
 loop-less c = search needs
 
 loop-again : tie.Need-loop-again Inv-loop μ-loop
-loop-again c = let a = c .before .before .before .before .before .before .before .before .before .before .args in let l = c .before .before .before .before .before .before .before .loop in (omega arith, omega arith, omega arith, conditions-more (a .at) (a .out .now) _ _ _ _ _ _ _ (omega arith) (l .inv .3) (condition-row _ _ _ _ _ _ _ _ _ (l .inv .1) (c .before .before .before .before .count-ones .ensures .0) (c .before .before .put-condition .ensures .0)), omega arith)
+loop-again c =
+    let a = c .before .before .before .before .before .before .before .before .before .before .args in
+    let l = c .before .before .before .before .before .before .before .loop in
+    let wrote = condition-row _ _ _ _ _ _ _ _ _ (l .inv .1) (c .before .before .before .before .count-ones .ensures .0) (c .before .before .put-condition .ensures .0) in
+    (omega arith, omega arith, omega arith, conditions-more (a .at) (a .out .now) _ _ _ _ _ _ _ (omega arith) (l .inv .3) wrote, omega arith)
 
 same-length : tie.Need-same-length Inv-loop μ-loop
 same-length c = search needs
