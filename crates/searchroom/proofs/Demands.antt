@@ -45,7 +45,9 @@ use Rattle.searchroom.specs.Refusals.{noSuchPlace}
 use Rattle.searchroom.specs.Input.{Input}
 use Rattle.searchroom.specs.Answers.{outcomeNumber}
 use Rattle.searchroom.specs.Run.{rowCount, predicateCount, taskOf, selection, probes, foundCount, lookCount}
-use Rattle.searchroom.specs.Demands.{after, Reads, RunningOrder, lineBytes, Kept, FirstBroken, pattern, treeValue, listedLine, looksLine, Demand1CatalogueForm, Demand1QuestionForm, Demand1Payload, Demand1FormsWritten, Demand1WrittenOnce, Demand1Number, Demand1Refused, Demand1Accepted, Demand1Limits, Demand1Catalogue, Demand1Question, Demand1Outcome, Demand2Tree, Demand2Listed, Demand2Looks, Demand2Further, Demand2Counts, Demand2Tally, Demand3, Demand3Ours, Demand3Count, Demand3Run}
+use Rattle.searchroom.specs.Demands.{after, Reads, RunningOrder, lineBytes, Kept, FirstBroken, pattern, treeValue, listedLine, looksLine}
+use Rattle.searchroom.specs.Demands.{Demand1CatalogueForm, Demand1QuestionForm, Demand1Payload, Demand1FormsWritten, Demand1WrittenOnce, Demand1Number, Demand1Refused, Demand1Accepted, Demand1Limits, Demand1Catalogue, Demand1Question, Demand1Outcome}
+use Rattle.searchroom.specs.Demands.{Demand2Tree, Demand2Listed, Demand2Looks, Demand2Further, Demand2Counts, Demand2Tally, Demand3, Demand3Ours, Demand3Count, Demand3Run}
 use Rattle.searchroom.proofs.DemandLaws.{is-catalogue, is-question, reads-input, broken-input, broken-range, unpacked}
 use Rattle.searchroom.proofs.DemandTables.{sum-le, line-of, line-count, front-old, order-plain, held, traced-due, probed-due, found-count, look-count, look-count-le, look-count-rows, selection-length, listed-line, probes-length, looks-line}
 use Rattle.searchroom.proofs.DemandRuns.{Cases, kept-run, broken-run, broken-number, run-cases, broken-gives, kept-gives}
