@@ -69,10 +69,15 @@ part-outcome-at-end : tie.Need-part-outcome-at-end
 part-outcome-at-end c = omega (arith, operand-inside _ _ _ _ _ (c .before .before .before .before .before .before .before .before .before .before .before .pre .3))
 
 outcome-at-requires : tie.Need-outcome-at-requires
-outcome-at-requires c κs = (c .before .before .before .before .before .before .before .before .before .before .before .before .pre .0, has-row _ _ (c .before .before .before .before .before .before .before .before .before .before .before .before .args .plan .now) (c .before .before .before .before .before .before .before .before .before .before .before .before .args .c) _ _ _ (c .before .before .before .before .before .before .narrow .ensures) (c .before .before .before .narrow2 .ensures) (c .before .before .before .before .before .before .before .before .before .before .before .before .pre .3), has-range _ _ (c .before .before .before .before .before .before .before .before .before .before .before .before .args .plan .now) (c .before .before .before .before .before .before .before .before .before .before .before .before .args .c) _ _ _ (c .before .before .before .before .before .before .narrow .ensures) (c .before .before .before .narrow2 .ensures) (c .before .before .before .before .before .before .before .before .before .before .before .before .pre .3))
+outcome-at-requires c κs =
+    let e = c .before .before .before .before .before .before .before .before .before .before .before .before in
+    (e .pre .0, has-row _ _ (e .args .plan .now) (e .args .c) _ _ _ (c .before .before .before .before .before .before .narrow .ensures) (c .before .before .before .narrow2 .ensures) (e .pre .3), has-range _ _ (e .args .plan .now) (e .args .c) _ _ _ (c .before .before .before .before .before .before .narrow .ensures) (c .before .before .before .narrow2 .ensures) (e .pre .3))
 
 returns : tie.Need-returns
-returns c = answer-is _ _ (c .before .before .before .before .before .before .before .before .before .before .before .before .before .args .plan .now) (c .before .before .before .before .before .before .before .before .before .before .before .before .before .args .c) _ _ _ (c .before .before .before .before .before .before .before .narrow .ensures) (c .before .before .before .before .narrow2 .ensures) _ (c .outcome-at .ensures)
+returns c =
+    let e = c .before .before .before .before .before .before .before .before .before .before .before .before .before in
+    answer-is _ _ (e .args .plan .now) (e .args .c) _ _ _ (c .before .before .before .before .before .before .before .narrow .ensures)
+    (c .before .before .before .before .narrow2 .ensures) _ (c .outcome-at .ensures)
 
 pub answer-of-spec : {M : Type 1} → statement M
 answer-of-spec =

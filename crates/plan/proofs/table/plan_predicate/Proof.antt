@@ -8,7 +8,9 @@ record-at-requires : tie.Need-record-at-requires
 record-at-requires c κs = search needs
 
 put-access-requires : tie.Need-put-access-requires
-put-access-requires c κs = (c .before .before .before .before .before .before .before .pre .0 .1, c .before .before .before .before .before .before .before .pre .1, record-column (c .before .before .before .before .before .before .before .args .tags .now) (c .before .before .before .before .before .before .before .args .starts .now) _ _ (c .before .record-at .ensures) (c .before .before .before .before .before .before .before .pre .2))
+put-access-requires c κs =
+    let e = c .before .before .before .before .before .before .before in
+    (e .pre .0 .1, e .pre .1, record-column (e .args .tags .now) (e .args .starts .now) _ _ (c .before .record-at .ensures) (e .pre .2))
 
 same-length : tie.Need-same-length
 same-length c = search needs

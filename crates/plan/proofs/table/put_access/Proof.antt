@@ -73,7 +73,10 @@ same-length : tie.Need-same-length
 same-length c = search needs
 
 returns : tie.Need-returns
-returns c = put-stored (c .before .before .before .before .before .before .before .before .args .plan .now) (c .before .before .before .before .before .before .before .before .args .c) _ _ _ _ _ (c .before .before .before .before .before .before .before .before .pre .1) (c .before .before .before .before .before .before .before .before .pre .0) _ (rw (c .before .before .widen2 .ensures .0, c .widen3 .ensures .0, c .before .before .before .before .widen .ensures .0))
+returns c =
+    let e = c .before .before .before .before .before .before .before .before in
+    put-stored (e .args .plan .now) (e .args .c) _ _ _ _ _ (e .pre .1) (e .pre .0) _
+    (rw (c .before .before .widen2 .ensures .0, c .widen3 .ensures .0, c .before .before .before .before .widen .ensures .0))
 
 pub put-access-spec : {M : Type 1} → statement M
 put-access-spec =

@@ -70,7 +70,10 @@ add-put-word c =
     search needs
 
 put-word-requires : tie.Need-put-word-requires Inv-loop μ-loop
-put-word-requires c κs = let w = c .before .before .before .widen in turn-room (c .before .before .before .before .before .before .loop .inv) (w .result) (w .ensures .0) (omega arith) (c .before .before .before .before .before .before .before .before .before .before .before .before .before .before .before .before .before .pre .1) (c .before .before .before .before .before .before .before .before .before .before .before .before .before .before .before .before .before .pre .2)
+put-word-requires c κs =
+    let e = c .before .before .before .before .before .before .before .before .before .before .before .before .before .before .before .before .before in
+    let w = c .before .before .before .widen in
+    turn-room (c .before .before .before .before .before .before .loop .inv) (w .result) (w .ensures .0) (omega arith) (e .pre .1) (e .pre .2)
 
 mul-live : tie.Need-mul-live Inv-loop μ-loop
 mul-live c = search needs
