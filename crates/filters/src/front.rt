@@ -28,10 +28,11 @@ pub fn front_rows(b: &[u8], start: usize, base: usize, low: u8, high: u8, k: Pai
     let mut left = due;
     let mut met: u64 = 0;
     while left != 0 {
-        let row = base + fields::number::widen(sets::first(left));
+        let d = sets::first(left);
+        let row = base + fields::number::widen(d);
         let next = sets::rest(left);
         let passes = slot_passes(b, start + Text::SLOT_SIZE * row, low, high, k);
-        met = met | sets::kept(passes, left ^ next);
+        met = met | sets::kept(passes, d);
         left = next;
     }
     met

@@ -38,10 +38,11 @@ pub fn windows_rows(b: &[u8], start: usize, base: usize, k: Pair, due: u64) -> u
     let mut left = due;
     let mut met: u64 = 0;
     while left != 0 {
-        let row = base + fields::number::widen(sets::first(left));
+        let d = sets::first(left);
+        let row = base + fields::number::widen(d);
         let next = sets::rest(left);
         let passes = slot_passes(b, start + Text::SLOT_SIZE * row, k);
-        met = met | sets::kept(passes, left ^ next);
+        met = met | sets::kept(passes, d);
         left = next;
     }
     met

@@ -64,10 +64,11 @@ fn due_within(b: &[u8], start: usize, base: usize, low: u32, width: u32, due: u6
     let mut left = due;
     let mut met: u64 = 0;
     while left != 0 {
-        let row = base + fields::number::widen(sets::first(left));
+        let d = sets::first(left);
+        let row = base + fields::number::widen(d);
         let next = sets::rest(left);
         let n = catalogue::column::number_at(b, start, row);
-        met = met | sets::kept(is_within(low, width, n), left ^ next);
+        met = met | sets::kept(is_within(low, width, n), d);
         left = next;
     }
     met

@@ -14,10 +14,11 @@ pub fn texts_blank(b: &[u8], start: usize, base: usize, due: u64) -> u64
     let mut left = due;
     let mut met: u64 = 0;
     while left != 0 {
-        let row = base + fields::number::widen(sets::first(left));
+        let d = sets::first(left);
+        let row = base + fields::number::widen(d);
         let next = sets::rest(left);
         let text = catalogue::column::text_at(b, start, row);
-        met = met | sets::kept(text.len() == 0, left ^ next);
+        met = met | sets::kept(text.len() == 0, d);
         left = next;
     }
     met
@@ -39,11 +40,12 @@ pub fn texts_that_pass(
     let mut left = due;
     let mut met: u64 = 0;
     while left != 0 {
-        let row = base + fields::number::widen(sets::first(left));
+        let d = sets::first(left);
+        let row = base + fields::number::widen(d);
         let next = sets::rest(left);
         let text = catalogue::column::text_at(b, start, row);
         let passes = predicate::text::text_test(table, kind, operand, text);
-        met = met | sets::kept(passes, left ^ next);
+        met = met | sets::kept(passes, d);
         left = next;
     }
     met

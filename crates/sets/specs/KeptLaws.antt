@@ -108,7 +108,7 @@ module _ {P : ℕ → Bool} {x left met t w : ℕ} (S : Sorting P x left met) (F
 
   -- `next` is the rest, p the test's answer, and `more` what is met
   module _ {next : ℕ} (R : Rest left next) where
-    pub sort-next : {p : Bool} {more : ℕ} → p ≡ P w → more ≡ cond p (bitXor left next) 0 → Sorting P x next (bitOr met more)
+    pub sort-next : {p : Bool} {more : ℕ} → p ≡ P w → more ≡ cond p (oneSet t) 0 → Sorting P x next (bitOr met more)
     sort-next {p} {more} e m = record {
       small = let l = R .less in let s = S .small in omega arith;
       within = λ d y. S .within d (left-of (eqb d t) (member left d) (sym (rest-member F R d) ∙ y));
@@ -124,7 +124,7 @@ module _ {P : ℕ → Bool} {x left met t w : ℕ} (S : Sorting P x left met) (F
         kept-member false z d = member-none d
 
         met-member : (d : ℕ) → member more d ≡ (p && eqb d t)
-        met-member d = ap (λ (z : ℕ). member z d) m ∙ kept-member p (bitXor left next) d ∙ ap (λ (b : Bool). p && b) (one F R d)
+        met-member d = ap (λ (z : ℕ). member z d) m ∙ kept-member p (oneSet t) d ∙ ap (λ (b : Bool). p && b) (member-one t d)
 
         here : (k q : Bool) → ((k || (q && true)) || false) ≡ (k || (true && q))
         here true q = refl

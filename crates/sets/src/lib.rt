@@ -1,5 +1,5 @@
 // A set of numbers below 64, held as the bits of a u64, and the check of an order by such a set.
-// A loop over the numbers of a set x takes first(x) and goes on with rest(x); the set of first(x) alone is then x ^ rest(x).
+// A loop over the numbers of a set x takes first(x) and goes on with rest(x).
 ghost use mathlib.Core.Path.{_≡_};
 ghost use mathlib.Core.Bool.{cond};
 ghost use Prim.Native.Nat.{_≤_, _<_};
@@ -66,11 +66,18 @@ pub fn rest(x: u64) -> u64
     x & (x - 1)
 }
 
-// The set, or none of it.
-pub fn kept(test: bool, x: u64) -> u64
-    ensures { λ r. ⌜ r ≡ cond test x 0 ⌝ }
+fn bit(test: bool) -> u64
+    ensures { λ r. ⌜ r ≡ cond test 1 0 ⌝ }
 {
-    if test { x } else { 0 }
+    if test { 1 } else { 0 }
+}
+
+// The set of d alone where it passes a test, or none: the answer is shifted, so that no branch depends on it.
+pub fn kept(test: bool, d: u8) -> u64
+    requires { ⌜ d < 64 ⌝ }
+    ensures { λ r. ⌜ r ≡ cond test (oneSet d) 0 ⌝ }
+{
+    bit(test) << d
 }
 
 // Is the order n bytes holding each number below n once.
