@@ -26,15 +26,15 @@ line-fits size n c l = omega (arith, mul-le-mul-right size l)
 
 -- line c, written behind the lines before it
 module _ (size n c : ℕ) (from old : List ℕ) (s : size ≤ lineSize) (h : n * lineSize ≤ length from) (m : n * size ≤ length old) (l : c < n) where
-  pub line-behind : (line at next : ℕ) (to new : List ℕ) → line ≡ c * lineSize → at ≡ c * size → Wrote 0 (linesOf size from c) old at to
+  pub line-behind : {line at next : ℕ} {to new : List ℕ} → line ≡ c * lineSize → at ≡ c * size → Wrote 0 (linesOf size from c) old at to
       → Wrote at (take (line + size - line) (drop line from)) to next new → Wrote 0 (linesOf size from (c + 1)) old next new
   unfolding linesOf joined
-  line-behind line at next to new e f w v =
+  line-behind {line} e f w v =
       let z : line + size - line ≡ size = omega arith in
-      rw (add-one c) (wrote-then 0 at next (linesOf size from c) (take size (drop (c * lineSize) from)) old to new (omega (arith, line-fits size n c l)) w (rw (z, e) at v))
+      rw (add-one c) (wrote-then (omega (arith, line-fits size n c l)) w (rw (z, e) at v))
 
-  pub place-behind : (next : ℕ) (new : List ℕ) → Wrote 0 (linesOf size from (c + 1)) old next new → next ≡ (c + 1) * size
-  place-behind next new w = w .1 ∙ zero-add (length (linesOf size from (c + 1))) ∙ lines-length size from (c + 1) s (omega arith)
+  pub place-behind : {next : ℕ} {new : List ℕ} → Wrote 0 (linesOf size from (c + 1)) old next new → next ≡ (c + 1) * size
+  place-behind w = w .place ∙ zero-add (length (linesOf size from (c + 1))) ∙ lines-length size from (c + 1) s (omega arith)
 
 pub part-length : (from : List ℕ) (line size : ℕ) → line + size ≤ length from → length (take (line + size - line) (drop line from)) ≡ size
 part-length from line size l = simp (length-take, length-drop) (omega arith)

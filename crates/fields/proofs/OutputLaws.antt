@@ -26,19 +26,21 @@ module _ (at : ℕ) (p q old : List ℕ) (fits : at + length p ≤ length old) w
       ∙ ap₂ (λ (f : List ℕ) (k : ℕ). f ++ drop k old) (append-assoc (take at old) p q) (length-more at p q)
 
 -- one piece, and another behind it
-pub wrote-then : (at next r : ℕ) (p q old new newer : List ℕ) → next ≤ length old → Wrote at p old next new → Wrote next q new r newer
-    → Wrote at (p ++ q) old r newer
-wrote-then at next r p q old new newer l w v = (
-  v .0 ∙ ap₂ (λ (k : ℕ) (o : List ℕ). putAt k q o) (w .1) (w .0) ∙ put-both at p q old (omega (arith, w .1)),
-  v .1 ∙ ap (λ (k : ℕ). k + length q) (w .1) ∙ length-more at p q,
-)
+pub wrote-then : {at next r : ℕ} {p q old new newer : List ℕ} → next ≤ length old → Wrote at p old next new → Wrote next q new r newer → Wrote at (p ++ q) old r newer
+wrote-then {at} {next} {r} {p} {q} {old} {new} {newer} l w v = record {
+  bytes = v .bytes ∙ ap₂ (λ (k : ℕ) (o : List ℕ). putAt k q o) (w .place) (w .bytes) ∙ put-both at p q old (omega (arith, w .place));
+  place = v .place ∙ ap (λ (k : ℕ). k + length q) (w .place) ∙ length-more at p q;
+}
 
 pub wrote-none : (at : ℕ) (old : List ℕ) → Wrote at [] old at old
-wrote-none at old = (paste-zero old at [], omega arith)
+wrote-none at old = record { bytes = paste-zero old at []; place = omega arith }
 
 -- the same text under another name
-pub wrote-same : (at r : ℕ) (p q old new : List ℕ) → p ≡ q → Wrote at p old r new → Wrote at q old r new
-wrote-same at r p q old new e w = (w .0 ∙ ap (λ (t : List ℕ). putAt at t old) e, w .1 ∙ ap (λ (t : List ℕ). at + length t) e)
+pub wrote-same : {at r : ℕ} {p q old new : List ℕ} → p ≡ q → Wrote at p old r new → Wrote at q old r new
+wrote-same {at} {r} {p} {q} {old} {new} e w = record {
+  bytes = w .bytes ∙ ap (λ (t : List ℕ). putAt at t old) e;
+  place = w .place ∙ ap (λ (t : List ℕ). at + length t) e;
+}
 
 -- a byte of a piece, and the whole piece
 pub piece-byte : (at i : ℕ) (piece old out : List ℕ) → at + length piece ≤ length old → i < length piece → out ≡ paste old at piece i
@@ -47,13 +49,17 @@ piece-byte at i piece old out l m q =
     ap (λ (o : List ℕ). set o (at + i) (getD piece i 0)) q ∙ paste-suc old at piece i 0 (omega arith) m ∙ ap (paste old at piece) (sym (add-one i))
 
 pub piece-end : (at i : ℕ) (piece old out : List ℕ) → i ≡ length piece → out ≡ paste old at piece i → Wrote at piece old (at + i) out
-piece-end at i piece old out e q =
-    (q ∙ ap (paste old at piece) e ∙ ap (λ (t : List ℕ). take at old ++ t ++ drop (at + length piece) old) (take-length piece), ap (λ (k : ℕ). at + k) e)
+piece-end at i piece old out e q = record {
+  bytes = q ∙ ap (paste old at piece) e ∙ ap (λ (t : List ℕ). take at old ++ t ++ drop (at + length piece) old) (take-length piece);
+  place = ap (λ (k : ℕ). at + k) e;
+}
 
 -- one byte
 pub wrote-byte : (at b : ℕ) (old : List ℕ) → at < length old → Wrote at (b ∷ []) old (at + 1) (set old at b)
-wrote-byte at b old l =
-    (set-split old at b l ∙ sym (append-snoc (take at old) b (drop (suc at) old)) ∙ ap (λ (k : ℕ). take at old ++ (b ∷ []) ++ drop k old) (sym (add-one at)), refl)
+wrote-byte at b old l = record {
+  bytes = set-split old at b l ∙ sym (append-snoc (take at old) b (drop (suc at) old)) ∙ ap (λ (k : ℕ). take at old ++ (b ∷ []) ++ drop k old) (sym (add-one at));
+  place = refl;
+}
 
 -- from the first byte on
 pub put-front : (new old : List ℕ) → putAt 0 new old ≡ putFront new old

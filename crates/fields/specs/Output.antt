@@ -13,5 +13,6 @@ abbrev pub putAt : (at : ℕ) (new old : List ℕ) → List ℕ
 putAt at new old = take at old ++ new ++ drop (at + length new) old
 
 -- an output with a text written from `at` on, and the place behind the text
-abbrev pub Wrote : (at : ℕ) (text old : List ℕ) (next : ℕ) (new : List ℕ) → Type 0
-Wrote at text old next new = (new ≡ putAt at text old) × (next ≡ at + length text)
+pub record Wrote (at : ℕ) (text old : List ℕ) (next : ℕ) (new : List ℕ) : Type 0 where
+  pub bytes : new ≡ putAt at text old
+  pub place : next ≡ at + length text

@@ -29,7 +29,7 @@ put-digits-returns :
     (put-digits-below t, put-digits.Post)
     (put-digits-at t)
     put-digits.Post
-put-digits-returns t c = digits-end _ _ _ (c .if1 .taken)
+put-digits-returns t c = digits-end (c .if1 .taken)
 
 put-digits-put-digits-requires : (t : ℕ) → put-digits-lts.Need-put-digits-requires (
   put-digits-below t,
@@ -57,13 +57,13 @@ put-digits-slice-write-out : (t : ℕ) → put-digits-lts.Need-slice-write-out (
   put-digits-below t,
   put-digits.Post,
 ) (put-digits-at t) put-digits.Post
-put-digits-slice-write-out t c = omega (arith, (tenth-fits (c .before .before .before .before .before .before .args .at) (c .before .before .before .before .before .before .args .x) (length (c .before .before .before .before .before .before .args .out .now)) (omega arith) (c .before .before .before .before .before .before .pre .1)), c .before .before .put-digits .ensures .1)
+put-digits-slice-write-out t c = omega (arith, (tenth-fits (c .before .before .before .before .before .before .args .at) (c .before .before .before .before .before .before .args .x) (length (c .before .before .before .before .before .before .args .out .now)) (omega arith) (c .before .before .before .before .before .before .pre .1)), c .before .before .put-digits .ensures .place)
 
 put-digits-add-result : (t : ℕ) → put-digits-lts.Need-add-result (
   put-digits-below t,
   put-digits.Post,
 ) (put-digits-at t) put-digits.Post
-put-digits-add-result t c = omega (arith, (tenth-fits (c .before .before .before .before .before .before .args .at) (c .before .before .before .before .before .before .args .x) (length (c .before .before .before .before .before .before .args .out .now)) (omega arith) (c .before .before .before .before .before .before .pre .1)), c .before .before .put-digits .ensures .1)
+put-digits-add-result t c = omega (arith, (tenth-fits (c .before .before .before .before .before .before .args .at) (c .before .before .before .before .before .before .args .x) (length (c .before .before .before .before .before .before .args .out .now)) (omega arith) (c .before .before .before .before .before .before .pre .1)), c .before .before .put-digits .ensures .place)
 
 put-digits-same-length : (t : ℕ) → put-digits-lts.Need-same-length (
   put-digits-below t,
@@ -75,7 +75,7 @@ put-digits-returns-2 : (t : ℕ) → put-digits-lts.Need-returns-2 (
   put-digits-below t,
   put-digits.Post,
 ) (put-digits-at t) put-digits.Post
-put-digits-returns-2 t c = digit-behind _ _ _ _ _ (omega arith) (c .before .before .before .before .before .before .pre .1) (omega arith) (c .before .before .put-digits .ensures)
+put-digits-returns-2 t c = digit-behind _ (omega arith) (c .before .before .before .before .before .before .pre .1) (omega arith) (c .before .before .put-digits .ensures)
 
 pub +put-digits-spec : {M : Type 1} → statement M
 +put-digits-spec = close μ-put-digits λ t. put-digits-lts.spec (

@@ -16,7 +16,7 @@ same-length : tie.Need-same-length
 same-length c = search needs
 
 returns : tie.Need-returns
-returns c = (number-zero _ _ _ _ _ (c .before .before .before .before .before .if1 .taken) (c .before .before .put .ensures), omega arith)
+returns c = (number-zero (c .before .before .before .before .before .if1 .taken) (c .before .before .put .ensures), omega arith)
 
 put-digits-requires : tie.Need-put-digits-requires
 put-digits-requires c κs = omega (arith, digits-length (c .before .before .before .args .x) (omega arith))
@@ -25,7 +25,7 @@ same-length-2 : tie.Need-same-length-2
 same-length-2 c = search needs
 
 returns-2 : tie.Need-returns-2
-returns-2 c = (number-more _ _ _ _ _ (omega arith) (c .before .before .put-digits .ensures), omega (arith, digits-length (c .before .before .before .before .before .before .args .x) (omega arith), c .before .before .put-digits .ensures .1))
+returns-2 c = (number-more (omega arith) (c .before .before .put-digits .ensures), omega (arith, digits-length (c .before .before .before .before .before .before .args .x) (omega arith), c .before .before .put-digits .ensures .place))
 
 pub put-number-spec : {M : Type 1} → statement M
 put-number-spec =

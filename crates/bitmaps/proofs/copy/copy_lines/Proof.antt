@@ -54,8 +54,8 @@ loop-again c =
     let s = c .before .before .before .before .before .before .before .before .before in
     let a = s .args in
     let l = c .before .before .before .before .before .before .loop in
-    let w = line-behind (a .size) (a .n) (l .c) (a .from .now) (a .to .now) (s .pre .0) (s .pre .1) (s .pre .2) (omega arith) _ _ _ _ _ (l .inv .1) (l .inv .2) (l .inv .4) (c .before .before .put .ensures) in
-    (omega arith, omega arith, place-behind (a .size) (a .n) (l .c) (a .from .now) (a .to .now) (s .pre .0) (s .pre .1) (s .pre .2) (omega arith) _ _ w, omega arith, w)
+    let w = line-behind (a .size) (a .n) (l .c) (a .from .now) (a .to .now) (s .pre .0) (s .pre .1) (s .pre .2) (omega arith) (l .inv .1) (l .inv .2) (l .inv .4) (c .before .before .put .ensures) in
+    (omega arith, omega arith, place-behind (a .size) (a .n) (l .c) (a .from .now) (a .to .now) (s .pre .0) (s .pre .1) (s .pre .2) (omega arith) w, omega arith, w)
 
 same-length : tie.Need-same-length Inv-loop μ-loop
 same-length c = search needs
@@ -65,7 +65,7 @@ returns c =
     let a = c .before .before .before .before .args in
     let l = c .before .loop in
     let e : l .c ≡ a .n = omega arith in
-    rw (← e) (l .inv .4 .0 ∙ put-front (linesOf (a .size) (a .from .now) (l .c)) (a .to .now))
+    rw (← e) (l .inv .4 .bytes ∙ put-front (linesOf (a .size) (a .from .now) (l .c)) (a .to .now))
 
 pub copy-lines-spec : {M : Type 1} → statement M
 copy-lines-spec =

@@ -24,7 +24,7 @@ same-length : tie.Need-same-length
 same-length c = search needs
 
 returns : tie.Need-returns
-returns c = (condition-end _ _ _ _ _ _ _ _ _ _ (omega arith) (c .before .before .before .before .before .before .before .before .before .before .before .put .ensures) (c .before .before .before .before .before .before .before .put-number .ensures .0) (c .before .before .put-line .ensures .0), omega arith)
+returns c = (condition-end _ _ (omega arith) (c .before .before .before .before .before .before .before .before .before .before .before .put .ensures) (c .before .before .before .before .before .before .before .put-number .ensures .0) (c .before .before .put-line .ensures .0), omega arith)
 
 pub put-condition-spec : {M : Type 1} → statement M
 put-condition-spec =

@@ -7,7 +7,8 @@ use lib.ListN.{length}
 use Rattle.register.specs.Register.{conditions}
 use Rattle.fields.specs.Output.{Wrote}
 use Rattle.register.specs.Writing.{conditionRoom}
-use Rattle.register.specs.RegisterLaws.{conditions-none, conditions-more, condition-row, row-fits, row-short}
+use Rattle.register.specs.RegisterLaws.{conditions-none, conditions-more, condition-row, row-short}
+use Rattle.bitmaps.proofs.Lines.{line-fits}
 use Rattle.register.proofs.text.put_conditions.Statement.{statement}
 use Rattle.register.proofs.text.put_conditions.Tie as tie
 
@@ -18,10 +19,10 @@ abbrev μ-loop : tie.MeasureT-loop
 μ-loop out₀ at looks size n end₀ c₀ from₀ out end c from = n - c
 
 loop-holds : tie.Need-loop-holds Inv-loop μ-loop
-loop-holds c = (omega arith, omega arith, refl, conditions-none (c .before .before .args .at) (c .before .before .args .out .now) (c .before .before .args .looks .now) (c .before .before .args .size), omega arith)
+loop-holds c = (omega arith, omega arith, refl, conditions-none (c .before .before .args .looks .now) (c .before .before .args .size), omega arith)
 
 add-next : tie.Need-add-next Inv-loop μ-loop
-add-next c = omega (arith, row-fits (c .before .before .before .before .args .size) (c .before .before .before .before .args .n) (c .before .loop .c) (omega arith))
+add-next c = omega (arith, line-fits (c .before .before .before .before .args .size) (c .before .before .before .before .args .n) (c .before .loop .c) (omega arith))
 
 sub-count-ones : tie.Need-sub-count-ones Inv-loop μ-loop
 sub-count-ones c = search needs
@@ -30,7 +31,7 @@ part-count-ones-start : tie.Need-part-count-ones-start Inv-loop μ-loop
 part-count-ones-start c = search needs
 
 part-count-ones-end : tie.Need-part-count-ones-end Inv-loop μ-loop
-part-count-ones-end c = omega (arith, row-fits (c .before .before .before .before .args .size) (c .before .before .before .before .args .n) (c .before .loop .c) (omega arith))
+part-count-ones-end c = omega (arith, line-fits (c .before .before .before .before .args .size) (c .before .before .before .before .args .n) (c .before .loop .c) (omega arith))
 
 count-ones-requires : tie.Need-count-ones-requires Inv-loop μ-loop
 count-ones-requires c κs = row-short (c .before .before .before .before .before .args .size) (c .before .before .loop .from) (c .before .before .before .before .before .args .looks .now) (omega arith)
@@ -48,8 +49,8 @@ loop-again : tie.Need-loop-again Inv-loop μ-loop
 loop-again c =
     let a = c .before .before .before .before .before .before .before .before .before .before .args in
     let l = c .before .before .before .before .before .before .before .loop in
-    let wrote = condition-row _ _ _ _ _ _ _ _ _ (l .inv .1) (c .before .before .before .before .count-ones .ensures .0) (c .before .before .put-condition .ensures .0) in
-    (omega arith, omega arith, omega arith, conditions-more (a .at) (a .out .now) _ _ _ _ _ _ _ (omega arith) (l .inv .3) wrote, omega arith)
+    let wrote = condition-row (a .size) (l .c) (a .looks .now) (l .inv .1) (c .before .before .before .before .count-ones .ensures .0) (c .before .before .put-condition .ensures .0) in
+    (omega arith, omega arith, omega arith, conditions-more (a .size) (l .c) (a .looks .now) (omega arith) (l .inv .3) wrote, omega arith)
 
 same-length : tie.Need-same-length Inv-loop μ-loop
 same-length c = search needs

@@ -18,7 +18,7 @@ abbrev μ-loop : tie.MeasureT-loop
 μ-loop out₀ at listed rows end₀ row₀ out end row = rows - row
 
 loop-holds : tie.Need-loop-holds Inv-loop μ-loop
-loop-holds c = (omega arith, refl, entries-none (c .before .before .args .at) (c .before .before .args .out .now) (c .before .before .args .listed .now), omega arith)
+loop-holds c = (omega arith, refl, entries-none (c .before .before .args .listed .now), omega arith)
 
 put-entry-requires : tie.Need-put-entry-requires Inv-loop μ-loop
 put-entry-requires c κs = (omega arith, omega arith)
@@ -30,7 +30,7 @@ loop-less : tie.Need-loop-less Inv-loop μ-loop
 loop-less c = search needs
 
 loop-again : tie.Need-loop-again Inv-loop μ-loop
-loop-again c = let a = c .before .before .before .before .before .before .before .before .args in let l = c .before .before .before .before .before .loop in (omega arith, omega arith, entries-more (a .at) (a .out .now) _ _ _ _ _ _ (omega arith) (l .inv .2) (c .before .before .put-entry .ensures .0), omega arith)
+loop-again c = let a = c .before .before .before .before .before .before .before .before .args in let l = c .before .before .before .before .before .loop in (omega arith, omega arith, entries-more (l .row) (a .listed .now) (omega arith) (l .inv .2) (c .before .before .put-entry .ensures .0), omega arith)
 
 same-length : tie.Need-same-length Inv-loop μ-loop
 same-length c = search needs

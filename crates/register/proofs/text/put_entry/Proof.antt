@@ -19,10 +19,10 @@ same-length : tie.Need-same-length
 same-length c = search needs
 
 returns : tie.Need-returns
-returns c = (entry-listed _ _ _ _ _ _ (sym (c .before .before .before .before .before .before .is-marked .ensures) ∙ c .before .before .before .before .before .if1 .taken) (c .before .before .put-line .ensures .0), omega arith)
+returns c = (entry-listed _ (sym (c .before .before .before .before .before .before .is-marked .ensures) ∙ c .before .before .before .before .before .if1 .taken) (c .before .before .put-line .ensures .0), omega arith)
 
 returns-2 : tie.Need-returns-2
-returns-2 c = (entry-not _ _ _ _ (sym (c .before .is-marked .ensures) ∙ c .if1 .left), omega arith)
+returns-2 c = (entry-not _ (sym (c .before .is-marked .ensures) ∙ c .if1 .left), omega arith)
 
 pub put-entry-spec : {M : Type 1} → statement M
 put-entry-spec =

@@ -38,7 +38,7 @@ returns c =
     let at-entries = at-second-line .before .before .before .before .before in
     let at-first-line = at-entries .before .before .before .before in
     let at-header = at-first-line .before .before .before .before .before in
-    accepted-end _ _ _ _ _ _ _ _ _ _ _ _ _ _ _ _ _ _ (c .before .before .before .bytes-for .ensures) (omega arith) (at-header .put-header .ensures) (at-first-line .put-line .ensures .0) (at-entries .put-entries .ensures .0) (at-second-line .put-line2 .ensures .0) (c .before .before .put-conditions .ensures .0)
+    accepted-end _ _ _ _ _ _ (c .before .before .before .bytes-for .ensures) (omega arith) (at-header .put-header .ensures) (at-first-line .put-line .ensures .0) (at-entries .put-entries .ensures .0) (at-second-line .put-line2 .ensures .0) (c .before .before .put-conditions .ensures .0)
 
 pub write-accepted-spec : {M : Type 1} → statement M
 write-accepted-spec =

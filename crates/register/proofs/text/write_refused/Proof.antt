@@ -18,7 +18,7 @@ same-length : tie.Need-same-length
 same-length c = search needs
 
 returns : tie.Need-returns
-returns c = refused-end _ _ _ _ _ _ (omega arith) (c .before .before .before .before .before .before .before .put-header .ensures) (c .before .before .put-line .ensures .0)
+returns c = refused-end _ (omega arith) (c .before .before .before .before .before .before .before .put-header .ensures) (c .before .before .put-line .ensures .0)
 
 pub write-refused-spec : {M : Type 1} → statement M
 write-refused-spec =
