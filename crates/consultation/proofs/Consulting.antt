@@ -16,15 +16,15 @@ use Rattle.catalogue.specs.Layout.{Laid, LaidOut}
 use Rattle.query.specs.Format.{predicateLimit}
 use Rattle.strategy.specs.Order.{isOrder}
 use Rattle.bitmaps.specs.Bitmap.{bytesFor}
-use Rattle.searchroom.specs.Word.{numberIn, firstIn, thirdIn}
-use Rattle.searchroom.specs.Refusals.{notOrder}
-use Rattle.searchroom.specs.Checks.{checked}
-use Rattle.searchroom.specs.Input.{Input, decodeInput}
-use Rattle.searchroom.specs.Run.{Lent, Ran, ran, rowCount, predicateCount, taskOf, foundCount, lookCount, runOn, runOf}
-use Rattle.searchroom.specs.Demands.{Reads, FormBroken, Kept, FirstBroken, badForm, badOrder, badTables, badTally}
-use Rattle.searchroom.proofs.DemandLaws.{Decodes, decoded-input, reads-input, broken-input, decoded-cases}
-use Rattle.searchroom.proofs.DemandTables.{order-plain}
-use Rattle.searchroom.proofs.DemandRuns.{kept-gives, broken-gives, broken-number}
+use Rattle.input.specs.Input.{Input, decodeInput}
+use Rattle.answers.specs.Word.{numberIn, firstIn, thirdIn}
+use Rattle.answers.specs.Refusals.{notOrder}
+use Rattle.answers.specs.Checks.{checked}
+use Rattle.demands.specs.Run.{Lent, Ran, ran, rowCount, predicateCount, taskOf, foundCount, lookCount, runOn, runOf}
+use Rattle.demands.specs.Demands.{Reads, FormBroken, Kept, FirstBroken, badForm, badOrder, badTables, badTally}
+use Rattle.demands.proofs.DemandLaws.{Decodes, decoded-input, reads-input, broken-input, decoded-cases}
+use Rattle.demands.proofs.DemandTables.{order-plain}
+use Rattle.demands.proofs.DemandRuns.{kept-gives, broken-gives, broken-number}
 use Rattle.register.specs.Register as register
 use Rattle.register.specs.Writing.{roomFor}
 use Rattle.consultation.specs.Consultation.{listedSize, looksSize, lentBy, consultationRun, registerOfRun, registerAfter, consultationOf, longest}

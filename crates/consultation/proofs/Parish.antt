@@ -19,15 +19,15 @@ use Rattle.strategy.specs.Order.{occurrences, allBelow, isOrder}
 use Rattle.bitmaps.specs.Sums.{sumOf, joined}
 use Rattle.bitmaps.specs.Bitmap.{bitmap, bitmaps, onesIn}
 use Rattle.run.specs.Run.{isSelected, traceAt}
-use Rattle.searchroom.specs.Checks.{checked}
-use Rattle.searchroom.specs.Input.{decodeInput}
-use Rattle.searchroom.specs.Run.{selection, probes, runOn, runOf}
+use Rattle.input.specs.Input.{decodeInput}
+use Rattle.answers.specs.Checks.{checked}
+use Rattle.demands.specs.Run.{selection, probes, runOn, runOf}
 use Rattle.bitmaps.specs.Bit.{bit}
 use Rattle.sets.specs.Set as sets
 use Rattle.lines.specs.Decimal.{digits, decimal}
 use Rattle.lines.specs.Line.{line}
 use Rattle.register.specs.Register.{header, entries, conditionLine, conditions, accepted}
-use Rattle.searchroom.specs.Parish.{parish, question}
+use Rattle.demands.specs.Parish.{parish, question}
 use Rattle.consultation.specs.Consultation.{consultationOf}
 
 parish-register : consultationOf parish question (0 ∷ 1 ∷ 2 ∷ [])

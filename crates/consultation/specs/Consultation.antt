@@ -6,9 +6,9 @@ use Rattle.fields.specs.Decoded.{Decoded, refused, accepted}
 use Rattle.catalogue.specs.Format.{rowLimit}
 use Rattle.query.specs.Format.{predicateLimit}
 use Rattle.bitmaps.specs.Bitmap.{bytesFor}
-use Rattle.searchroom.specs.Word.{numberIn, firstIn, thirdIn}
-use Rattle.searchroom.specs.Input.{Input, decodeInput}
-use Rattle.searchroom.specs.Run.{Lent, lent, Ran, rowCount, predicateCount, counterSize, runOf}
+use Rattle.input.specs.Input.{Input, decodeInput}
+use Rattle.answers.specs.Word.{numberIn, firstIn, thirdIn}
+use Rattle.demands.specs.Run.{Lent, lent, Ran, rowCount, predicateCount, counterSize, runOf}
 use Rattle.register.specs.Register as register
 use Rattle.register.specs.Writing.{roomFor}
 

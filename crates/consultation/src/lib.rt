@@ -35,9 +35,9 @@ pub fn write_consultation(catalogue: &[u8], question: &[u8], order: &[u8], out: 
     let layout = catalogue::layout::lay_out(catalogue);
     let rows = layout.rows;
     register::text::write_register(
-        searchroom::word::number_in(word),
-        searchroom::word::first_in(word),
-        searchroom::word::third_in(word),
+        answers::word::number_in(word),
+        answers::word::first_in(word),
+        answers::word::third_in(word),
         rows,
         order.len(),
         &listed,

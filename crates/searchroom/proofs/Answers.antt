@@ -1,27 +1,18 @@
--- The answers of the calls that only read, from what was decoded.
-use Prim.Native.Nat.{ℕ, _^_, _≤_, _<_}
+-- The answers of the calls that check, from what was decoded.
+use Prim.Native.Nat.{ℕ, _<_}
 use native.Mathlib.Omega.{arith}
-use mathlib.Core.Path.{_≡_, sym, _∙_}
-use mathlib.Core.Bool.{true}
+use mathlib.Core.Path.{_≡_}
 use mathlib.Core.List.{List}
 use Rattle.fields.specs.Decoded.{Decoded, refused, accepted}
 use Rattle.catalogue.specs.Catalogue.{Catalogue}
 use Rattle.catalogue.specs.declared.layout.Layout.{Layout}
 use Rattle.catalogue.specs.Layout.{LaidOut}
-use Rattle.searchroom.specs.declared.begin.Beginning.{Beginning}
-use Rattle.searchroom.specs.declared.word.Answer.the-variants.{Refused, Accepted}
 use Rattle.query.specs.Ancestors.{Tables}
-use Rattle.searchroom.specs.Input.{Input, decodeInput}
-use Rattle.searchroom.specs.Answers.{catalogueAnswer, questionAnswer, outcomeNumber, outcomeAnswer, Answered}
-use Rattle.searchroom.specs.Refusals.{noSuchPlace}
-use Rattle.predicate.specs.declared.answer.Answer.{Answer as Outcome}
-use Rattle.predicate.specs.declared.answer.Answer.the-variants.{No, Yes}
-use Rattle.predicate.specs.Meaning.{outcome}
-use Rattle.run.specs.Run.{predicateAt}
-use lib.ListN.{length}
-use lib.Dec.{ltb}
-use borrow.Author.Tests.{le-ltb, lt-ltb}
-use Rattle.searchroom.specs.Begun.{Begun}
+use Rattle.input.specs.declared.begin.Beginning.{Beginning}
+use Rattle.input.specs.Input.{Input, decodeInput}
+use Rattle.input.specs.Begun.{Begun}
+use Rattle.answers.specs.declared.word.Answer.the-variants.{Refused, Accepted}
+use Rattle.answers.specs.Answers.{catalogueAnswer, questionAnswer, Answered}
 
 module _ (b : List ℕ) (l : Layout) where
   pub answered-refused : (d : Decoded Catalogue) → LaidOut b l d → (l .refusal ≡ 0 → ⊥) → Answered (catalogueAnswer d) (Refused (l .refusal))
@@ -37,35 +28,3 @@ question-answer-refused d k h = (rw (h .0), omega arith)
 
 pub question-answer-accepted : {b q : List ℕ} {r : Beginning} {T : Tables} → Begun b q r T → Answered (questionAnswer (decodeInput b q)) (Accepted (r .n) 0 0)
 question-answer-accepted G = (rw (G .decoded, G .tabled .count), omega (arith, G .tabled .few))
-
-pub outcome-answer-refused : (d : Decoded Input) (row c k : ℕ) → (d ≡ refused k) × (k < 256) → Answered (outcomeAnswer d row c) (Refused k)
-outcome-answer-refused d row c k h = (rw (h .0), omega arith)
-
-number-small : (a : Outcome) → outcomeNumber a < 2 ^ 16
-number-small No = omega arith
-number-small Yes = omega arith
-
--- the three ends of working out one condition, once the input is accepted
-module _ {b q : List ℕ} {r : Beginning} {T : Tables} (G : Begun b q r T) (row c : ℕ) where
-  same-rows : G .input .catalogue .rows ≡ r .rows
-  same-rows = sym (G .laid .rows) ∙ sym (G .rows)
-
-  has-row : row < r .rows → ltb row (G .input .catalogue .rows) ≡ true
-  has-row h = lt-ltb row (G .input .catalogue .rows) (omega (arith, same-rows))
-
-  pub has-such-row : row < r .rows → row < G .input .catalogue .rows
-  has-such-row h = omega (arith, same-rows)
-
-  pub no-such-row : r .rows ≤ row → Answered (outcomeAnswer (decodeInput b q) row c) (Refused noSuchPlace)
-  no-such-row h = (rw (G .decoded, le-ltb row (G .input .catalogue .rows) (omega (arith, same-rows))), omega arith)
-
-  pub no-such-predicate : row < r .rows → r .n ≤ c → Answered (outcomeAnswer (decodeInput b q) row c) (Refused noSuchPlace)
-  no-such-predicate g h =
-      (rw (G .decoded, has-row g, le-ltb c (length (G .input .query .predicates)) (omega (arith, G .tabled .count))), omega arith)
-
-  pub outcome-told : row < r .rows → c < r .n → (a : Outcome) (x : ℕ) → a ≡ outcome (G .input .catalogue) (predicateAt (G .input .query) c) row
-      → x ≡ outcomeNumber a → Answered (outcomeAnswer (decodeInput b q) row c) (Accepted x 0 0)
-  outcome-told g h a x e f = (
-    rw (G .decoded, has-row g, lt-ltb c (length (G .input .query .predicates)) (omega (arith, G .tabled .count)), f, e),
-    omega (arith, number-small a),
-  )

@@ -1,10 +1,1 @@
-pub mod Checks
-pub mod Inputs
-pub mod Finishing
-pub mod Running
-pub mod Cases
 pub mod Answers
-pub mod DemandLaws
-pub mod DemandTables
-pub mod DemandRuns
-pub mod Demands

@@ -1,9 +1,9 @@
 // Checking a catalogue.
-use crate::word::Answer;
+use answers::word::Answer;
 ghost use mathlib.Core.Path.{_≡_};
 ghost use Rattle.catalogue.specs.Decode.{decodeCatalogue};
-ghost use Rattle.searchroom.specs.Word.{packed};
-ghost use Rattle.searchroom.specs.Answers.{catalogueAnswer, Answered};
+ghost use Rattle.answers.specs.Word.{packed};
+ghost use Rattle.answers.specs.Answers.{catalogueAnswer, Answered};
 
 fn check_catalogue(catalogue: &[u8]) -> Answer
     ensures { λ r. ⌜ Answered (catalogueAnswer (decodeCatalogue (now (catalogue .entry)))) r ⌝ }
@@ -26,5 +26,5 @@ fn check_catalogue(catalogue: &[u8]) -> Answer
 pub extern "C" fn searchroom_check_catalogue(catalogue: &[u8]) -> u64
     ensures { λ r. ⌜ r ≡ packed (catalogueAnswer (decodeCatalogue (now (catalogue .entry)))) ⌝ }
 {
-    crate::word::pack(check_catalogue(catalogue))
+    answers::word::pack(check_catalogue(catalogue))
 }

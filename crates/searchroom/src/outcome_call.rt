@@ -1,83 +1,8 @@
 // Working out one condition at one entry.
-use crate::begin::Beginning;
-use crate::refusal::Refusal;
-use crate::word::Answer;
-use plan::table::Plan;
-use query::ancestors::Ancestors;
-use query::table::Predicate;
 ghost use mathlib.Core.Path.{_≡_};
-ghost use Rattle.searchroom.specs.Word.{packed};
-ghost use Rattle.searchroom.specs.Input.{decodeInput};
-ghost use Rattle.searchroom.specs.Begun.{BegunPlaces};
-ghost use Rattle.searchroom.specs.Answers.{outcomeNumber, outcomeAnswer, Answered};
-
-fn number_of(answer: predicate::answer::Answer) -> u64
-    ensures { λ r. ⌜ r ≡ outcomeNumber answer ⌝ }
-{
-    match answer {
-        predicate::answer::Answer::No => 0,
-        predicate::answer::Answer::Yes => 1,
-    }
-}
-
-fn outcome_accepted(
-    catalogue: &[u8],
-    question: &[u8],
-    begun: Beginning,
-    places: &[usize],
-    entry: u64,
-    condition: u64,
-) -> Answer
-    requires { ⌜ BegunPlaces (now catalogue) (now question) begun (now places) ⌝ }
-    ensures { λ r. ⌜ Answered (outcomeAnswer (decodeInput (now (catalogue .entry)) (now (question .entry))) entry condition) r ⌝ }
-{
-    let rows = begun.rows;
-    let n = begun.n;
-    let tags = begun.tags;
-    let starts = begun.starts;
-    if rows as u64 <= entry {
-        return Answer::Refused(Refusal::NO_SUCH_PLACE);
-    }
-    if n as u64 <= condition {
-        return Answer::Refused(Refusal::NO_SUCH_PLACE);
-    }
-    let mut plan = [0usize; Plan::TABLE];
-    plan::table::plan_predicate(
-        &tags,
-        &starts,
-        question,
-        places,
-        condition as usize,
-        &mut plan,
-    );
-    let fold = predicate::fold::fold_table();
-    let answer = plan::outcome::answer_of(
-        &fold,
-        catalogue,
-        question,
-        &plan,
-        condition as usize,
-        entry as usize,
-    );
-    Answer::Accepted {
-        first: number_of(answer),
-        second: 0,
-        third: 0,
-    }
-}
-
-fn outcome_at(catalogue: &[u8], question: &[u8], entry: u64, condition: u64) -> Answer
-    ensures { λ r. ⌜ Answered (outcomeAnswer (decodeInput (now (catalogue .entry)) (now (question .entry))) entry condition) r ⌝ }
-{
-    let mut places = [0usize; Predicate::LIMIT];
-    let mut ancestors = [0u8; Ancestors::TABLE];
-    let begun = crate::begin::begin(catalogue, question, &mut places, &mut ancestors);
-    let refusal = begun.refusal;
-    if refusal != 0 {
-        return Answer::Refused(refusal);
-    }
-    outcome_accepted(catalogue, question, begun, &places, entry, condition)
-}
+ghost use Rattle.input.specs.Input.{decodeInput};
+ghost use Rattle.answers.specs.Word.{packed};
+ghost use Rattle.answers.specs.Answers.{outcomeAnswer};
 
 #[no_mangle]
 pub extern "C" fn searchroom_outcome(
@@ -88,5 +13,5 @@ pub extern "C" fn searchroom_outcome(
 ) -> u64
     ensures { λ r. ⌜ r ≡ packed (outcomeAnswer (decodeInput (now (catalogue .entry)) (now (question .entry))) entry condition) ⌝ }
 {
-    crate::word::pack(outcome_at(catalogue, question, entry, condition))
+    answers::word::pack(outcome::outcome_at(catalogue, question, entry, condition))
 }

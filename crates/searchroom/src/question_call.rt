@@ -1,18 +1,18 @@
 // Checking a question against a catalogue.
-use crate::word::Answer;
+use answers::word::Answer;
 use query::ancestors::Ancestors;
 use query::table::Predicate;
 ghost use mathlib.Core.Path.{_≡_};
-ghost use Rattle.searchroom.specs.Word.{packed};
-ghost use Rattle.searchroom.specs.Input.{decodeInput};
-ghost use Rattle.searchroom.specs.Answers.{questionAnswer, Answered};
+ghost use Rattle.input.specs.Input.{decodeInput};
+ghost use Rattle.answers.specs.Word.{packed};
+ghost use Rattle.answers.specs.Answers.{questionAnswer, Answered};
 
 fn check_question(catalogue: &[u8], question: &[u8]) -> Answer
     ensures { λ r. ⌜ Answered (questionAnswer (decodeInput (now (catalogue .entry)) (now (question .entry)))) r ⌝ }
 {
     let mut places = [0usize; Predicate::LIMIT];
     let mut ancestors = [0u8; Ancestors::TABLE];
-    let begun = crate::begin::begin(catalogue, question, &mut places, &mut ancestors);
+    let begun = input::begin::begin(catalogue, question, &mut places, &mut ancestors);
     let refusal = begun.refusal;
     if refusal != 0 {
         return Answer::Refused(refusal);
@@ -29,5 +29,5 @@ fn check_question(catalogue: &[u8], question: &[u8]) -> Answer
 pub extern "C" fn searchroom_check_question(catalogue: &[u8], question: &[u8]) -> u64
     ensures { λ r. ⌜ r ≡ packed (questionAnswer (decodeInput (now (catalogue .entry)) (now (question .entry)))) ⌝ }
 {
-    crate::word::pack(check_question(catalogue, question))
+    answers::word::pack(check_question(catalogue, question))
 }

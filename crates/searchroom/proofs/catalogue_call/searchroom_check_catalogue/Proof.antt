@@ -1,6 +1,6 @@
 -- `searchroom_check_catalogue` meets its contract: the answer, packed.
 use mathlib.Core.Path.{_∙_, ap}
-use Rattle.searchroom.specs.Word.{packed}
+use Rattle.answers.specs.Word.{packed}
 use borrow.Author.Needs.{needs}
 use Rattle.searchroom.proofs.catalogue_call.searchroom_check_catalogue.Statement.{
   statement,

@@ -1,0 +1,4 @@
+pub mod Word
+pub mod Refusals
+pub mod Checks
+pub mod Answers

@@ -1,0 +1,3 @@
+// What a call answers: its results or a refusal, and the packed word in which they travel.
+pub mod refusal;
+pub mod word;

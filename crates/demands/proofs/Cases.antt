@@ -1,0 +1,96 @@
+-- Every case of the list holds: each is computed, but for what any question gives on a catalogue without rows.
+use Prim.Native.Nat.{ℕ, zero, suc, _^_}
+use native.Mathlib.Nat.{mul-zero}
+use native.Mathlib.Omega.{arith}
+use mathlib.Core.Path.{_≡_, refl, sym, ap, _∙_}
+use mathlib.Core.Bool.{Bool, true, xor}
+use mathlib.Core.List.{List, [], _++_, append-nil}
+use lib.ListN.{length, drop, drop-of-length-le}
+use lib.Dec.{eqb, ltb}
+use lib.Count.{ones, onesIn as digitOnes}
+use Rattle.fields.specs.Decoded.{Decoded, refused, accepted}
+use Rattle.fields.specs.Numbers.{numberAt, bytesOf, Bytes}
+use Rattle.fields.proofs.Written.{number-written, number-small}
+use Rattle.fields.specs.Header.{headerAt}
+use Rattle.catalogue.specs.Catalogue.{Catalogue}
+use Rattle.catalogue.specs.Slots.{textAt, textsAt, zerosAt, validSlot, validSlots}
+use Rattle.catalogue.specs.Decode.{numbersAt, countsAt, firstOf, columnOf, columnsAt, decodeCatalogue}
+use Rattle.predicate.specs.Kinds.{plainKind}
+use Rattle.predicate.specs.Meaning.{folded, same, begins, occurs, numberTest, textTest, outcomeOf}
+use Rattle.predicate.specs.Payload.{tagsIn, kindFits, rangeFits, operandFits, validPayload}
+use Rattle.query.specs.Query.{Query}
+use Rattle.query.specs.Decode.{payloadAt, isRepeated, predicateField, groupField, memberField, decodeTagged, decodeQuery, member}
+use Rattle.strategy.specs.Bools.{both, leb-yes, ltb-yes}
+use Rattle.strategy.specs.Assignment.{update, elem}
+use Rattle.strategy.specs.Strategy.{predicates}
+use Rattle.strategy.specs.Trace.{decides, someOutcomes, due, trace}
+use Rattle.strategy.specs.Tree.{eval}
+use Rattle.strategy.specs.Order.{occurrences, allBelow, isOrder}
+use Rattle.bitmaps.specs.Sums.{sumOf, joined}
+use Rattle.bitmaps.specs.Bitmap.{bytesFor, bitmap, bitmaps, onesIn}
+use Rattle.run.specs.Run.{isSelected, traceAt}
+use Rattle.input.specs.Input.{Input, withQuery, decodeInput}
+use Rattle.answers.specs.Checks.{checked}
+use Rattle.answers.specs.declared.word.Answer.the-variants.{Accepted}
+use Rattle.answers.specs.Word.{packed}
+use Rattle.demands.specs.Run.{lent, ran, rowCount, predicateCount, taskOf, selection, probes, tablesFit, counterSize, counterAfter, counterFits, runOn, runOf}
+use Rattle.demands.specs.Parish.{nested}
+use Rattle.demands.specs.Cases.{Holds, findsNothing, noRows, cases, AllHold}
+
+-- a catalogue without rows has empty bitmaps, whatever is asked
+no-rows : (f : ℕ → Bool) → bitmap f 0 ≡ []
+unfolding bitmap joined
+no-rows f = refl
+
+no-lines : (f : ℕ → ℕ → Bool) (n : ℕ) → bitmaps f n 0 ≡ []
+unfolding bitmaps joined
+no-lines f zero = refl
+no-lines f (suc n) = rw (no-lines f n, no-rows (f n))
+
+its-catalogue : (C : Catalogue) (d : Decoded Query) (i : Input) → withQuery C d ≡ accepted i → i .catalogue ≡ C
+its-catalogue C (refused e) i h = let z : _≡_ {A = ℕ} 0 1 = cc in absurd (omega arith)
+its-catalogue C (accepted Q) i h = let z : record { catalogue = C; query = Q } ≡ i = cc in ap (λ (j : Input). j .catalogue) (sym z)
+
+-- a tally to which nothing is added
+same-tally : (tally : List ℕ) → Bytes tally → length tally ≡ counterSize → (counterFits tally 0 ≡ true) × (bytesOf counterSize (counterAfter tally 0) ≡ tally)
+same-tally tally bytes n =
+    let z : counterAfter tally 0 ≡ numberAt tally 0 counterSize = omega arith in
+    let none : drop counterSize tally ≡ [] = drop-of-length-le tally {i = counterSize} (omega arith) in
+    let whole : tally ≡ bytesOf counterSize (numberAt tally 0 counterSize) ++ drop counterSize tally = number-written tally bytes 0 counterSize (omega arith) in
+    let size : eqb (length tally) counterSize ≡ true = rw n in
+    let sum : ltb (counterAfter tally 0) (2 ^ 64) ≡ true = ltb-yes (counterAfter tally 0) (2 ^ 64) (omega (arith, number-small tally bytes 0 counterSize)) in (
+      both size sum,
+      rw z (sym (whole ∙ rw none (append-nil (bytesOf counterSize (numberAt tally 0 counterSize))))),
+    )
+
+-- a run over no rows
+module _ (i : Input) (b q order listed looks tally : List ℕ) (z : rowCount i ≡ 0) where
+  no-selection : selection (taskOf i order) ≡ []
+  unfolding selection
+  no-selection = rw (z, no-rows)
+
+  no-probes : probes (taskOf i order) ≡ []
+  unfolding probes
+  no-probes = rw (z, no-lines)
+
+  tables-fit : tablesFit (predicateCount i) (bytesFor (rowCount i)) (length listed) (length looks) ≡ true
+  tables-fit =
+      let y : bytesFor (rowCount i) ≡ 0 = rw z in
+      rw (y, mul-zero (predicateCount i)) (both (leb-yes 0 (length listed) (omega arith)) (leb-yes 0 (length looks) (omega arith)))
+
+  no-rows-run : isOrder (predicateCount i) order ≡ true → Bytes tally → length tally ≡ counterSize
+      → runOn i (lent b q order listed looks tally) ≡ ran (packed (Accepted 0 0 0)) listed looks tally
+  unfolding runOn checked onesIn
+  no-rows-run o bytes n =
+      let t = same-tally tally bytes n in
+      rw (o, tables-fit, no-selection, no-probes, t .0, t .1)
+
+finds-nothing : Holds (findsNothing noRows)
+unfolding numberAt headerAt numbersAt countsAt firstOf columnOf columnsAt decodeCatalogue decodeInput runOf
+finds-nothing q order listed looks tally i e o bytes n =
+    let z : rowCount i ≡ 0 = ap (λ (C : Catalogue). C .rows) (its-catalogue _ (decodeQuery _ q) i e) in
+    rw e (no-rows-run i noRows q order listed looks tally z o bytes n)
+
+pub cases-hold : AllHold cases
+unfolding numberAt bytesOf headerAt textAt textsAt zerosAt validSlot validSlots numbersAt countsAt firstOf columnOf columnsAt decodeCatalogue folded same begins occurs plainKind numberTest textTest outcomeOf tagsIn kindFits rangeFits operandFits validPayload payloadAt isRepeated predicateField groupField memberField decodeTagged decodeQuery member update elem predicates decides someOutcomes due trace eval occurrences allBelow isOrder sumOf joined bitmap bitmaps onesIn isSelected traceAt decodeInput selection probes checked runOn runOf nested ones digitOnes xor
+cases-hold = (refl, (refl, (refl, (refl, (refl, (refl, (refl, (refl, (refl, (refl, (refl, (refl, (refl, (refl, (refl, (refl, (finds-nothing, (refl, (refl, (refl, (refl, tt)))))))))))))))))))))

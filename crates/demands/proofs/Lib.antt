@@ -1,0 +1,5 @@
+pub mod Cases
+pub mod DemandLaws
+pub mod DemandTables
+pub mod DemandRuns
+pub mod Demands

@@ -1,0 +1,298 @@
+-- THE THREE DEMANDS, sentence by sentence, over the definitions; proofs/Demands.antt proves each statement of this page.
+-- It speaks of the definitions `catalogueAnswer`, `questionAnswer`, `outcomeAnswer`, `runOf`; an exported call is tied to its definition by its
+-- contract, for any bytes lent, and a contract is one of total correctness: the call finishes. `Due`, `Strategy`, its working and `Right` stand on
+-- one screen in crates/strategy/specs/Strategy.antt; what document 01 allows as a catalogue and as a question in crates/catalogue/specs/Formed.antt
+-- and crates/query/specs/WellFormed.antt, their bytes in Encode.antt beside them.
+use Prim.Native.Nat.{ℕ, _+_, _*_, _/_, _%_, _^_, _≤_, _<_}
+use mathlib.Core.Path.{_≡_}
+use mathlib.Core.Bool.{true, false, _&&_, _||_}
+use mathlib.Core.Logic.{_↔_, _⊎_}
+use mathlib.Core.List.{List, _∷_, _++_}
+use lib.ListN.{length, take, drop}
+use Rattle.fields.specs.Decoded.{refused, accepted}
+use Rattle.fields.specs.Numbers.{numberAt, bytesOf, Bytes}
+use Rattle.catalogue.specs.Catalogue.{Catalogue}
+use Rattle.catalogue.specs.Decode.{decodeCatalogue}
+use Rattle.catalogue.specs.Encode.{encodeCatalogue}
+use Rattle.catalogue.specs.Formed.{Formed}
+use Rattle.predicate.specs.Meaning.{Predicate, outcome}
+use Rattle.predicate.specs.Payload.{tagsOf, validPayload}
+use Rattle.query.specs.Query.{Query}
+use Rattle.query.specs.Depth.{depth}
+use Rattle.query.specs.Decode.{payloadOf, decodeQuery}
+use Rattle.query.specs.Encode.{encode, payloads}
+use Rattle.query.specs.WellFormed.{ValidPredicate, WellFormed}
+use Rattle.strategy.specs.Tree.{Tree, leaf, Forest, none, more, all, any, eval}
+use Rattle.strategy.specs.Assignment.{Assignment, Among}
+use Rattle.strategy.specs.Order.{occurrences}
+use Rattle.strategy.specs.Strategy.{Formula, Due, Strategy, Right, probes, answerOf}
+use Rattle.strategy.specs.Ours.{ours}
+use Rattle.bitmaps.specs.Sums.{sumOf, countOf}
+use Rattle.bitmaps.specs.Bitmap.{bytesFor}
+use Rattle.bitmaps.specs.Bit.{bit}
+use Rattle.run.specs.Run.{predicateAt, assignmentAt}
+use Rattle.input.specs.Input.{Input, decodeInput}
+use Rattle.answers.specs.Word.{packed}
+use Rattle.answers.specs.Answers.{catalogueAnswer, questionAnswer, outcomeNumber, outcomeAnswer}
+use Rattle.demands.specs.Run.{Lent, Ran, rowCount, predicateCount, taskOf, lookCount, runOf}
+
+-- WORDS OF THIS PAGE
+
+-- "An operation's results travel to it packed in one eight-byte number": the number and the results that it holds
+abbrev pub Gives : (word number first second third : ℕ) → Type 0
+Gives w number first second third =
+    (w < 2 ^ 64) × (w % 2 ^ 8 ≡ number) × (w / 2 ^ 8 % 2 ^ 16 ≡ first) × (w / 2 ^ 24 % 2 ^ 16 ≡ second) × (w / 2 ^ 40 ≡ third)
+
+-- the words of the calls that only read
+abbrev pub catalogueWord : (catalogue : List ℕ) → ℕ
+catalogueWord b = packed (catalogueAnswer (decodeCatalogue b))
+
+abbrev pub questionWord : (catalogue question : List ℕ) → ℕ
+questionWord b q = packed (questionAnswer (decodeInput b q))
+
+abbrev pub outcomeWord : (catalogue question : List ℕ) → (entry condition : ℕ) → ℕ
+outcomeWord b q entry c = packed (outcomeAnswer (decodeInput b q) entry c)
+
+-- what a run is lent, and what it leaves: its word and the three tables; a lent slice is a list of bytes
+abbrev pub InBytes : Lent → Type 0
+InBytes l = Bytes (l .request .catalogue) × Bytes (l .request .question)
+
+abbrev pub after : Lent → Ran
+after l = runOf l
+
+-- document 01's "Catalogue": these bytes are those of a catalogue as it allows
+abbrev pub IsCatalogue : (bytes : List ℕ) → Catalogue → Type 0
+IsCatalogue b C = Formed C × (b ≡ encodeCatalogue C)
+
+-- document 01's "Question": these bytes are those of a question as it allows on this catalogue
+abbrev pub IsQuestion : Catalogue → (bytes : List ℕ) → Query → Type 0
+IsQuestion C q Q = WellFormed C Q × (q ≡ encode (payloads Q))
+
+-- catalogue and question break none of 1 to 14, and read as this
+abbrev pub Reads : (catalogue question : List ℕ) → Input → Type 0
+Reads b q i = IsCatalogue b (i .catalogue) × IsQuestion (i .catalogue) q (i .query)
+
+-- or this is the first that they break, as the walk front to back meets it: "Checking a question first gives 1 to 6 for the catalogue, then walks the question."
+abbrev pub FormBroken : (catalogue question : List ℕ) → ℕ → Type 0
+FormBroken b q e = (decodeCatalogue b ≡ refused e) ⊎ ((C : Catalogue) × (decodeCatalogue b ≡ accepted C) × (decodeQuery C q ≡ refused e))
+
+-- "A running order is n bytes holding each condition number once."
+abbrev pub RunningOrder : Input → (order : List ℕ) → Type 0
+RunningOrder i order = (length order ≡ predicateCount i) × ((c : ℕ) → c < predicateCount i → occurrences c order ≡ 1)
+
+-- "The listed table takes ceiling(E / 8) bytes"; "The looks table holds one such row for each condition": a row of bits is a line on this page,
+-- and rows are entries
+abbrev pub lineBytes : Input → ℕ
+lineBytes i = bytesFor (rowCount i)
+
+abbrev pub TablesFit : Input → (listed looks : List ℕ) → Type 0
+TablesFit i listed looks = (lineBytes i ≤ length listed) × (predicateCount i * lineBytes i ≤ length looks)
+
+-- the tally is eight bytes, and the sum does not pass 2^64 − 1
+abbrev pub TallyFits : Input → (order tally : List ℕ) → Type 0
+TallyFits i order tally = (length tally ≡ 8) × (numberAt tally 0 8 + lookCount (taskOf i order) < 2 ^ 64)
+
+-- a run that breaks nothing
+pub record Kept (l : Lent) (i : Input) : Type 0 where
+  pub forms : Reads (l .request .catalogue) (l .request .question) i
+  pub order : RunningOrder i (l .request .order)
+  pub tables : TablesFit i (l .listed) (l .looks)
+  pub tally : TallyFits i (l .request .order) (l .tally)
+
+-- "The first failing check in the stated order decides." "Running: 1 to 14; 15, ..; 16, ..; 17, .."
+pub data FirstBroken (l : Lent) (e : ℕ) : Type 0 where
+  badForm : FormBroken (l .request .catalogue) (l .request .question) e → FirstBroken l e
+  badOrder : (i : Input) → Reads (l .request .catalogue) (l .request .question) i → (RunningOrder i (l .request .order) → ⊥) → e ≡ 15 → FirstBroken l e
+  badTables : (i : Input) → Reads (l .request .catalogue) (l .request .question) i → RunningOrder i (l .request .order) → (TablesFit i (l .listed) (l .looks) → ⊥)
+      → e ≡ 16 → FirstBroken l e
+  badTally : (i : Input) → Reads (l .request .catalogue) (l .request .question) i → RunningOrder i (l .request .order) → TablesFit i (l .listed) (l .looks)
+      → (TallyFits i (l .request .order) (l .tally) → ⊥) → e ≡ 17 → FirstBroken l e
+
+-- "On an entry of a run the pattern is that entry's true outcomes": each condition's by document 01's rules
+abbrev pub pattern : Input → (entry : ℕ) → Assignment
+pattern i e = assignmentAt (i .catalogue) (i .query) e
+
+abbrev pub treeValue : Input → Formula
+treeValue i = eval (i .query .tree)
+
+-- on a pattern: "with the conditions earlier in the order at their true outcomes, some outcomes of the later ones make this condition alone
+-- decide the tree"
+abbrev pub LookDue : Input → (order : List ℕ) → Assignment → (c : ℕ) → Type 0
+LookDue i order a c = (earlier : List ℕ) × (later : List ℕ) × (order ≡ earlier ++ (c ∷ later)) × Due (treeValue i) c later a
+
+-- "entry e is the bit of weight 2^(e mod 8) in byte e div 8, unused bits zero": the line of the entries for which P holds
+pub record LineOf (P : ℕ → Type 0) (entries : ℕ) (line : List ℕ) : Type 0 where
+  pub size : length line ≡ bytesFor entries
+  pub bytes : Bytes line
+  pub bits : (e : ℕ) → e < entries → (bit line e ≡ true) ↔ P e
+  pub unused : (e : ℕ) → entries ≤ e → bit line e ≡ false
+
+-- the line of the listed table, and a condition's line of the looks table
+abbrev pub listedLine : Input → (listed : List ℕ) → List ℕ
+listedLine i listed = take (lineBytes i) listed
+
+abbrev pub looksLine : Input → (looks : List ℕ) → (c : ℕ) → List ℕ
+looksLine i looks c = take (lineBytes i) (drop (c * lineBytes i) looks)
+
+-- DEMAND 1: WHAT IS ACCEPTED
+
+-- what is accepted, for every list of bytes: exactly the catalogues as document 01 allows them, each by its own bytes; and there is a refusal
+-- exactly if the bytes are those of none
+abbrev pub Demand1CatalogueForm : Type 0
+Demand1CatalogueForm =
+    (b : List ℕ) → Bytes b
+    → ((C : Catalogue) → (decodeCatalogue b ≡ accepted C) ↔ IsCatalogue b C)
+    × (((e : ℕ) × (decodeCatalogue b ≡ refused e)) ↔ ((C : Catalogue) → IsCatalogue b C → ⊥))
+
+-- the same of questions, on any catalogue
+abbrev pub Demand1QuestionForm : Type 0
+Demand1QuestionForm =
+    (C : Catalogue) (q : List ℕ) → Bytes q
+    → ((Q : Query) → (decodeQuery C q ≡ accepted Q) ↔ IsQuestion C q Q)
+    × (((e : ℕ) × (decodeQuery C q ≡ refused e)) ↔ ((Q : Query) → IsQuestion C q Q → ⊥))
+
+-- "11, payload under two bytes, no such column, unknown kind, kind not fitting the column, or operand of wrong length or range": the check of a
+-- payload passes exactly the valid conditions
+abbrev pub Demand1Payload : Type 0
+Demand1Payload =
+    (C : Catalogue) (payload : List ℕ) → (validPayload (tagsOf C) payload ≡ true) ↔ ((p : Predicate) × ValidPredicate C p × (payload ≡ payloadOf p))
+
+-- so every catalogue as document 01 allows, and every question on it, has bytes that are accepted: no engine that declines one of them passes
+abbrev pub Demand1FormsWritten : Type 0
+Demand1FormsWritten =
+    (C : Catalogue) → Formed C
+    → Bytes (encodeCatalogue C) × (decodeCatalogue (encodeCatalogue C) ≡ accepted C)
+    × ((Q : Query) → WellFormed C Q → Bytes (encode (payloads Q)) × (decodeQuery C (encode (payloads Q)) ≡ accepted Q))
+
+-- and one encoding only: bytes of two are bytes of one
+abbrev pub Demand1WrittenOnce : Type 0
+Demand1WrittenOnce =
+    ((C C′ : Catalogue) → Formed C → Formed C′ → encodeCatalogue C ≡ encodeCatalogue C′ → C ≡ C′)
+    × ((C : Catalogue) (Q Q′ : Query) → WellFormed C Q → WellFormed C Q′ → encode (payloads Q) ≡ encode (payloads Q′) → Q ≡ Q′)
+
+-- DEMAND 1: THE CALLS
+
+-- "Where a catalogue, question, order, number or lent table breaks a form or limit of document 01, the call gives the refusal number due there,"
+abbrev pub Demand1Number : Type 0
+Demand1Number = (l : Lent) → InBytes l → (e : ℕ) → 0 < e → (after l .word % 2 ^ 8 ≡ e) ↔ FirstBroken l e
+
+-- "zero counts, and unaltered lent bytes;"
+abbrev pub Demand1Refused : Type 0
+Demand1Refused =
+    (l : Lent) (e : ℕ) → FirstBroken l e
+    → Gives (after l .word) e 0 0 0 × (after l .listed ≡ l .listed) × (after l .looks ≡ l .looks) × (after l .tally ≡ l .tally)
+
+-- "where none is broken it is accepted and finishes." "Accepted is 0"
+-- "Nothing is left to the caller to verify beforehand.": every `Lent` is spoken of, and a slice that is lent holds bytes
+abbrev pub Demand1Accepted : Type 0
+Demand1Accepted = (l : Lent) → InBytes l → (after l .word % 2 ^ 8 ≡ 0) ↔ ((i : Input) × Kept l i)
+
+-- "a catalogue check gives E and C"
+abbrev pub Demand1Catalogue : Type 0
+Demand1Catalogue =
+    (b : List ℕ)
+    → ((e : ℕ) → decodeCatalogue b ≡ refused e → Gives (catalogueWord b) e 0 0 0)
+    × ((C : Catalogue) → IsCatalogue b C → Gives (catalogueWord b) 0 (C .rows) (length (C .columns)) 0)
+
+-- "a question check n"
+abbrev pub Demand1Question : Type 0
+Demand1Question =
+    (b q : List ℕ)
+    → ((e : ℕ) → FormBroken b q e → Gives (questionWord b q) e 0 0 0)
+    × ((i : Input) → Reads b q i → Gives (questionWord b q) 0 (predicateCount i) 0 0)
+
+-- "one condition 1 (yes) or 0"; "1 to 14, then 18, no such entry or condition"
+abbrev pub Demand1Outcome : Type 0
+Demand1Outcome =
+    (b q : List ℕ) (entry c : ℕ)
+    → ((e : ℕ) → FormBroken b q e → Gives (outcomeWord b q entry c) e 0 0 0)
+    × ((i : Input) → Reads b q i → ((entry < rowCount i) × (c < predicateCount i) → ⊥) → Gives (outcomeWord b q entry c) 18 0 0 0)
+    × ((i : Input) → Reads b q i → entry < rowCount i → c < predicateCount i
+    → Gives (outcomeWord b q entry c) 0 (outcomeNumber (outcome (i .catalogue) (predicateAt (i .query) c) entry)) 0 0)
+
+-- the numbers of the forms are 1 to 6 and 7 to 14, never 0, and what is accepted keeps the limits: entries, columns, conditions, depth
+abbrev pub Demand1Limits : Type 0
+Demand1Limits =
+    ((b : List ℕ) (e : ℕ) → decodeCatalogue b ≡ refused e → (1 ≤ e) × (e ≤ 6))
+    × ((C : Catalogue) (q : List ℕ) (e : ℕ) → decodeQuery C q ≡ refused e → (7 ≤ e) × (e ≤ 14))
+    × ((b q : List ℕ) (i : Input) → Reads b q i
+    → (rowCount i ≤ 2048) × (1 ≤ length (i .catalogue .columns)) × (length (i .catalogue .columns) ≤ 16)
+    × (1 ≤ predicateCount i) × (predicateCount i ≤ 64) × (depth (i .query .tree) ≤ 8))
+
+-- DEMAND 2
+
+-- "the question's tree, read as document 000 reads a boolean formula": each member of an all-of group, some member of an any-of group
+abbrev pub Demand2Tree : Type 0
+Demand2Tree =
+    (a : Assignment)
+    → ((c : ℕ) → eval (leaf c) a ≡ a c)
+    × (eval (all none) a ≡ true) × ((t : Tree ℕ) (f : Forest ℕ) → eval (all (more t f)) a ≡ (eval t a && eval (all f) a))
+    × (eval (any none) a ≡ false) × ((t : Tree ℕ) (f : Forest ℕ) → eval (any (more t f)) a ≡ (eval t a || eval (any f) a))
+
+-- "An entry is listed exactly if the question's tree .. holds of it under document 01's rules for conditions."
+abbrev pub Demand2Listed : Type 0
+Demand2Listed = (l : Lent) (i : Input) → Kept l i → LineOf (λ e. treeValue i (pattern i e) ≡ true) (rowCount i) (listedLine i (after l .listed))
+
+-- "A look is registered exactly if, with the conditions earlier in the order at their true outcomes, some outcomes of the later ones make
+-- this condition alone decide the tree."
+abbrev pub Demand2Looks : Type 0
+Demand2Looks =
+    (l : Lent) (i : Input) → Kept l i → (c : ℕ) → c < predicateCount i
+    → LineOf (λ e. LookDue i (l .request .order) (pattern i e) c) (rowCount i) (looksLine i (after l .looks) c)
+
+-- "The counts are those of listed entries and of looks."
+abbrev pub Demand2Counts : Type 0
+Demand2Counts =
+    (l : Lent) (i : Input) → Kept l i
+    → Gives (after l .word) 0 (countOf (bit (listedLine i (after l .listed))) (rowCount i)) 0
+    (sumOf (λ c. countOf (bit (looksLine i (after l .looks) c)) (rowCount i)) (predicateCount i))
+
+-- "at most E × n"; "The house tally is eight lent bytes; a run adds its look count to it."
+abbrev pub Demand2Tally : Type 0
+Demand2Tally =
+    (l : Lent) (i : Input) → Kept l i
+    → (after l .word / 2 ^ 40 ≡ lookCount (taskOf i (l .request .order))) × (lookCount (taskOf i (l .request .order)) ≤ rowCount i * predicateCount i)
+    × (after l .tally ≡ bytesOf 8 (numberAt (l .tally) 0 8 + lookCount (taskOf i (l .request .order))))
+    × (numberAt (after l .tally) 0 8 ≡ numberAt (l .tally) 0 8 + lookCount (taskOf i (l .request .order)))
+
+-- "Longer tables keep their further bytes."
+abbrev pub Demand2Further : Type 0
+Demand2Further =
+    (l : Lent) (i : Input) → Kept l i
+    → (drop (lineBytes i) (after l .listed) ≡ drop (lineBytes i) (l .listed))
+    × (drop (predicateCount i * lineBytes i) (after l .looks) ≡ drop (predicateCount i * lineBytes i) (l .looks))
+
+-- DEMAND 3
+
+-- "Take any accepted question, any running order of its conditions, and any way of working through them that is right whatever the pattern of
+-- outcomes: on every pattern it makes each look that ours makes, and so at least as many."
+-- "A way chooses at each condition in turn whether to look, and at the end its answer, from the question, the order, its place there and what
+-- it has seen on that entry.": a `Strategy`, chosen after question and order; its looks are its `probes`.
+-- "A pattern is any yes or no for each condition, as if they were unconnected.": an `Assignment`.
+abbrev pub Demand3 : Type 0
+Demand3 =
+    (b q : List ℕ) (i : Input) → Reads b q i → (order : List ℕ) → RunningOrder i order
+    → (way : Strategy) → Right (treeValue i) order way → (a : Assignment)
+    → ((c : ℕ) → Among c (probes (ours (treeValue i) order) a order) → Among c (probes way a order))
+    × (length (probes (ours (treeValue i) order) a order) ≤ length (probes way a order))
+
+-- "Ours is a way, and right whatever the pattern.": "on every pattern these looks and this answer are those of demand 2"
+abbrev pub Demand3Ours : Type 0
+Demand3Ours =
+    (b q : List ℕ) (i : Input) → Reads b q i → (order : List ℕ) → RunningOrder i order → (a : Assignment)
+    → ((c : ℕ) → Among c (probes (ours (treeValue i) order) a order) ↔ LookDue i order a c)
+    × (answerOf (ours (treeValue i) order) a order ≡ treeValue i a)
+
+-- "A way's looks over all the entries are the sum of the numbers of its looks on each.": those of ours are the look count
+abbrev pub Demand3Count : Type 0
+Demand3Count =
+    (b q : List ℕ) (i : Input) → Reads b q i → (order : List ℕ) → RunningOrder i order
+    → lookCount (taskOf i order) ≡ sumOf (λ e. length (probes (ours (treeValue i) order) (pattern i e) order)) (rowCount i)
+
+-- "For every accepted run and every such way for its question and order, the looks registered on an entry are among those the way makes there,
+-- and the look count is at most the way's looks over all the entries."
+abbrev pub Demand3Run : Type 0
+Demand3Run =
+    (l : Lent) (i : Input) → Kept l i → (way : Strategy) → Right (treeValue i) (l .request .order) way
+    → ((e c : ℕ) → e < rowCount i → c < predicateCount i → bit (looksLine i (after l .looks) c) e ≡ true → Among c (probes way (pattern i e) (l .request .order)))
+    × (after l .word / 2 ^ 40 ≤ sumOf (λ e. length (probes way (pattern i e) (l .request .order))) (rowCount i))

@@ -1,0 +1,4 @@
+pub mod Run
+pub mod Demands
+pub mod Parish
+pub mod Cases

@@ -1,0 +1,120 @@
+-- A whole run: the word and the three lent tables afterwards, for every input.
+use Prim.Native.Nat.{ℕ, _+_, _*_, _^_}
+use mathlib.Core.Bool.{Bool, _&&_}
+use mathlib.Core.List.{List, [], _∷_, _++_}
+use lib.ListN.{length}
+use lib.Dec.{leb, ltb, eqb}
+use Rattle.fields.specs.Decoded.{Decoded, refused, accepted}
+use Rattle.fields.specs.Numbers.{numberAt, bytesOf}
+use Rattle.strategy.specs.Order.{isOrder}
+use Rattle.fields.specs.Output.{putFront}
+use Rattle.bitmaps.specs.Bitmap.{bytesFor, bitmap, bitmaps, onesIn}
+use Rattle.run.specs.Run.{Task, isSelected, isProbed}
+use Rattle.input.specs.Input.{Input, decodeInput}
+use Rattle.answers.specs.declared.word.Answer.the-variants.{Refused, Accepted}
+use Rattle.answers.specs.Word.{packed}
+use Rattle.answers.specs.Refusals.{notOrder, tableTooShort, counterRefused}
+use Rattle.answers.specs.Checks.{Checks, checked}
+
+-- what a run is asked: the bytes of a catalogue, a question and an order
+pub record Request : Type 0 where
+  pub catalogue : List ℕ
+  pub question : List ℕ
+  pub order : List ℕ
+
+-- what a run is lent: the request, and the three tables that it may write
+pub record Lent : Type 0 where
+  pub request : Request
+  pub listed : List ℕ
+  pub looks : List ℕ
+  pub tally : List ℕ
+
+abbrev pub lent : (catalogue question order listed looks tally : List ℕ) → Lent
+lent b q order listed looks tally =
+    record { request = record { catalogue = b; question = q; order = order }; listed = listed; looks = looks; tally = tally }
+
+-- what a run leaves: the packed word, the listed table, the looks table, the tally
+pub record Ran : Type 0 where
+  pub word : ℕ
+  pub listed : List ℕ
+  pub looks : List ℕ
+  pub tally : List ℕ
+
+abbrev pub ran : ℕ → (listed looks tally : List ℕ) → Ran
+ran w listed looks tally = record { word = w; listed = listed; looks = looks; tally = tally }
+
+-- "A refusal gives its number, with zeros for every other result, and alters nothing lent."
+abbrev pub refuse : ℕ → (listed looks tally : List ℕ) → Ran
+refuse e listed looks tally = ran (packed (Refused e)) listed looks tally
+
+abbrev pub rowCount : Input → ℕ
+rowCount i = i .catalogue .rows
+
+abbrev pub predicateCount : Input → ℕ
+predicateCount i = length (i .query .predicates)
+
+-- what a run works on
+abbrev pub taskOf : Input → (order : List ℕ) → Task
+taskOf i order = record { catalogue = i .catalogue; query = i .query; order = order }
+
+-- the listed table: our selection bitmap
+unfoldable pub selection : Task → List ℕ
+selection T = bitmap (isSelected T) (T .catalogue .rows)
+
+-- the looks table: our probe bitmaps
+unfoldable pub probes : Task → List ℕ
+probes T = bitmaps (isProbed T) (length (T .query .predicates)) (T .catalogue .rows)
+
+-- "The found count is the number of ones in the listed table, the look count that of the looks table"
+abbrev pub foundCount : Task → ℕ
+foundCount T = onesIn (selection T)
+
+abbrev pub lookCount : Task → ℕ
+lookCount T = onesIn (probes T)
+
+-- "The house tally is eight lent bytes; a run adds its look count to it."
+abbrev pub counterSize : ℕ
+counterSize = 8
+
+abbrev pub counterAfter : (tally : List ℕ) → (look-count : ℕ) → ℕ
+counterAfter tally k = numberAt tally 0 counterSize + k
+
+-- tables of so many bytes hold a line of this size, and one for each of n predicates
+abbrev pub tablesFit : (n size : ℕ) → (listed looks : ℕ) → Bool
+tablesFit n size listed looks = leb size listed && leb (n * size) looks
+
+abbrev pub counterFits : (tally : List ℕ) → (look-count : ℕ) → Bool
+counterFits tally k = eqb (length tally) counterSize && ltb (counterAfter tally k) (2 ^ 64)
+
+-- the checks that need no work: "15, the order is not n bytes holding each number once; 16, a table is too short"
+abbrev pub requestChecks : (n size : ℕ) → (order : List ℕ) → (listed looks : ℕ) → Checks
+requestChecks n size order listed looks = (notOrder, isOrder n order) ∷ (tableTooShort, tablesFit n size listed looks) ∷ []
+
+-- and the one that needs the count: "17, the tally is not eight bytes or the sum would pass 2^64 − 1"
+abbrev pub counterChecks : (tally : List ℕ) → (look-count : ℕ) → Checks
+counterChecks tally k = (counterRefused, counterFits tally k) ∷ []
+
+abbrev pub runChecks : Input → Lent → Checks
+runChecks i l =
+    requestChecks (predicateCount i) (bytesFor (rowCount i)) (l .request .order) (length (l .listed)) (length (l .looks))
+    ++ counterChecks (l .tally) (lookCount (taskOf i (l .request .order)))
+
+-- an accepted run: the two tables go out, their ones are its counts, and the tally gains the looks
+abbrev pub acceptWith : (selection probes listed looks tally : List ℕ) → Ran
+acceptWith S P listed looks tally =
+    ran (packed (Accepted (onesIn S) 0 (onesIn P))) (putFront S listed) (putFront P looks) (bytesOf counterSize (counterAfter tally (onesIn P)))
+
+abbrev pub accept : Task → Lent → Ran
+accept T l = acceptWith (selection T) (probes T) (l .listed) (l .looks) (l .tally)
+
+-- "Running: .. 15, .. 16, .. 17, .."
+unfoldable pub runOn : Input → Lent → Ran
+runOn i l = checked (runChecks i l) (λ e. refuse e (l .listed) (l .looks) (l .tally)) (accept (taskOf i (l .request .order)) l)
+
+abbrev pub inputThen : Decoded Input → Lent → Ran
+inputThen (refused e) l = refuse e (l .listed) (l .looks) (l .tally)
+inputThen (accepted i) l = runOn i l
+
+-- "Running: 1 to 14; .."
+unfoldable pub runOf : Lent → Ran
+runOf l = inputThen (decodeInput (l .request .catalogue) (l .request .question)) l

@@ -1,0 +1,75 @@
+-- `begin` meets its contract: by the layout and the reader, the first check that fails, or all in hand.
+use native.Mathlib.Omega.{arith}
+use mathlib.Core.Path.{refl}
+use Rattle.catalogue.specs.Decode.{decodeCatalogue}
+use Rattle.input.proofs.Inputs.{laid-columns-few, laid-tags-length, layout-refuses, question-refuses, input-begun}
+use borrow.Author.Needs.{needs}
+use Rattle.input.proofs.begin.begin.Statement.{statement}
+use Rattle.input.proofs.begin.begin.Tie as tie
+
+lay-out-requires : tie.Need-lay-out-requires
+lay-out-requires c κs = search needs
+
+returns : tie.Need-returns
+returns c = record { refuses = λ ne. layout-refuses _ _ _ (c .before .before .before .lay-out .ensures) ne; accepts = λ z. absurd (c .if1 .taken z) }
+
+array-share-prefix-tags : tie.Need-array-share-prefix-tags
+array-share-prefix-tags c = let l = c .before .before .before .lay-out in laid-columns-few _ (l .result) (decodeCatalogue (c .before .before .before .before .before .before .before .before .args .catalogue .now)) (l .ensures)
+
+slice-aggregate-read-query : tie.Need-slice-aggregate-read-query
+slice-aggregate-read-query c = let l = c .before .before .before .before .lay-out in laid-tags-length _ (l .result) (decodeCatalogue (c .before .before .before .before .before .before .before .before .before .args .catalogue .now)) (l .ensures)
+
+read-query-requires : tie.Need-read-query-requires
+read-query-requires c κs = search needs
+
+enum-known-e : tie.Need-enum-known-e
+enum-known-e c = search needs
+
+enum-known-n : tie.Need-enum-known-n
+enum-known-n c = search needs
+
+same-length : tie.Need-same-length
+same-length c = search needs
+
+same-length-2 : tie.Need-same-length-2
+same-length-2 c = search needs
+
+returns-2 : tie.Need-returns-2
+returns-2 c =
+    let a = c .before .before .before .before .before .before .before in
+    let l = a .before .before .before .before .before .before .before .lay-out in
+    let h = question-refuses _ _ (l .result) _ refl _ _ (l .ensures) (a .before .before .before .before .if1 .left) (a .read-query .ensures) _ (c .before .e .given .1) in
+    record { refuses = λ ne. (h .0, h .1); accepts = λ z. absurd (omega (arith, h .2)) }
+
+same-length-3 : tie.Need-same-length-3
+same-length-3 c = search needs
+
+same-length-4 : tie.Need-same-length-4
+same-length-4 c = search needs
+
+returns-3 : tie.Need-returns-3
+returns-3 c =
+    let a = c .before .before .before .before .before .before .before in
+    let l = a .before .before .before .before .before .before .before .lay-out in
+    record {
+      refuses = λ ne. absurd (ne refl);
+      accepts = λ z. input-begun _ _ (l .result) _ refl _ _ (l .ensures) (a .before .before .before .before .if1 .left) (a .read-query .ensures) _ (c .before .n .given .1);
+    }
+
+pub begin-spec : {M : Type 1} → statement M
+begin-spec =
+    tie.close
+    (tie.spec
+    lay-out-requires
+    returns
+    array-share-prefix-tags
+    slice-aggregate-read-query
+    read-query-requires
+    enum-known-e
+    enum-known-n
+    same-length
+    same-length-2
+    returns-2
+    same-length-3
+    same-length-4
+    returns-3)

@@ -1,0 +1,58 @@
+// How every call on a question begins: the catalogue laid out, the question read against it.
+use catalogue::format::Column;
+use query::whole::Reading;
+ghost use Rattle.query.specs.Ancestors.{tables};
+ghost use Rattle.query.specs.Handed.{TablesSized};
+ghost use Rattle.input.specs.Begun.{Begins};
+
+// The number of the first check that fails, or 0 and what the later steps ask for.
+pub struct Beginning {
+    pub refusal: u8,
+    pub rows: usize,
+    pub n: usize,
+    pub tags: [u8; Column::LIMIT],
+    pub starts: [usize; Column::LIMIT],
+}
+
+// Lays out the catalogue and reads the question against it, into the tables of the readers.
+pub fn begin(
+    catalogue: &[u8],
+    question: &[u8],
+    places: &mut [usize],
+    ancestors: &mut [u8],
+) -> Beginning
+    requires { ⌜ TablesSized (tables (now places) (now ancestors)) ⌝ }
+    ensures { λ r. ⌜ Begins (now (catalogue .entry)) (now (question .entry)) r (tables (now (places .exit)) (now (ancestors .exit))) ⌝ }
+{
+    let layout = catalogue::layout::lay_out(catalogue);
+    let refusal = layout.refusal;
+    let rows = layout.rows;
+    let columns = layout.columns;
+    let tags = layout.tags;
+    let starts = layout.starts;
+    if refusal != 0 {
+        return Beginning {
+            refusal,
+            rows,
+            n: 0,
+            tags,
+            starts,
+        };
+    }
+    match query::whole::read_query(&tags[..columns], question, places, ancestors) {
+        Reading::Refused(e) => Beginning {
+            refusal: e,
+            rows,
+            n: 0,
+            tags,
+            starts,
+        },
+        Reading::Accepted { n } => Beginning {
+            refusal: 0,
+            rows,
+            n,
+            tags,
+            starts,
+        },
+    }
+}

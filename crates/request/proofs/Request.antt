@@ -1,0 +1,56 @@
+-- The checks of a request one by one, and what holds where none fails.
+use Prim.Native.Nat.{ℕ, _*_, _^_, _≤_, _<_}
+use native.Mathlib.Nat.{mul-le-mul-right}
+use native.Mathlib.Omega.{arith}
+use mathlib.Core.Path.{_≡_, sym, ap, _∙_}
+use mathlib.Core.Bool.{Bool, true, false}
+use mathlib.Core.List.{List}
+use lib.Dec.{leb}
+use borrow.Author.Tests.{le-leb, lt-leb}
+use Rattle.strategy.specs.Bools.{and-parts, leb-le}
+use Rattle.strategy.specs.Order.{isOrder}
+use Rattle.bitmaps.specs.Table.{lineSize}
+use Rattle.query.specs.Format.{predicateLimit}
+use Rattle.answers.specs.Refusals.{notOrder, tableTooShort}
+use Rattle.answers.specs.Checks.{checked, refusalBy}
+use Rattle.answers.proofs.Checks.{AllHold, none-fails}
+use Rattle.demands.specs.Run.{requestChecks}
+
+module _ (n size : ℕ) (order : List ℕ) (listed looks : ℕ) where
+  abbrev first : ℕ
+  first = refusalBy (requestChecks n size order listed looks)
+
+  pub not-order : isOrder n order ≡ false → notOrder ≡ first
+  unfolding checked
+  not-order o = rw o
+
+  module _ (o : isOrder n order ≡ true) where
+    pub listed-short : listed < size → tableTooShort ≡ first
+    unfolding checked
+    listed-short h = rw (o, lt-leb size listed h)
+
+    pub looks-short : size ≤ listed → looks < n * size → tableTooShort ≡ first
+    unfolding checked
+    looks-short g h = rw (o, le-leb size listed g, lt-leb (n * size) looks h)
+
+    pub request-holds : size ≤ listed → n * size ≤ looks → 0 ≡ first
+    unfolding checked
+    request-holds g h = rw (o, le-leb size listed g, le-leb (n * size) looks h)
+
+  module _ (k : ℕ) (e : k ≡ first) (z : k ≡ 0) where
+    pub request-kept : AllHold (requestChecks n size order listed looks)
+    request-kept = none-fails (requestChecks n size order listed looks) (omega arith, (omega arith, tt)) (sym e ∙ z)
+
+    pub request-order : isOrder n order ≡ true
+    request-order = request-kept .0
+
+    pub request-room : (size ≤ listed) × (n * size ≤ looks)
+    request-room =
+        let p = and-parts (leb size listed) (leb (n * size) looks) (request-kept .1 .0) in
+        (leb-le size listed (p .0), leb-le (n * size) looks (p .1))
+
+pub order-is : (k n : ℕ) (order : List ℕ) (x v : Bool) → k ≡ n → x ≡ isOrder k order → x ≡ v → isOrder n order ≡ v
+order-is k n order x v e f g = ap (λ (j : ℕ). isOrder j order) (sym e) ∙ sym f ∙ g
+
+pub lines-fit : (n size : ℕ) → n ≤ predicateLimit → size ≤ lineSize → n * size < 2 ^ 64
+lines-fit n size h k = let z : n * size ≤ predicateLimit * size = mul-le-mul-right size h in omega arith

@@ -1,0 +1,48 @@
+// All rows of a request, worked into tables of the run's own.
+use input::begin::Beginning;
+use plan::table::Plan;
+use run::rows::Extent;
+ghost use mathlib.Core.Path.{_≡_};
+ghost use mathlib.Core.Bool.{true};
+ghost use Rattle.strategy.specs.Order.{isOrder};
+ghost use Rattle.query.specs.Format.{predicateLimit};
+ghost use Rattle.query.specs.Ancestors.{tables};
+ghost use Rattle.run.specs.Worked.{Empty};
+ghost use Rattle.input.specs.Begun.{Begun};
+ghost use Rattle.work.specs.Worked.{RunWorked};
+
+// Fills the plan from what was read, then works the rows block after block.
+pub fn work(
+    catalogue: &[u8],
+    question: &[u8],
+    order: &[u8],
+    begun: Beginning,
+    places: &[usize],
+    ancestors: &[u8],
+    selected: &mut [u8],
+    probes: &mut [u8],
+)
+    requires { ⌜ Begun (now catalogue) (now question) begun (tables (now places) (now ancestors)) × (isOrder (begun .n) (now order) ≡ true) ⌝ }
+    requires { ⌜ Empty 1 (now selected) × Empty predicateLimit (now probes) ⌝ }
+    ensures { λ _. ⌜ RunWorked (now (catalogue .entry)) (now (question .entry)) (now (order .entry)) (begun .n) (now (selected .exit)) (now (probes .exit)) ⌝ }
+{
+    let n = begun.n;
+    let tags = begun.tags;
+    let starts = begun.starts;
+    let mut plan = [0usize; Plan::TABLE];
+    plan::table::fill_plan(&tags, &starts, question, places, n, &mut plan);
+    let extent = Extent {
+        rows: begun.rows,
+        start: sets::below(fields::number::narrow(n)),
+    };
+    run::rows::work_rows(
+        catalogue,
+        question,
+        order,
+        &plan,
+        ancestors,
+        extent,
+        selected,
+        probes,
+    );
+}
