@@ -102,7 +102,13 @@ same-length-4 : tie.Need-same-length-4
 same-length-4 c = search needs
 
 returns-4 : tie.Need-returns-4
-returns-4 c = files-print _ _ _ _ _ _ (c .before .before .write-consultation .ensures) (omega (arith, (rw (c .before .before .before .before .before .before .before .before .before .before .before .before .before .before .first .given .1) at (c .before .before .before .before .before .before .before .before .before .before .before .before .before .before .before .before .before .before .before .before .before .before .before .before .before .read-file .ensures)))) (omega (arith, (rw (c .before .before .before .before .before .before .before .before .before .before .before .second .given .1) at (c .before .before .before .before .before .before .before .before .before .before .before .before .before .before .before .before .before .before .before .before .before .read-file2 .ensures)))) (omega (arith, (rw (c .before .before .before .before .before .before .before .before .third .given .1) at (c .before .before .before .before .before .before .before .before .before .before .before .before .before .before .before .before .before .read-file3 .ensures))))
+returns-4 c =
+    let s = c .before .before .before .before .before .before .before .before in
+    let f = s .before .before .before .before .before .before in
+    let first = rw (f .first .given .1) at (f .before .before .before .before .before .before .before .before .before .before .before .read-file .ensures) in
+    let second = rw (s .before .before .before .second .given .1) at (f .before .before .before .before .before .before .before .read-file2 .ensures) in
+    let third = rw (s .third .given .1) at (f .before .before .before .read-file3 .ensures) in
+    files-print _ _ _ _ _ _ (c .before .before .write-consultation .ensures) (omega (arith, first)) (omega (arith, second)) (omega (arith, third))
 
 pub consult-spec : {M : Type 1} → statement M
 consult-spec =

@@ -44,7 +44,12 @@ same-length : tie.Need-same-length
 same-length c = search needs
 
 returns : tie.Need-returns
-returns c = let a = c .before .before .before .before .before .before .before .before .before .before .before .before .before .before .before .before .before .before .before .before .before .args in consulted (a .catalogue .now) (a .question .now) (a .order .now) _ _ (c .before .before .before .before .before .before .before .before .before .lay-out .ensures) refl _ _ _ _ _ _ _ (c .before .before .before .before .before .before .before .before .before .before .before .before .before .searchroom-run .ensures) (rw (c .before .before .before .before .before .before .before .before .number-in .ensures, c .before .before .before .before .before .before .before .first-in .ensures, c .before .before .before .before .before .before .third-in .ensures) at (c .before .before .write-register .ensures))
+returns c =
+    let t = c .before .before .before .before .before .before in
+    let o = t .before .before .before in
+    let a = o .before .before .before .before .before .before .before .before .before .before .before .before .args in
+    let told = rw (t .before .before .number-in .ensures, t .before .first-in .ensures, t .third-in .ensures) at (c .before .before .write-register .ensures) in
+    consulted (a .catalogue .now) (a .question .now) (a .order .now) _ _ (o .lay-out .ensures) refl _ _ _ _ _ _ _ (o .before .before .before .before .searchroom-run .ensures) told
 
 pub write-consultation-spec : {M : Type 1} → statement M
 write-consultation-spec =

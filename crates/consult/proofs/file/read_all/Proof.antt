@@ -51,22 +51,31 @@ returns-2 c = counts _ _ (omega arith)
 add-at : tie.Need-add-at Inv-loop μ-loop
 add-at c =
     let e = c .before .before .before .before .before .before in
-    let h = rw (c .before .before .some .given .1) at (e .read-some .ensures) in
+    let r = c .before .before .before .before .before .before in
+    let t = c .before .before in
+    let h = rw (t .some .given .1) at (e .read-some .ensures) in
     omega
-    (arith, (part-inside (c .before .before .before .before .before .before .before .before .before .loop .at) (c .before .before .some .given .0 .0) (c .before .before .before .before .before .before .before .before .before .loop .space) (e .read-some .last .1 .0) (omega arith) (e .read-some .kept .1 .0) (h .0)))
+    (arith, (part-inside (c .before .before .before .before .before .before .before .before .before .loop .at) (t .some .given .0 .0) (c .before .before .before .before .before .before .before .before .before .loop .space) (e .read-some .last .1 .0) (omega arith) (e .read-some .kept .1 .0) (h .0)))
 
 loop-less : tie.Need-loop-less Inv-loop μ-loop
 loop-less c =
     let e = c .before .before .before .before .before .before .before .before .before in
-    let h = rw (c .before .before .some .given .1) at (c .before .before .before .before .before .before .read-some .ensures) in
-    omega
-    (arith, (part-inside (e .loop .at) (c .before .before .some .given .0 .0) (e .loop .space) (c .before .before .before .before .before .before .read-some .last .1 .0) (omega arith) (c .before .before .before .before .before .before .read-some .kept .1 .0) (h .0)), same-len-mid (e .loop .at) (length (e .loop .space) - e .loop .at) (e .loop .space) (c .before .before .before .before .before .before .read-some .last .1 .0) (c .before .before .before .before .before .before .read-some .kept .1 .0))
+    let r = c .before .before .before .before .before .before in
+    let t = c .before .before in
+    let h = rw (t .some .given .1) at (r .read-some .ensures) in
+    let i = part-inside (e .loop .at) (t .some .given .0 .0) (e .loop .space) (r .read-some .last .1 .0) (omega arith) (r .read-some .kept .1 .0) (h .0) in
+    let m = same-len-mid (e .loop .at) (length (e .loop .space) - e .loop .at) (e .loop .space) (r .read-some .last .1 .0) (r .read-some .kept .1 .0) in
+    omega (arith, i, m)
 
 loop-again : tie.Need-loop-again Inv-loop μ-loop
 loop-again c =
     let e = c .before .before .before .before .before .before .before .before .before in
-    let h = rw (c .before .before .some .given .1) at (c .before .before .before .before .before .before .read-some .ensures) in
-    (omega (arith, (part-inside (e .loop .at) (c .before .before .some .given .0 .0) (e .loop .space) (c .before .before .before .before .before .before .read-some .last .1 .0) (omega arith) (c .before .before .before .before .before .before .read-some .kept .1 .0) (h .0)), same-len-mid (e .loop .at) (length (e .loop .space) - e .loop .at) (e .loop .space) (c .before .before .before .before .before .before .read-some .last .1 .0) (c .before .before .before .before .before .before .read-some .kept .1 .0)), omega (arith, same-len-mid (e .loop .at) (length (e .loop .space) - e .loop .at) (e .loop .space) (c .before .before .before .before .before .before .read-some .last .1 .0) (c .before .before .before .before .before .before .read-some .kept .1 .0)))
+    let r = c .before .before .before .before .before .before in
+    let t = c .before .before in
+    let h = rw (t .some .given .1) at (r .read-some .ensures) in
+    let i = part-inside (e .loop .at) (t .some .given .0 .0) (e .loop .space) (r .read-some .last .1 .0) (omega arith) (r .read-some .kept .1 .0) (h .0) in
+    let m = same-len-mid (e .loop .at) (length (e .loop .space) - e .loop .at) (e .loop .space) (r .read-some .last .1 .0) (r .read-some .kept .1 .0) in
+    (omega (arith, i, m), omega (arith, m))
 
 slice-aggregate-read : tie.Need-slice-aggregate-read Inv-loop μ-loop
 slice-aggregate-read c = search needs
