@@ -1,4 +1,5 @@
 pub mod Looks
 pub mod Pairs
 pub mod Found
+pub mod Heads
 pub mod Passing

@@ -8,7 +8,7 @@ use lib.Dec.{eqb}
 use lib.Bits.{bitAnd, bitOr}
 use Rattle.strategy.specs.Bools.{and-parts, same?}
 use Rattle.predicate.specs.Meaning.{fold}
-use Rattle.filters.specs.Look.{looks, MayFold, lookOf}
+use Rattle.filters.specs.Look.{looks, covers, coverOf, MayFold, lookOf}
 
 -- a test of all numbers below one, computed, and carried to each of them
 abbrev everyBelow : ℕ → (ℕ → Bool) → Bool
@@ -23,12 +23,25 @@ below-gives (suc n) test e x h =
     = elim [ inl q ↦ ap test q ∙ p .0 | inr ne ↦ below-gives n test (p .1) x (omega arith) ] in
     go (same? x n)
 
--- each byte passes the test for its own fold
-own-passes : everyBelow 256 (λ x. looks (lookOf (fold x)) x) ≡ true
-own-passes = refl
+-- each byte passes the test for its own fold, and the one pair
+own-looked : everyBelow 256 (λ x. looks (lookOf (fold x)) x) ≡ true
+own-looked = refl
+
+own-covered : everyBelow 256 (λ x. covers (coverOf (lookOf (fold x))) x) ≡ true
+own-covered = refl
 
 pub may-fold : (c : ℕ) → MayFold c (lookOf c)
-may-fold c x h f = ap (λ (k : ℕ). looks (lookOf k) x) (sym f) ∙ below-gives 256 (λ y. looks (lookOf (fold y)) y) own-passes x h
+may-fold c x h f = record {
+  looked = ap (λ (k : ℕ). looks (lookOf k) x) (sym f) ∙ below-gives 256 (λ y. looks (lookOf (fold y)) y) own-looked x h;
+  covered = ap (λ (k : ℕ). covers (coverOf (lookOf k)) x) (sym f) ∙ below-gives 256 (λ y. covers (coverOf (lookOf (fold y))) y) own-covered x h;
+}
+
+-- the pair of 255 and 255 passes every byte
+all-covered : everyBelow 256 (λ x. eqb (bitOr x 255) 255) ≡ true
+all-covered = refl
+
+pub any-covered : (x : ℕ) → x < 256 → eqb (bitOr x 255) 255 ≡ true
+any-covered = below-gives 256 (λ x. eqb (bitOr x 255) 255) all-covered
 
 flag-or : (s t : Bool) → bitOr (cond s 1 0) (cond t 1 0) ≡ cond (s || t) 1 0
 flag-or true true = refl

@@ -1,4 +1,4 @@
--- The filters of a slot: two bytes of the operand at their distance, where they would stand.
+-- The filter of contains: two bytes of the operand at their distance, anywhere in the slot.
 use Prim.Native.Nat.{ℕ, zero, suc, _+_, _-_, _≤_, _<_}
 use mathlib.Core.Path.{_≡_}
 use mathlib.Core.Bool.{Bool, false, _&&_, _||_, cond}
@@ -23,10 +23,6 @@ pub record PairFor (o : List ℕ) (k : Pair) : Type 0 where
 
 abbrev pub pairAt : List ℕ → (p q : ℕ) → Pair → Bool
 pairAt b p q k = looks (k .first) (getD b p 0) && looks (k .second) (getD b q 0)
-
--- equals and begins: the text's length from low to high, and the pair at the text's first place
-abbrev pub frontPasses : List ℕ → (p low high : ℕ) → Pair → Bool
-frontPasses b p low high k = (leb low (getD b p 0) && leb (getD b p 0) high) && pairAt b (p + 1) (p + 1 + k .gap) k
 
 -- the pair at one of n places
 unfoldable pub pairIn : List ℕ → (p q : ℕ) → Pair → (n : ℕ) → Bool

@@ -1,3 +1,4 @@
 pub mod Look
 pub mod Block
 pub mod Filter
+pub mod Head

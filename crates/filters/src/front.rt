@@ -1,29 +1,32 @@
-// The filter of equals and begins: the text's length, and the pair where the operand would stand, at the text's front.
-use crate::pair::Pair;
+// The filter of equals and begins: the due rows whose slots have a head that passes.
+use crate::head::Head;
 use catalogue::format::Text;
-ghost use mathlib.Core.Path.{_≡_};
-ghost use Prim.Native.Nat.{_+_, _≤_};
-ghost use lib.ListN.{length};
-ghost use Rattle.catalogue.specs.Format.{textTag, slotSize};
+ghost use Prim.Native.Nat.{_+_};
+ghost use Rattle.catalogue.specs.Format.{textTag};
+ghost use Rattle.sets.specs.Set.{belowSet};
 ghost use Rattle.sets.specs.Kept.{KeptBy};
 ghost use Rattle.filters.specs.Block.{DueRows, slotOf};
-ghost use Rattle.filters.specs.Filter.{frontPasses};
+ghost use Rattle.filters.specs.Head.{headPasses};
 
-// The slot at p.
-fn slot_passes(b: &[u8], p: usize, low: u8, high: u8, k: Pair) -> bool
-    requires { ⌜ (p + slotSize ≤ length (now b)) × (k .gap ≤ 8) ⌝ }
-    ensures { λ r. ⌜ r ≡ frontPasses (now (b .entry)) p low high k ⌝ }
+// Of a whole block, straight through: no bit waits for another.
+fn all_front(b: &[u8], start: usize, base: usize, k: Head) -> u64
+    requires { ⌜ DueRows (now b) textTag start base (belowSet 64) ⌝ }
+    ensures { λ r. ⌜ KeptBy (λ d. headPasses (now (b .entry)) (slotOf start (base + d)) k) (belowSet 64) r ⌝ }
 {
-    let n = b[p];
-    let at = p + 1;
-    let fits = crate::look::bit(low <= n) & crate::look::bit(n <= high);
-    fits & crate::pair::pair_at(b, at, at + k.gap, k) != 0
+    let mut met: u64 = 0;
+    let mut d: usize = 64;
+    while 0 < d {
+        d -= 1;
+        let passes = crate::head::head_passes(b, start + Text::SLOT_SIZE * (base + d), k);
+        met = met + met + sets::bit(passes);
+    }
+    met
 }
 
-// The due rows whose slots pass.
-pub fn front_rows(b: &[u8], start: usize, base: usize, low: u8, high: u8, k: Pair, due: u64) -> u64
-    requires { ⌜ DueRows (now b) textTag start base due × (k .gap ≤ 8) ⌝ }
-    ensures { λ r. ⌜ KeptBy (λ d. frontPasses (now (b .entry)) (slotOf start (base + d)) low high k) due r ⌝ }
+// Of the rows in a word.
+fn due_front(b: &[u8], start: usize, base: usize, k: Head, due: u64) -> u64
+    requires { ⌜ DueRows (now b) textTag start base due ⌝ }
+    ensures { λ r. ⌜ KeptBy (λ d. headPasses (now (b .entry)) (slotOf start (base + d)) k) due r ⌝ }
 {
     let mut left = due;
     let mut met: u64 = 0;
@@ -31,9 +34,20 @@ pub fn front_rows(b: &[u8], start: usize, base: usize, low: u8, high: u8, k: Pai
         let d = sets::first(left);
         let row = base + fields::number::widen(d);
         let next = sets::rest(left);
-        let passes = slot_passes(b, start + Text::SLOT_SIZE * row, low, high, k);
+        let passes = crate::head::head_passes(b, start + Text::SLOT_SIZE * row, k);
         met = met | sets::kept(passes, d);
         left = next;
     }
     met
+}
+
+// By the shorter way.
+pub fn front_rows(b: &[u8], start: usize, base: usize, k: Head, due: u64) -> u64
+    requires { ⌜ DueRows (now b) textTag start base due ⌝ }
+    ensures { λ r. ⌜ KeptBy (λ d. headPasses (now (b .entry)) (slotOf start (base + d)) k) due r ⌝ }
+{
+    if due == sets::below(64) {
+        return all_front(b, start, base, k);
+    }
+    due_front(b, start, base, k, due)
 }

@@ -1,7 +1,8 @@
 // Which bytes may fold to a byte: a test that passes all of them, and perhaps others.
 ghost use mathlib.Core.Path.{_≡_};
 ghost use mathlib.Core.Bool.{cond};
-ghost use Rattle.filters.specs.Look.{looks, MayFold};
+ghost use Prim.Native.Nat.{_<_};
+ghost use Rattle.filters.specs.Look.{looks, coverOf, MayFold};
 
 // A byte passes where, with the mask's bits set, it is the value; so for either pair.
 pub struct Look {
@@ -9,6 +10,12 @@ pub struct Look {
     pub value: u8,
     pub mask2: u8,
     pub value2: u8,
+}
+
+// One pair: a byte passes where, with the mask's bits set, it is the value.
+pub struct Cover {
+    pub mask: u8,
+    pub value: u8,
 }
 
 // A flag of 0 and 1, so that tests are joined with no branch.
@@ -35,5 +42,16 @@ pub fn look_of(c: u8) -> Look
         value: c,
         mask2: mask,
         value2: c,
+    }
+}
+
+// One pair that passes what either pair of a look passes.
+pub fn cover_of(look: Look) -> Cover
+    ensures { λ r. ⌜ (r ≡ coverOf look) × (r .mask < 256) × (r .value < 256) ⌝ }
+{
+    let mask = look.mask | look.mask2 | (look.value ^ look.value2);
+    Cover {
+        mask,
+        value: look.value | mask,
     }
 }

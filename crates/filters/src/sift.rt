@@ -1,5 +1,4 @@
 // The filter of each text kind that has an operand.
-use catalogue::format::Text;
 use predicate::kind::Kind;
 ghost use Prim.Native.Nat.{_+_, _≤_, _<_};
 ghost use lib.ListN.{length};
@@ -23,14 +22,10 @@ pub fn sift(
     requires { ⌜ Folds (now table) × DueRows (now b) textTag start base due × (equalsKind ≤ kind) × (kind ≤ containsKind) × (0 < length (now operand)) × (length (now operand) ≤ textLimit) ⌝ }
     ensures { λ r. ⌜ Sifted (λ d. textTest kind (now (operand .entry)) (textOf (now (b .entry)) start (base + d))) due r ⌝ }
 {
-    let k = crate::pair::pair_of(table, operand);
     if kind == Kind::CONTAINS {
+        let k = crate::pair::pair_of(table, operand);
         return crate::windows::windows_rows(b, start, base, k, due);
     }
-    let low = fields::number::narrow(operand.len());
-    if kind == Kind::EQUALS {
-        return crate::front::front_rows(b, start, base, low, low, k, due);
-    }
-    let high = fields::number::narrow(Text::LIMIT);
-    crate::front::front_rows(b, start, base, low, high, k, due)
+    let k = crate::head::head_of(table, kind, operand);
+    crate::front::front_rows(b, start, base, k, due)
 }

@@ -6,6 +6,7 @@ ghost use mathlib.Core.Path.{_≡_};
 ghost use Prim.Native.Nat.{_+_, _≤_};
 ghost use lib.ListN.{length};
 ghost use Rattle.catalogue.specs.Format.{textTag, slotSize};
+ghost use Rattle.sets.specs.Set.{belowSet};
 ghost use Rattle.sets.specs.Kept.{KeptBy};
 ghost use Rattle.filters.specs.Block.{DueRows, slotOf};
 ghost use Rattle.filters.specs.Filter.{windowsPass};
@@ -30,8 +31,23 @@ fn slot_passes(b: &[u8], p: usize, k: Pair) -> bool
     any != 0
 }
 
-// The due rows whose slots pass.
-pub fn windows_rows(b: &[u8], start: usize, base: usize, k: Pair, due: u64) -> u64
+// Of a whole block, straight through: no bit waits for another.
+fn all_windows(b: &[u8], start: usize, base: usize, k: Pair) -> u64
+    requires { ⌜ DueRows (now b) textTag start base (belowSet 64) × (k .gap ≤ 8) ⌝ }
+    ensures { λ r. ⌜ KeptBy (λ d. windowsPass (now (b .entry)) (slotOf start (base + d)) k) (belowSet 64) r ⌝ }
+{
+    let mut met: u64 = 0;
+    let mut d: usize = 64;
+    while 0 < d {
+        d -= 1;
+        let passes = slot_passes(b, start + Text::SLOT_SIZE * (base + d), k);
+        met = met + met + sets::bit(passes);
+    }
+    met
+}
+
+// Of the rows in a word.
+fn due_windows(b: &[u8], start: usize, base: usize, k: Pair, due: u64) -> u64
     requires { ⌜ DueRows (now b) textTag start base due × (k .gap ≤ 8) ⌝ }
     ensures { λ r. ⌜ KeptBy (λ d. windowsPass (now (b .entry)) (slotOf start (base + d)) k) due r ⌝ }
 {
@@ -46,4 +62,15 @@ pub fn windows_rows(b: &[u8], start: usize, base: usize, k: Pair, due: u64) -> u
         left = next;
     }
     met
+}
+
+// The due rows whose slots pass, by the shorter way.
+pub fn windows_rows(b: &[u8], start: usize, base: usize, k: Pair, due: u64) -> u64
+    requires { ⌜ DueRows (now b) textTag start base due × (k .gap ≤ 8) ⌝ }
+    ensures { λ r. ⌜ KeptBy (λ d. windowsPass (now (b .entry)) (slotOf start (base + d)) k) due r ⌝ }
+{
+    if due == sets::below(64) {
+        return all_windows(b, start, base, k);
+    }
+    due_windows(b, start, base, k, due)
 }

@@ -11,17 +11,7 @@ pub fn texts_blank(b: &[u8], start: usize, base: usize, due: u64) -> u64
     requires { ⌜ DueRows (now b) textTag start base due ⌝ }
     ensures { λ r. ⌜ KeptBy (λ d. textBlank (textOf (now (b .entry)) start (base + d))) due r ⌝ }
 {
-    let mut left = due;
-    let mut met: u64 = 0;
-    while left != 0 {
-        let d = sets::first(left);
-        let row = base + fields::number::widen(d);
-        let next = sets::rest(left);
-        let text = catalogue::column::text_at(b, start, row);
-        met = met | sets::kept(text.len() == 0, d);
-        left = next;
-    }
-    met
+    filters::front::front_rows(b, start, base, filters::head::blank_head(), due)
 }
 
 // The due rows whose texts pass the test of a kind below the opposites, each text handed on as a part.

@@ -56,6 +56,46 @@ unfolding gathered
 gathered-same P Q zero e = refl
 gathered-same P Q (suc n) e = ap₂ (λ (p : Bool) (g : ℕ). bitOf p + 2 * g) (e 0) (gathered-same (λ d. P (suc d)) (λ d. Q (suc d)) n (λ d. e (suc d)))
 
+-- a loop down through the 64 numbers: those from k on are gathered
+pub record Gathering (P : ℕ → Bool) (k met : ℕ) : Type 0 where
+  pub inside : k ≤ 64
+  pub gathered-is : met ≡ gathered (λ d. P (k + d)) (64 - k)
+
+pub gathering-none : (P : ℕ → Bool) → Gathering P 64 0
+unfolding gathered
+gathering-none P = record { inside = omega arith; gathered-is = refl }
+
+module _ {P : ℕ → Bool} {k met : ℕ} (G : Gathering P k met) where
+  pub gathering-end : k ≡ 0 → KeptBy P (belowSet 64) met
+  gathering-end e =
+      let m : met ≡ gathered (λ d. P (0 + d)) 64 = rw e at (G .gathered-is) in
+      let s = gathered-same (λ d. P (0 + d)) P 64 (λ d. ap P (zero-add d)) in
+      rw (m ∙ s) (gathered-kept P 64)
+
+  module _ (more : 0 < k) where
+    pub gathering-small : met < 2 ^ 63
+    gathering-small =
+        let g = gathered-lt (λ d. P (k + d)) (64 - k) in
+        let e = G .gathered-is in
+        let m = pow-mono {i = 64 - k} {j = 63} (omega arith) in
+        omega arith
+
+    pub gathering-next : {bit : ℕ} → bit ≡ bitOf (P (k - 1)) → Gathering P (k - 1) (met + met + bit)
+    unfolding gathered
+    gathering-next {bit} f = record {
+      inside = let l = G .inside in omega arith;
+      gathered-is =
+          let l = G .inside in
+          let n : 64 - (k - 1) ≡ suc (64 - k) = omega arith in
+          let z : k - 1 + 0 ≡ k - 1 = omega arith in
+          let s = gathered-same (λ d. P (k + d)) (λ d. P (k - 1 + suc d)) (64 - k) (λ d. ap P (omega arith)) in
+          let first : bit ≡ bitOf (P (k - 1 + 0)) = f ∙ ap (λ (j : ℕ). bitOf (P j)) (sym z) in
+          sum met bit (gathered (λ d. P (k - 1 + suc d)) (64 - k)) (bitOf (P (k - 1 + 0))) (G .gathered-is ∙ s) first ∙ ap (gathered (λ d. P (k - 1 + d))) (sym n);
+    }
+      where
+        sum : (x y u v : ℕ) → x ≡ u → y ≡ v → x + x + y ≡ v + 2 * u
+        sum x y u v e f = omega arith
+
 -- the first m, and the n after them
 pub gathered-cat : (P : ℕ → Bool) (m n : ℕ) → gathered P (m + n) ≡ gathered P m + 2 ^ m * gathered (λ d. P (m + d)) n
 unfolding gathered

@@ -66,8 +66,9 @@ pub fn rest(x: u64) -> u64
     x & (x - 1)
 }
 
-fn bit(test: bool) -> u64
-    ensures { λ r. ⌜ r ≡ cond test 1 0 ⌝ }
+// 1 where a test passes, else 0.
+pub fn bit(test: bool) -> u64
+    ensures { λ r. ⌜ (r ≡ cond test 1 0) × (r ≤ 1) ⌝ }
 {
     if test { 1 } else { 0 }
 }

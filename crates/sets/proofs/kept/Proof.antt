@@ -13,7 +13,7 @@ shl-result : tie.Need-shl-result
 shl-result c = search needs
 
 returns : tie.Need-returns
-returns c = ap (λ (x : ℕ). x * 2 ^ c .before .args .d % 2 ^ 64) (c .bit .ensures) ∙ shift-kept (c .before .args .test) (c .before .args .d) (c .before .pre)
+returns c = ap (λ (x : ℕ). x * 2 ^ c .before .args .d % 2 ^ 64) (c .bit .ensures .0) ∙ shift-kept (c .before .args .test) (c .before .args .d) (c .before .pre)
 
 pub kept-spec : {M : Type 1} → statement M
 kept-spec = tie.close (tie.spec bit-requires shl-result returns)

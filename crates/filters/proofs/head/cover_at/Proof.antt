@@ -1,0 +1,53 @@
+-- `cover_at` meets its contract: the length, any byte, or those that fold as the operand's.
+use native.Mathlib.Omega.{arith}
+use Rattle.filters.proofs.Heads.{cover-any, cover-size, cover-byte}
+use borrow.Author.Needs.{needs}
+use Rattle.filters.proofs.head.cover_at.Statement.{statement}
+use Rattle.filters.proofs.head.cover_at.Tie as tie
+
+narrow-requires : tie.Need-narrow-requires
+narrow-requires c κs = search needs
+
+returns : tie.Need-returns
+returns c = cover-size _ _ (c .before .before .if1 .taken) (c .before .if2 .taken) (c .narrow .ensures) (c .before .before .before .before .before .pre .1)
+
+returns-2 : tie.Need-returns-2
+returns-2 c = cover-any _ _ _
+
+returns-3 : tie.Need-returns-3
+returns-3 c = cover-any _ _ _
+
+sub-fold-byte : tie.Need-sub-fold-byte
+sub-fold-byte c = search needs
+
+shared-slice-read-fold-byte : tie.Need-shared-slice-read-fold-byte
+shared-slice-read-fold-byte c = search needs
+
+fold-byte-requires : tie.Need-fold-byte-requires
+fold-byte-requires c κs = search needs
+
+look-of-requires : tie.Need-look-of-requires
+look-of-requires c κs = search needs
+
+cover-of-requires : tie.Need-cover-of-requires
+cover-of-requires c κs = search needs
+
+returns-4 : tie.Need-returns-4
+returns-4 c =
+    let k = c .cover-of .ensures in
+    cover-byte _ _ (omega arith) (omega arith) (c .before .before .fold-byte .ensures) (c .before .look-of .ensures) (k .0) (k .1) (k .2)
+
+pub cover-at-spec : {M : Type 1} → statement M
+cover-at-spec =
+    tie.close
+    (tie.spec
+    narrow-requires
+    returns
+    returns-2
+    returns-3
+    sub-fold-byte
+    shared-slice-read-fold-byte
+    fold-byte-requires
+    look-of-requires
+    cover-of-requires
+    returns-4)
