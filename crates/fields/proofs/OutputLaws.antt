@@ -4,8 +4,8 @@ use native.Mathlib.Nat.{zero-add}
 use native.Mathlib.Numerals.{add-one}
 use native.Mathlib.Omega.{arith}
 use mathlib.Core.Path.{_≡_, refl, sym, ap, ap₂, _∙_}
-use mathlib.Core.List.{List, [], _∷_, _++_, append-assoc}
-use lib.ListN.{length, take, drop, getD, set, length-append}
+use mathlib.Core.List.{List, [], _∷_, _++_, append-assoc, append-nil}
+use lib.ListN.{length, take, drop, getD, set, length-append, drop-of-length-le}
 use lib.Seq.{length-take-le, take-at, drop-at, drop-drop, take-length, set-split, append-snoc, paste, paste-zero, paste-suc}
 use Rattle.fields.specs.Output.{putAt, putFront, Wrote}
 
@@ -64,3 +64,7 @@ wrote-byte at b old l = record {
 -- from the first byte on
 pub put-front : (new old : List ℕ) → putAt 0 new old ≡ putFront new old
 put-front new old = ap (λ (k : ℕ). new ++ drop k old) (zero-add (length new))
+
+-- all of it
+pub put-whole : (new old : List ℕ) → length old ≡ length new → putAt 0 new old ≡ new
+put-whole new old e = put-front new old ∙ rw (drop-of-length-le old {i = length new} (omega arith)) (append-nil new)

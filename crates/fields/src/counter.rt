@@ -1,7 +1,9 @@
 // The house tally, our counter: a number of eight lent bytes.
 ghost use mathlib.Core.Path.{_≡_};
+ghost use Prim.Native.Nat.{_+_, _≤_};
 ghost use lib.ListN.{length};
 ghost use Rattle.fields.specs.Numbers.{numberAt, bytesOf};
+ghost use Rattle.fields.specs.Output.{putAt};
 
 pub struct Counter;
 
@@ -11,28 +13,29 @@ impl Counter {
     pub const LIMIT: u64 = 0xffff_ffff_ffff_ffff;
 }
 
-// The number of the counter's eight bytes.
-pub fn eight_bytes(b: &[u8]) -> u64
-    requires { ⌜ length (now b) ≡ 8 ⌝ }
-    ensures { λ r. ⌜ r ≡ numberAt (now (b .entry)) 0 8 ⌝ }
+// The number of the eight bytes at a place; summed from the low half on, which compiles to one load.
+pub fn eight_bytes(b: &[u8], at: usize) -> u64
+    requires { ⌜ at + 8 ≤ length (now b) ⌝ }
+    ensures { λ r. ⌜ r ≡ numberAt (now (b .entry)) at 8 ⌝ }
 {
-    let two = crate::number::widen64(b[0]) * 256 + crate::number::widen64(b[1]);
-    let four = (two * 256 + crate::number::widen64(b[2])) * 256 + crate::number::widen64(b[3]);
-    let six = (four * 256 + crate::number::widen64(b[4])) * 256 + crate::number::widen64(b[5]);
-    (six * 256 + crate::number::widen64(b[6])) * 256 + crate::number::widen64(b[7])
+    crate::number::four_bytes(b, at + 4) as u64
+        + crate::number::four_bytes(b, at) as u64 * 0x1_0000_0000
 }
 
-// Writes a number to the counter.
-pub fn put_eight_bytes(b: &mut [u8], x: u64)
-    requires { ⌜ length (now b) ≡ 8 ⌝ }
-    ensures { λ _. ⌜ now (b .exit) ≡ bytesOf 8 x ⌝ }
+// Writes a number to the eight bytes at a place.
+pub fn put_eight_bytes(b: &mut [u8], at: usize, x: u64)
+    requires { ⌜ at + 8 ≤ length (now b) ⌝ }
+    ensures { λ _. ⌜ now (b .exit) ≡ putAt at (bytesOf 8 x) (now (b .entry)) ⌝ }
 {
-    b[0] = (x / 0x100_0000_0000_0000 % 256) as u8;
-    b[1] = (x / 0x1_0000_0000_0000 % 256) as u8;
-    b[2] = (x / 0x100_0000_0000 % 256) as u8;
-    b[3] = (x / 0x1_0000_0000 % 256) as u8;
-    b[4] = (x / 0x100_0000 % 256) as u8;
-    b[5] = (x / 0x1_0000 % 256) as u8;
-    b[6] = (x / 0x100 % 256) as u8;
-    b[7] = (x % 256) as u8;
+    let bytes = [
+        (x / 0x100_0000_0000_0000 % 256) as u8,
+        (x / 0x1_0000_0000_0000 % 256) as u8,
+        (x / 0x100_0000_0000 % 256) as u8,
+        (x / 0x1_0000_0000 % 256) as u8,
+        (x / 0x100_0000 % 256) as u8,
+        (x / 0x1_0000 % 256) as u8,
+        (x / 0x100 % 256) as u8,
+        (x % 256) as u8,
+    ];
+    crate::output::put(b, at, &bytes);
 }

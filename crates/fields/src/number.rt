@@ -11,12 +11,6 @@ pub fn widen(x: u8) -> usize
     x as usize
 }
 
-fn widen32(x: u8) -> u32
-    ensures { λ r. ⌜ (r ≡ x) × (r < 256) ⌝ }
-{
-    x as u32
-}
-
 pub fn widen64(x: u8) -> u64
     ensures { λ r. ⌜ (r ≡ x) × (r < 256) ⌝ }
 {
@@ -44,8 +38,5 @@ pub fn four_bytes(b: &[u8], at: usize) -> u32
     requires { ⌜ at + 4 ≤ length (now b) ⌝ }
     ensures { λ r. ⌜ r ≡ numberAt (now (b .entry)) at 4 ⌝ }
 {
-    widen32(b[at]) * 16777216
-        + widen32(b[at + 1]) * 65536
-        + widen32(b[at + 2]) * 256
-        + widen32(b[at + 3])
+    two_bytes(b, at) as u32 * 65536 + two_bytes(b, at + 2) as u32
 }

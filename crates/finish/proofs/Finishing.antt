@@ -7,7 +7,9 @@ use mathlib.Core.List.{List}
 use lib.ListN.{length}
 use borrow.Author.Tests.{eq-eqb, ne-eqb, lt-ltb, le-ltb}
 use Rattle.fields.specs.Numbers.{numberAt, bytesOf}
-use Rattle.fields.specs.Output.{putFront}
+use Rattle.fields.specs.Output.{putFront, putAt}
+use Rattle.fields.proofs.Laws.{length-bytes}
+use Rattle.fields.proofs.OutputLaws.{put-whole}
 use Rattle.bitmaps.specs.Bitmap.{onesIn}
 use Rattle.bitmaps.specs.Table.{lineSize, linesOf}
 use Rattle.query.specs.Format.{predicateLimit}
@@ -39,9 +41,10 @@ module _ (S P : List ℕ) (n size : ℕ) (listed looks tally : List ℕ) where
 
     pub counter-taken : looked ≤ 18446744073709551615 - before → before ≤ 18446744073709551615
         → (found : ℕ) (listed' looks' tally' : List ℕ) → found ≡ onesIn (linesOf size S 1)
-        → listed' ≡ putFront (linesOf size S 1) listed → looks' ≡ putFront lines looks → tally' ≡ bytesOf 8 (before + looked)
+        → listed' ≡ putFront (linesOf size S 1) listed → looks' ≡ putFront lines looks → tally' ≡ putAt 0 (bytesOf counterSize (before + looked)) tally
         → ran (packed (Accepted found 0 looked)) listed' looks' tally' ≡ finished S P n size listed looks tally
     unfolding finished checked
     counter-taken h k found listed' looks' tally' f p q t =
         let z : counterAfter tally (onesIn lines) < 2 ^ 64 = omega arith in
-        rw (eq-eqb (length tally) counterSize eight, lt-ltb (counterAfter tally (onesIn lines)) (2 ^ 64) z, f, p, q, t, b, l)
+        let w = put-whole (bytesOf counterSize (before + looked)) tally (omega (arith, length-bytes counterSize (before + looked))) in
+        rw (eq-eqb (length tally) counterSize eight, lt-ltb (counterAfter tally (onesIn lines)) (2 ^ 64) z, f, p, q, t, w, b, l)

@@ -30,13 +30,13 @@ pub fn finish(
     }
     let found = bitmaps::ones::count_lines(selected, 1, size);
     let looked = bitmaps::ones::count_lines(probes, n, size);
-    let before = fields::counter::eight_bytes(tally);
+    let before = fields::counter::eight_bytes(tally, 0);
     if Counter::LIMIT - before < looked {
         return Answer::Refused(Refusal::COUNTER_REFUSED);
     }
     bitmaps::copy::copy_lines(selected, listed, 1, size);
     bitmaps::copy::copy_lines(probes, looks, n, size);
-    fields::counter::put_eight_bytes(tally, before + looked);
+    fields::counter::put_eight_bytes(tally, 0, before + looked);
     Answer::Accepted {
         first: found,
         second: 0,

@@ -1,84 +1,59 @@
--- `put_eight_bytes` meets its contract: the eight stores are those of the bytes in order.
-use native.Mathlib.Omega.{arith}
-use lib.ListN.{length-set}
-use Rattle.fields.proofs.Laws.{eight-stored}
+-- `put_eight_bytes` meets its contract: the piece that is written is the bytes of the number.
+use Rattle.fields.proofs.Laws.{bytes-eight}
+use Rattle.fields.proofs.OutputLaws.{wrote-same}
 use borrow.Author.Needs.{needs}
 use Rattle.fields.proofs.counter.put_eight_bytes.Statement.{statement}
 use Rattle.fields.proofs.counter.put_eight_bytes.Tie as tie
 
-cast-b : tie.Need-cast-b
-cast-b c = search needs
+cast-t7 : tie.Need-cast-t7
+cast-t7 c = search needs
 
-slice-write-b : tie.Need-slice-write-b
-slice-write-b c = search needs
+cast-t10 : tie.Need-cast-t10
+cast-t10 c = search needs
 
-cast-b-2 : tie.Need-cast-b-2
-cast-b-2 c = search needs
+cast-t13 : tie.Need-cast-t13
+cast-t13 c = search needs
 
-slice-write-b-2 : tie.Need-slice-write-b-2
-slice-write-b-2 c = search needs
+cast-t16 : tie.Need-cast-t16
+cast-t16 c = search needs
 
-cast-b-3 : tie.Need-cast-b-3
-cast-b-3 c = search needs
+cast-t19 : tie.Need-cast-t19
+cast-t19 c = search needs
 
-slice-write-b-3 : tie.Need-slice-write-b-3
-slice-write-b-3 c = search needs
+cast-t22 : tie.Need-cast-t22
+cast-t22 c = search needs
 
-cast-b-4 : tie.Need-cast-b-4
-cast-b-4 c = search needs
+cast-t25 : tie.Need-cast-t25
+cast-t25 c = search needs
 
-slice-write-b-4 : tie.Need-slice-write-b-4
-slice-write-b-4 c = search needs
+cast-t27 : tie.Need-cast-t27
+cast-t27 c = search needs
 
-cast-b-5 : tie.Need-cast-b-5
-cast-b-5 c = search needs
+slice-aggregate-put : tie.Need-slice-aggregate-put
+slice-aggregate-put c = search needs
 
-slice-write-b-5 : tie.Need-slice-write-b-5
-slice-write-b-5 c = simp length-set (omega arith)
-
-cast-b-6 : tie.Need-cast-b-6
-cast-b-6 c = search needs
-
-slice-write-b-6 : tie.Need-slice-write-b-6
-slice-write-b-6 c = simp length-set (omega arith)
-
-cast-b-7 : tie.Need-cast-b-7
-cast-b-7 c = search needs
-
-slice-write-b-7 : tie.Need-slice-write-b-7
-slice-write-b-7 c = simp length-set (omega arith)
-
-cast-b-8 : tie.Need-cast-b-8
-cast-b-8 c = search needs
-
-slice-write-b-8 : tie.Need-slice-write-b-8
-slice-write-b-8 c = simp length-set (omega arith)
+put-requires : tie.Need-put-requires
+put-requires c κs = search needs
 
 same-length : tie.Need-same-length
 same-length c = search needs
 
 returns : tie.Need-returns
-returns c = eight-stored (c .args .x) (c .args .b .now) (c .pre)
+returns c = wrote-same (bytes-eight (c .before .before .before .before .before .before .args .x)) (c .before .before .put .ensures) .bytes
 
 pub put-eight-bytes-spec : {M : Type 1} → statement M
 put-eight-bytes-spec =
     tie.close
     (tie.spec
-    cast-b
-    slice-write-b
-    cast-b-2
-    slice-write-b-2
-    cast-b-3
-    slice-write-b-3
-    cast-b-4
-    slice-write-b-4
-    cast-b-5
-    slice-write-b-5
-    cast-b-6
-    slice-write-b-6
-    cast-b-7
-    slice-write-b-7
-    cast-b-8
-    slice-write-b-8
+    cast-t7
+    cast-t10
+    cast-t13
+    cast-t16
+    cast-t19
+    cast-t22
+    cast-t25
+    cast-t27
+    slice-aggregate-put
+    put-requires
     same-length
     returns)

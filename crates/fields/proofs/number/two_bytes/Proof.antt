@@ -1,6 +1,7 @@
--- `two_bytes` meets its contract: the sum is the number of two bytes, by `number-two`.
+-- `two_bytes` meets its contract: a byte is the number of one byte, and two are joined.
+use Prim.Native.Nat.{_+_}
 use native.Mathlib.Omega.{arith}
-use Rattle.fields.proofs.Laws.{number-two}
+use Rattle.fields.proofs.Laws.{number-joined, number-one}
 use borrow.Author.Needs.{needs}
 use Rattle.fields.proofs.number.two_bytes.Statement.{statement}
 use Rattle.fields.proofs.number.two_bytes.Tie as tie
@@ -27,7 +28,9 @@ add-result : tie.Need-add-result
 add-result c = search needs
 
 returns : tie.Need-returns
-returns c = (omega (arith, number-two (c .before .before .before .before .before .args .b .now) (c .before .before .before .before .before .args .at)), omega arith)
+returns c =
+    let a = c .before .before .before .before .before .args in
+    (omega (arith, number-joined (a .b .now) (a .at) 1 1, number-one (a .b .now) (a .at), number-one (a .b .now) (a .at + 1)), omega arith)
 
 pub two-bytes-spec : {M : Type 1} → statement M
 two-bytes-spec =
