@@ -4,7 +4,7 @@ use answers::word::Answer;
 use input::begin::Beginning;
 use plan::table::Plan;
 use query::ancestors::Ancestors;
-use query::table::Predicate;
+use query::format::Predicate;
 ghost use mathlib.Core.Path.{_≡_};
 ghost use Rattle.input.specs.Input.{decodeInput};
 ghost use Rattle.input.specs.Begun.{BegunPlaces};

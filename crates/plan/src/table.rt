@@ -1,5 +1,6 @@
 // The plan of a run: five numbers for each predicate, filled once, so that no row looks up a column.
-use query::table::Predicate;
+use query::format::Predicate;
+use query::table::PredicateRecord;
 ghost use mathlib.Core.Path.{_≡_};
 ghost use Prim.Native.Nat.{_≤_, _<_};
 ghost use lib.ListN.{length};
@@ -18,7 +19,7 @@ impl Plan {
 }
 
 // Writes down where the outcome of predicate c comes from.
-fn put_access(tags: &[u8], starts: &[usize], r: Predicate, c: usize, plan: &mut [usize])
+fn put_access(tags: &[u8], starts: &[usize], r: PredicateRecord, c: usize, plan: &mut [usize])
     requires { ⌜ (c < predicateLimit) × (length (now plan) ≡ planSize) × HasColumn (now tags) (now starts) r ⌝ }
     ensures { λ _. ⌜ PutAccess c (accessOf (now (tags .entry)) (now (starts .entry)) r) (now (plan .entry)) (now (plan .exit)) ⌝ }
 {
@@ -48,7 +49,13 @@ pub fn plan_predicate(
 }
 
 // Plans the first n predicates of the table, over columns with these tags and starts.
-fn plan_records(tags: &[u8], starts: &[usize], table: &[Predicate], n: usize, plan: &mut [usize])
+fn plan_records(
+    tags: &[u8],
+    starts: &[usize],
+    table: &[PredicateRecord],
+    n: usize,
+    plan: &mut [usize],
+)
     requires { ⌜ (n ≤ predicateLimit) × (n ≤ length (now table)) × (length (now plan) ≡ planSize) × HaveColumns (now tags) (now starts) (recordIn (now table)) n ⌝ }
     ensures { λ _. ⌜ Planned (now (tags .entry)) (now (starts .entry)) (recordIn (now (table .entry))) (now (plan .exit)) n ⌝ }
 {
@@ -72,7 +79,7 @@ pub fn fill_plan(
     requires { ⌜ Located (now q) (now places) n × (length (now plan) ≡ planSize) × HaveColumns (now tags) (now starts) (recordAt (now q) (now places)) n ⌝ }
     ensures { λ _. ⌜ Planned (now (tags .entry)) (now (starts .entry)) (recordAt (now (q .entry)) (now (places .entry))) (now (plan .exit)) n ⌝ }
 {
-    let mut table = [Predicate {
+    let mut table = [PredicateRecord {
         column: 0,
         kind: 0,
         place: 0,

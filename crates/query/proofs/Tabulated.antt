@@ -8,7 +8,7 @@ use native.Mathlib.Numerals.{add-one}
 use native.Mathlib.Omega.{arith}
 use lib.ListN.{length, getD, set, drop, length-append, length-drop, List·getD-append}
 use lib.Seq.{drop-cons, append-snoc, set-at, getD-at}
-use Rattle.query.specs.declared.table.Predicate.{Predicate}
+use Rattle.query.specs.declared.table.PredicateRecord.{PredicateRecord}
 use Rattle.query.specs.Places.{Located}
 use Rattle.query.specs.Table.{recordAt, noRecord, recordIn, recordsOf, HasRecord}
 
@@ -34,9 +34,9 @@ module _ (q places : List ℕ) where
     | inr k ↦ List·getD-append (recordsOf q places n) _ noRecord c (omega (arith, length-records n)) ∙ record-listed n c k
   ]
 
-  module _ (table : List Predicate) where
+  module _ (table : List PredicateRecord) where
     -- the list where the first c records are stored
-    abbrev pub filled : ℕ → List Predicate
+    abbrev pub filled : ℕ → List PredicateRecord
     filled c = recordsOf q places c ++ drop c table
 
     pub filled-none : filled 0 ≡ table
@@ -47,10 +47,10 @@ module _ (q places : List ℕ) where
     length-filled c h = let e = length-append (recordsOf q places c) (drop c table) in omega (arith, e, length-records c, length-drop c table)
 
     -- one record more
-    pub filled-next : (c : ℕ) (r : Predicate) → c < length table → r ≡ recordAt q places c → set (filled c) c r ≡ filled (c + 1)
+    pub filled-next : (c : ℕ) (r : PredicateRecord) → c < length table → r ≡ recordAt q places c → set (filled c) c r ≡ filled (c + 1)
     unfolding recordsOf
     filled-next c r h e =
-        grow (recordsOf q places c) r table c noRecord (length-records c) h ∙ ap (λ (s : Predicate). recordsOf q places c ++ (s ∷ []) ++ drop (suc c) table) e ∙ ap filled (sym (add-one c))
+        grow (recordsOf q places c) r table c noRecord (length-records c) h ∙ ap (λ (s : PredicateRecord). recordsOf q places c ++ (s ∷ []) ++ drop (suc c) table) e ∙ ap filled (sym (add-one c))
 
     -- a record of the list is that of its predicate
     pub record-in : (n c : ℕ) → c < n → recordIn (filled n) c ≡ recordAt q places c

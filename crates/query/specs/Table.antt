@@ -5,7 +5,7 @@ use mathlib.Core.List.{List, [], _∷_, _++_}
 use lib.ListN.{length, getD, take, drop}
 use Rattle.predicate.specs.Meaning.{Predicate}
 use Rattle.predicate.specs.Payload.{payloadHead}
-use Rattle.query.specs.declared.table.Predicate.{Predicate as PredicateRecord}
+use Rattle.query.specs.declared.table.PredicateRecord.{PredicateRecord}
 use Rattle.query.specs.Format.{predicateLimit}
 use Rattle.query.specs.Places.{startAt, endAt, Placed}
 

@@ -1,7 +1,7 @@
 // The groups around each predicate, the innermost first: a line of the table for each predicate, with how many there are and
 // of each the first predicate, the end of its predicates and its tag.
 use crate::format::Group;
-use crate::table::Predicate;
+use crate::format::Predicate;
 ghost use Rattle.query.specs.Ancestors.{Closable, Closed};
 
 pub struct Ancestors;

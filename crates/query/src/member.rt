@@ -1,7 +1,7 @@
 // One field of a query.
 use crate::format::Group;
+use crate::format::Predicate;
 use crate::format::Refusal;
-use crate::table::Predicate;
 use fields::header::Header;
 ghost use mathlib.Core.Path.{_≡_};
 ghost use Prim.Native.Nat.{_≤_};

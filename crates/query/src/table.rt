@@ -10,26 +10,20 @@ ghost use Rattle.query.specs.Places.{Located};
 ghost use Rattle.query.specs.Table.{recordOf, recordAt, HasRecord, recordsOf};
 
 // Document 01's condition: the operand is the len bytes of the query from place on.
-pub struct Predicate {
+pub struct PredicateRecord {
     pub column: u8,
     pub kind: u8,
     pub place: usize,
     pub len: usize,
 }
 
-impl Predicate {
-    pub const TAG: u8 = 80;
-
-    pub const LIMIT: usize = 64;
-}
-
 // The record of the payload from start up to end.
-fn record_of(q: &[u8], start: usize, end: usize) -> Predicate
+fn record_of(q: &[u8], start: usize, end: usize) -> PredicateRecord
     requires { ⌜ (start + payloadHead ≤ end) × (end ≤ length (now q)) ⌝ }
     ensures { λ r. ⌜ r ≡ recordOf (now (q .entry)) start end ⌝ }
 {
     let place = start + Payload::HEAD;
-    Predicate {
+    PredicateRecord {
         column: q[start],
         kind: q[start + 1],
         place,
@@ -38,7 +32,7 @@ fn record_of(q: &[u8], start: usize, end: usize) -> Predicate
 }
 
 // The record of predicate c: places[c] is where its field begins, the record's place where its operand begins.
-pub fn record_at(q: &[u8], places: &[usize], c: usize) -> Predicate
+pub fn record_at(q: &[u8], places: &[usize], c: usize) -> PredicateRecord
     requires { ⌜ HasRecord (now q) (now places) c ⌝ }
     ensures { λ r. ⌜ r ≡ recordAt (now (q .entry)) (now (places .entry)) c ⌝ }
 {
@@ -47,7 +41,7 @@ pub fn record_at(q: &[u8], places: &[usize], c: usize) -> Predicate
 }
 
 // Stores the records of the first n predicates; what stands after them stays.
-pub fn tabulate(q: &[u8], places: &[usize], n: usize, table: &mut [Predicate])
+pub fn tabulate(q: &[u8], places: &[usize], n: usize, table: &mut [PredicateRecord])
     requires { ⌜ Located (now q) (now places) n × (n ≤ length (now table)) ⌝ }
     ensures { λ _. ⌜ now (table .exit) ≡ recordsOf (now (q .entry)) (now (places .entry)) n ++ drop n (now (table .entry)) ⌝ }
 {

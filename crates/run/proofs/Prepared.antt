@@ -14,7 +14,7 @@ use Rattle.predicate.specs.Kinds.{plainKind}
 use Rattle.predicate.specs.Payload.{tagsOf, kindFits}
 use Rattle.predicate.proofs.PayloadLaws.{Valid, valid-payload, tags-length, tags-at, shown-tag, tag-small}
 use Rattle.strategy.specs.Order.{isOrder}
-use Rattle.query.specs.declared.table.Predicate.{Predicate}
+use Rattle.query.specs.declared.table.PredicateRecord.{PredicateRecord}
 use Rattle.query.specs.Query.{Query}
 use Rattle.query.specs.Decode.{payloadOf}
 use Rattle.query.specs.Table.{recordAt, predicateIn}
@@ -39,7 +39,7 @@ module _ {b q : List ℕ} {l : Layout} {C : Catalogue} {Q : Query} {n : ℕ} {T 
       (omega (arith, laid .tags-size), omega (arith, laid .starts-size))
 
   module _ (c : ℕ) (k : c < n) where
-    abbrev r : Predicate
+    abbrev r : PredicateRecord
     r = recordAt q (T .places) c
 
     abbrev tag : ℕ

@@ -1,7 +1,7 @@
 // Checking a question against a catalogue.
 use answers::word::Answer;
 use query::ancestors::Ancestors;
-use query::table::Predicate;
+use query::format::Predicate;
 ghost use mathlib.Core.Path.{_≡_};
 ghost use Rattle.input.specs.Input.{decodeInput};
 ghost use Rattle.answers.specs.Word.{packed};

@@ -2,7 +2,7 @@
 use answers::word::Answer;
 use bitmaps::copy::Line;
 use query::ancestors::Ancestors;
-use query::table::Predicate;
+use query::format::Predicate;
 ghost use mathlib.Core.Path.{_≡_};
 ghost use Rattle.answers.specs.Word.{packed, FitsWord};
 ghost use Rattle.demands.specs.Run.{lent, ran, runOf};

@@ -46,12 +46,12 @@ use denote.Triple.Clauses.{ensured, lasts}
 use denote.Triple.Table.{entered, cited}
 use denote.Triple.Walked.{says, needs, Stays, stay-dropped, gave-slice, walkOf, goes-dropped, goes-gave-slice, Walks, ends-at, walked, walk-meets}
 use denote.Exit.{yes}
-use Rattle.query.specs.declared.table.Predicate.{Predicate}
+use Rattle.query.specs.declared.table.PredicateRecord.{PredicateRecord}
 use Rattle.query.specs.Format.{predicateLimit}
 use Rattle.query.specs.Places.{Located}
 use Rattle.query.specs.Table.{noRecord, recordAt, recordIn, recordsOf}
-use Rattle.query.proofs.table.Predicate as T
-use Rattle.query.proofs.table.Predicate.Laws as T′
+use Rattle.query.proofs.table.PredicateRecord as T
+use Rattle.query.proofs.table.PredicateRecord.Laws as T′
 use Rattle.query.proofs.table.tabulate as tabulate
 use Rattle.query.proofs.table.tabulate.Symbol as tabulate-def
 use Rattle.query.proofs.table.tabulate.Symbol.{name as #query·table·tabulate}
@@ -97,7 +97,7 @@ abbrev val : {X : Type 0} → RefT (List X) → Val
 val x = sliceVal (x .ptr) (length (x .now))
 
 -- the slice at the memory slot l, under the name γ, at the list ys
-abbrev slot : GName → ℕ → List Predicate → RefT (List Predicate)
+abbrev slot : GName → ℕ → List PredicateRecord → RefT (List PredicateRecord)
 slot γ l ys = record { ptr = (l, 0); name = γ; now = ys }
 
 module _ {M : Type 1} (𝓤 : URA M) (H : Heap 𝓤) (A : Atoms 𝓤) (mem′ : Memory → SProp 𝓤) (run : Routine → Fun 𝓤) where
@@ -112,10 +112,10 @@ module _ {M : Type 1} (𝓤 : URA M) (H : Heap 𝓤) (A : Atoms 𝓤) (W : Given
   abbrev Asked : Type 0
   Asked = Located (q .now) (places .now) n × (length (plan .now) ≡ planSize) × HaveColumns (tags .now) (starts .now) (recordAt (q .now) (places .now)) n
 
-  abbrev Tabulated : List Predicate → Type 0
+  abbrev Tabulated : List PredicateRecord → Type 0
   Tabulated ts = ts ≡ recordsOf (q .now) (places .now) n ++ dropN n blank
 
-  abbrev Filled : List Predicate → List ℕ → Type 0
+  abbrev Filled : List PredicateRecord → List ℕ → Type 0
   Filled ts ps = Planned (tags .now) (starts .now) (recordIn ts) ps n
 
   abbrev Answered : List ℕ → Type 0
@@ -125,11 +125,11 @@ module _ {M : Type 1} (𝓤 : URA M) (H : Heap 𝓤) (A : Atoms 𝓤) (W : Given
   can-tabulate : Asked → Located (q .now) (places .now) n × (n ≤ length blank)
   can-tabulate f = (f .0, subst (λ (m : ℕ). n ≤ m) (sym blank-size) (f .0 .few))
 
-  can-plan : (ts : List Predicate) → Asked → Tabulated ts → length ts ≡ predicateLimit
+  can-plan : (ts : List PredicateRecord) → Asked → Tabulated ts → length ts ≡ predicateLimit
       → (n ≤ predicateLimit) × (n ≤ length ts) × (length (plan .now) ≡ planSize) × HaveColumns (tags .now) (starts .now) (recordIn ts) n
   can-plan ts f t e = (f .0 .few, subst (λ (m : ℕ). n ≤ m) (sym e) (f .0 .few), f .1, have-columns (q .now) (places .now) ts blank n t (tags .now) (starts .now) (f .2))
 
-  answers : (ts : List Predicate) (ps : List ℕ) → Tabulated ts → Filled ts ps → Answered ps
+  answers : (ts : List PredicateRecord) (ps : List ℕ) → Tabulated ts → Filled ts ps → Answered ps
   answers ts ps t = planned (q .now) (places .now) ts blank n t (tags .now) (starts .now) ps
 
   -- ---- the lifetimes, their shares, the arguments and their machine values
@@ -179,7 +179,7 @@ module _ {M : Type 1} (𝓤 : URA M) (H : Heap 𝓤) (A : Atoms 𝓤) (W : Given
   abbrev table-lfts : ℕ → Lfts 3
   table-lfts α = (κ₂, (κ₃, (α ∷ [], tt)))
 
-  abbrev table-args : GName → ℕ → RefT (List ℕ) × (RefT (List ℕ) × (ℕ × (RefT (List Predicate) × Unit {0})))
+  abbrev table-args : GName → ℕ → RefT (List ℕ) × (RefT (List ℕ) × (ℕ × (RefT (List PredicateRecord) × Unit {0})))
   table-args γ l = (q, (places, (n, (slot γ l blank, tt))))
 
   abbrev to-tabulate : ℕ → GName → ℕ → Tabulate 𝓤 H A mem′ run .Ghost
@@ -194,32 +194,32 @@ module _ {M : Type 1} (𝓤 : URA M) (H : Heap 𝓤) (A : Atoms 𝓤) (W : Given
       move ! (4 ∷ 3 ∷ 5 ∷ 0 ∷ []) $ group ! 4 $ frame ! $
       nothing ! $ owned ! usize (Is usize) (uint-makes 𝓤 H A W w64) n _ (refl, gn) $ move ! (2 ∷ 3 ∷ 0 ∷ 4 ∷ 1 ∷ []) $ done !
 
-  abbrev of-tabulate : ℕ → GName → Val → List Predicate → Item 𝓤
+  abbrev of-tabulate : ℕ → GName → Val → List PredicateRecord → Item 𝓤
   of-tabulate α γ w ts = given (Tabulated ts × (Holds (hasTy tyUnit w) × WT w)) (‵ (flft (α ∷ []) fullShare) ⊛ ‵ (finally R γ ts) ⊛ ‵ (flft κ₂ q₂) ⊛ ‵ (flft κ₃ q₃))
 
   leaves-tabulate : (α : ℕ) (γ : GName) (l : ℕ) (w : Val) → ent 𝓤 (Tabulate 𝓤 H A mem′ run .post (to-tabulate α γ l) w) (mean 𝓤 H A (later (some (of-tabulate α γ w))))
   leaves-tabulate α γ l w =
       qed W (raw (Tabulate 𝓤 H A mem′ run .post (to-tabulate α γ l) w) ∷ []) ∵ updating ! $
       use1 W (later (some (λ (r : Unit {0}). ((‵ (flft κ₂ q₂) ⊛ ‵ (flft κ₃ q₃) ⊛ ‵ (flft (α ∷ []) fullShare) ⊛ ‵ ftrue) ⊛ ‵ (Nothing .own r (w ∷ []))) ⊛ raw (ensured 𝓤 H A tabulate.ended (tabulate.clauses 𝓤 H A mem′ run) (table-lfts α) (table-args γ l) tt r)))) (id⊢ 𝓤 _) $ await ! tt $ pick ! (λ r. split ! $ move ! (1 ∷ []) $
-      use1 W (some (λ (zs : Unit {0} × (Unit {0} × (Unit {0} × (List Predicate × Unit {0})))). ‵ (lasts tabulate.ended (table-lfts α) (table-args γ l) zs) ⊛ raw (fact 𝓤 (Tabulated (zs .1 .1 .1 .0))))) (id⊢ 𝓤 _) $ pick ! (λ zs.
+      use1 W (some (λ (zs : Unit {0} × (Unit {0} × (Unit {0} × (List PredicateRecord × Unit {0})))). ‵ (lasts tabulate.ended (table-lfts α) (table-args γ l) zs) ⊛ raw (fact 𝓤 (Tabulated (zs .1 .1 .1 .0))))) (id⊢ 𝓤 _) $ pick ! (λ zs.
       split ! $ move ! (1 ∷ []) $ heard ! (Tabulated (zs .1 .1 .1 .0)) (λ f.
       -- [what is said of q, of places, of n and of the table; the tokens and the result]
       fsplit ! $ drop ! $ fsplit ! $ drop ! $ fsplit ! $ drop ! $ fsplit ! $ fsplit ! $ move ! (3 ∷ []) $ split ! $ move ! (1 ∷ []) $ facts ! Nothing (Is Nothing) (shows 𝓤 H A Nothing) r (w ∷ []) (λ is.
       split ! $ move ! (1 ∷ []) $ split ! $ move ! (1 ∷ []) $ split ! $
       -- [α's token; true; κ₃'s; κ₂'s; the table's last list; its length; true]
-      at-once ! $ show ! (λ (ts : List Predicate). mean 𝓤 H A (of-tabulate α γ w ts)) (zs .1 .1 .1 .0) $ check ! (f, nothing-lawful 𝓤 H A W .typed r _ is .0) $ keep ! (0 ∷ 4 ∷ 3 ∷ 2 ∷ []) $ done !))))
+      at-once ! $ show ! (λ (ts : List PredicateRecord). mean 𝓤 H A (of-tabulate α γ w ts)) (zs .1 .1 .1 .0) $ check ! (f, nothing-lawful 𝓤 H A W .typed r _ is .0) $ keep ! (0 ∷ 4 ∷ 3 ∷ 2 ∷ []) $ done !))))
 
   -- ---- the call of `plan_records`, likewise, at the table ts
   abbrev plan-lfts : ℕ → Lfts 4
   plan-lfts β = (κ₀, (κ₁, (β ∷ [], (κ₄, tt))))
 
-  abbrev plan-args : List Predicate → GName → ℕ → RefT (List ℕ) × (RefT (List ℕ) × (RefT (List Predicate) × (ℕ × (RefT (List ℕ) × Unit {0}))))
+  abbrev plan-args : List PredicateRecord → GName → ℕ → RefT (List ℕ) × (RefT (List ℕ) × (RefT (List PredicateRecord) × (ℕ × (RefT (List ℕ) × Unit {0}))))
   plan-args ts γ l = (tags, (starts, (slot γ l ts, (n, (plan, tt)))))
 
-  abbrev to-plan : List Predicate → ℕ → GName → ℕ → Plans 𝓤 H A mem′ run .Ghost
+  abbrev to-plan : List PredicateRecord → ℕ → GName → ℕ → Plans 𝓤 H A mem′ run .Ghost
   to-plan ts β γ l = ((plan-lfts β, (q₀, (q₁, (fullShare, (q₄, tt)))), tt, plan-args ts γ l, (val tags ∷ [], (val starts ∷ [], (val (slot γ l ts) ∷ [], (vint w64 n ∷ [], (val plan ∷ [], tt)))))), tt)
 
-  asks-plan : n < 2 ^ 64 → Asked → (ts : List Predicate) → Tabulated ts → length ts ≡ predicateLimit → (β : ℕ) (γ : GName) (l : ℕ)
+  asks-plan : n < 2 ^ 64 → Asked → (ts : List PredicateRecord) → Tabulated ts → length ts ≡ predicateLimit → (β : ℕ) (γ : GName) (l : ℕ)
       → ent 𝓤 (sep 𝓤 (A .lft (β ∷ []) fullShare) (sep 𝓤 (sem 𝓤 H A (ShrSlice (named 2) (β ∷ []) R .own (slot γ l ts) (val (slot γ l ts) ∷ []))) (mean 𝓤 H A for-plan))) (Plans 𝓤 H A mem′ run .pre (to-plan ts β γ l))
   asks-plan gn f ts t e β γ l =
       qed W (‵ (flft (β ∷ []) fullShare) ∷ ‵ (ShrSlice (named 2) (β ∷ []) R .own (slot γ l ts) (val (slot γ l ts) ∷ [])) ∷ for-plan ∷ []) ∵ says ! (can-plan ts f t e) $
@@ -229,10 +229,10 @@ module _ {M : Type 1} (𝓤 : URA M) (H : Heap 𝓤) (A : Atoms 𝓤) (W : Given
       -- [starts; plan; tags; the table]
       nothing ! $ owned ! usize (Is usize) (uint-makes 𝓤 H A W w64) n _ (refl, gn) $ move ! (4 ∷ 2 ∷ 5 ∷ 0 ∷ 3 ∷ 1 ∷ []) $ done !
 
-  abbrev of-plan : List Predicate → ℕ → Val → List ℕ → Item 𝓤
+  abbrev of-plan : List PredicateRecord → ℕ → Val → List ℕ → Item 𝓤
   of-plan ts β w ps = given (Filled ts ps × (length ps ≡ length (plan .now)) × (Holds (hasTy tyUnit w) × WT w)) (‵ (flft (β ∷ []) fullShare) ⊛ ‵ (finally usize (plan .name) ps) ⊛ ‵ (flft κ₀ q₀) ⊛ ‵ (flft κ₁ q₁) ⊛ ‵ (flft κ₄ q₄))
 
-  leaves-plan : (ts : List Predicate) (β : ℕ) (γ : GName) (l : ℕ) (w : Val) → ent 𝓤 (Plans 𝓤 H A mem′ run .post (to-plan ts β γ l) w) (mean 𝓤 H A (later (some (of-plan ts β w))))
+  leaves-plan : (ts : List PredicateRecord) (β : ℕ) (γ : GName) (l : ℕ) (w : Val) → ent 𝓤 (Plans 𝓤 H A mem′ run .post (to-plan ts β γ l) w) (mean 𝓤 H A (later (some (of-plan ts β w))))
   leaves-plan ts β γ l w =
       qed W (raw (Plans 𝓤 H A mem′ run .post (to-plan ts β γ l) w) ∷ []) ∵ updating ! $
       use1 W (later (some (λ (r : Unit {0}). ((‵ (flft κ₀ q₀) ⊛ ‵ (flft κ₁ q₁) ⊛ ‵ (flft (β ∷ []) fullShare) ⊛ ‵ (flft κ₄ q₄) ⊛ ‵ ftrue) ⊛ ‵ (Nothing .own r (w ∷ []))) ⊛ raw (ensured 𝓤 H A plan-records.ended (plan-records.clauses 𝓤 H A mem′ run) (plan-lfts β) (plan-args ts γ l) tt r)))) (id⊢ 𝓤 _) $ await ! tt $ pick ! (λ r. split ! $ move ! (1 ∷ []) $

@@ -49,12 +49,12 @@ use denote.Triple.Clauses.{ensured, lasts}
 use denote.Triple.Table.{entered, cited}
 use denote.Triple.Walked.{says, needs, Stays, stay-slice, stay-none-slice, stay-none, walkOf, goes-slice, goes-none-slice, goes-none, Walks, ends-at, walked, walk-meets}
 use denote.Exit.{yes}
-use Rattle.query.specs.declared.table.Predicate.{Predicate}
+use Rattle.query.specs.declared.table.PredicateRecord.{PredicateRecord}
 use Rattle.query.specs.Places.{Located}
 use Rattle.query.specs.Table.{recordAt, noRecord, HasRecord}
 use Rattle.query.proofs.Tabulated.{has-record, filled, filled-none, filled-next, length-filled}
-use Rattle.query.proofs.table.Predicate as T
-use Rattle.query.proofs.table.Predicate.Laws as T′
+use Rattle.query.proofs.table.PredicateRecord as T
+use Rattle.query.proofs.table.PredicateRecord.Laws as T′
 use Rattle.query.proofs.table.record_at as record-at
 use Rattle.query.proofs.table.record_at.Symbol as record-at-def
 use Rattle.query.proofs.table.record_at.Symbol.{name as #query·table·record-at}
@@ -89,7 +89,7 @@ module _ {M : Type 1} (𝓤 : URA M) (H : Heap 𝓤) (A : Atoms 𝓤) (mem′ : 
   RecordAt = tripleOf 𝓤 H A record-at.signature (record-at.spec 𝓤 H A mem′ run)
 
 module _ {M : Type 1} (𝓤 : URA M) (H : Heap 𝓤) (A : Atoms 𝓤) (W : Given 𝓤 H A) (mem′ : Memory → SProp 𝓤) (run : Routine → Fun 𝓤)
-    (κ κ′ κ″ : Lft) (p p′ p″ : Share) (q places : RefT (List ℕ)) (n b o : ℕ) (γ : GName) (xs : List Predicate) where
+    (κ κ′ κ″ : Lft) (p p′ p″ : Share) (q places : RefT (List ℕ)) (n b o : ℕ) (γ : GName) (xs : List PredicateRecord) where
   -- the machine values of the three slices
   abbrev q-mach : Val
   q-mach = sliceVal (ptr q) (length (now q))
@@ -101,11 +101,11 @@ module _ {M : Type 1} (𝓤 : URA M) (H : Heap 𝓤) (A : Atoms 𝓤) (W : Given
   table-mach = sliceVal (b, o) (length xs)
 
   -- the borrow at the list l
-  abbrev table : List Predicate → RefT (List Predicate)
+  abbrev table : List PredicateRecord → RefT (List PredicateRecord)
   table l = record { ptr = (b, o); name = γ; now = l }
 
   abbrev Arg : Type 0
-  Arg = RefT (List ℕ) × (RefT (List ℕ) × (ℕ × (RefT (List Predicate) × Unit {0})))
+  Arg = RefT (List ℕ) × (RefT (List ℕ) × (ℕ × (RefT (List PredicateRecord) × Unit {0})))
 
   abbrev a : Arg
   a = (q, (places, (n, (table xs, tt))))
@@ -121,7 +121,7 @@ module _ {M : Type 1} (𝓤 : URA M) (H : Heap 𝓤) (A : Atoms 𝓤) (W : Given
   Post = walkOf 𝓤 H A tabulate.ended stayed (tabulate.clauses 𝓤 H A mem′ run) .post bound
 
   -- the list where the first c records are stored
-  abbrev at : ℕ → List Predicate
+  abbrev at : ℕ → List PredicateRecord
   at c = filled (now q) (now places) xs c
 
   -- what the two `&` slices own, and their lifetimes' tokens
@@ -159,7 +159,7 @@ module _ {M : Type 1} (𝓤 : URA M) (H : Heap 𝓤) (A : Atoms 𝓤) (W : Given
       move ! (3 ∷ 0 ∷ []) $ use2 W (raw (RecordAt 𝓤 H A mem′ run .pre (to c))) (enters c has) $ frame ! $ move ! (1 ∷ 0 ∷ []) $ done !
 
   -- of `record_at`'s `ensured`, the clause alone: it has no `&mut`, so what is said of last values is dropped
-  said : (c : ℕ) (r : Predicate) → ent 𝓤 (ensured 𝓤 H A record-at.ended (record-at.clauses 𝓤 H A mem′ run) (κ, (κ′, tt)) (q, (places, (c, tt))) tt r) (fact 𝓤 (r ≡ recordAt (now q) (now places) c))
+  said : (c : ℕ) (r : PredicateRecord) → ent 𝓤 (ensured 𝓤 H A record-at.ended (record-at.clauses 𝓤 H A mem′ run) (κ, (κ′, tt)) (q, (places, (c, tt))) tt r) (fact 𝓤 (r ≡ recordAt (now q) (now places) c))
   said c r = exE 𝓤 _ (λ ws. snd∗ 𝓤 (sem 𝓤 H A (lasts record-at.ended (κ, (κ′, tt)) (q, (places, (c, tt))) ws)) (fact 𝓤 (r ≡ recordAt (now q) (now places) c)))
 
   exits : n < 2 ^ 64 → n ≤ length xs → Room R (length xs)
@@ -236,7 +236,7 @@ module _ {M : Type 1} (𝓤 : URA M) (H : Heap 𝓤) (A : Atoms 𝓤) (W : Given
         -- [what `record_at` asks; q's; places'; _9; …; _8; …; _7; …; _6; …; _5; …; _4; …; _3; …; _2; …; _1; …; room for _0; …; the row; the open borrow; obs; auth]
         calls-at ! (fmOf 𝓤 H (W .laws) 𝓣) (RecordAt 𝓤 H A mem′ run) known (to (c .0))
         (and-then ! (load ! (from ! (stop !)) (look ! 19 refl)) (and-then ! (load ! (from ! (stop !)) (look ! 17 refl)) (and-then ! (load ! (from ! (stop !)) (look ! 11 refl)) (no-more !)))) (λ w.
-        use1 W (later (some (λ (r : Predicate). (Tokens ⊛ ‵ (R .own r (w ∷ []))) ⊛ raw (ensured 𝓤 H A record-at.ended (record-at.clauses 𝓤 H A mem′ run) (κ, (κ′, tt)) (q, (places, (c .0, tt))) tt r)))) (id⊢ 𝓤 _) $ await ! tt $ pick ! (λ r.
+        use1 W (later (some (λ (r : PredicateRecord). (Tokens ⊛ ‵ (R .own r (w ∷ []))) ⊛ raw (ensured 𝓤 H A record-at.ended (record-at.clauses 𝓤 H A mem′ run) (κ, (κ′, tt)) (q, (places, (c .0, tt))) tt r)))) (id⊢ 𝓤 _) $ await ! tt $ pick ! (λ r.
         split ! $ move ! (1 ∷ []) $ use1 W (raw (fact 𝓤 (r ≡ recordAt (now q) (now places) (c .0)))) (said (c .0) r) $ heard ! (r ≡ recordAt (now q) (now places) (c .0)) (λ f.
         split ! $ move ! (1 ∷ []) $ peeks ! R (Is R) (shows 𝓤 H A R) r (w ∷ []) (λ is.
         let wt = LL.lawful T.the-type T′.the-laws 𝓤 H A W .typed r _ is .0 in
@@ -252,7 +252,7 @@ module _ {M : Type 1} (𝓤 : URA M) (H : Heap 𝓤) (A : Atoms 𝓤) (W : Given
         assigns ! (of-opd ! (load ! (from ! (stop !)) (look ! 11 refl))) (from ! (hop ! (look ! 7 refl) (stop !))) (store ! 0 refl wt) $
         use1 W (‵ (cellAt fullShare (R .mir) (w ∷ []) b there)) (W .laws .at-raw fullShare T′.mir b there w) $
         move ! (0 ∷ 3 ∷ 2 ∷ []) $ elem-put ! R fullShare (at (c .0)) (c .0) r (w ∷ []) b o inside $
-        rewrite ! 0 (λ (ys : List Predicate). ‵ (row R fullShare ys b o)) (filled-next (now q) (now places) xs (c .0) r in-table f) refl $
+        rewrite ! 0 (λ (ys : List PredicateRecord). ‵ (row R fullShare ys b o)) (filled-next (now q) (now places) xs (c .0) r in-table f) refl $
         -- [the row; what table[c] owned; the tokens; q's; places'; _9; …; _8; …; _7; …; _6; …; _5; …; _4; …; _3; …; _2; …; _1; …; room for _0; …; the open borrow; obs; auth]
         assigns-last ! (bin ! (load ! (from ! (stop !)) (look ! 13 refl)) (lit ! tt) (record { fits = next-fits })) (from ! (stop !)) (store ! 13 refl (tt, record { fits = next-fits })) $
         forget ! 5 refl $ forget ! 7 refl $ forget ! 9 refl $ forget ! 11 refl $
@@ -304,7 +304,7 @@ module _ {M : Type 1} (𝓤 : URA M) (H : Heap 𝓤) (A : Atoms 𝓤) (W : Given
       -- [obs; the borrow; true; places'; q's; _9; …; the tokens]
       move ! (25 ∷ []) $ split ! $ move ! (1 ∷ []) $ split ! $ move ! (1 ∷ []) $ split ! $ move ! (2 ∷ 1 ∷ []) $ join ! $ move ! (2 ∷ 0 ∷ []) $ join ! $
       -- [q's and places' tokens; table's token; obs; the borrow; true; places'; q's; _9; …]
-      move ! (2 ∷ 3 ∷ 1 ∷ []) $ opens-slice ! tt R xs b o $ rewrite ! 0 (λ (ys : List Predicate). ‵ (row R fullShare ys b o)) (sym (filled-none (now q) (now places) xs)) refl $
+      move ! (2 ∷ 3 ∷ 1 ∷ []) $ opens-slice ! tt R xs b o $ rewrite ! 0 (λ (ys : List PredicateRecord). ‵ (row R fullShare ys b o)) (sym (filled-none (now q) (now places) xs)) refl $
       -- [the row; the open borrow; obs; auth; the tokens; true; places'; q's; _9; …]
       keep ! (8 ∷ 9 ∷ 10 ∷ 11 ∷ 12 ∷ 13 ∷ 14 ∷ 15 ∷ 16 ∷ 17 ∷ 18 ∷ 19 ∷ 20 ∷ 21 ∷ 22 ∷ 23 ∷ 24 ∷ 25 ∷ 26 ∷ 27 ∷ 0 ∷ 1 ∷ 2 ∷ 3 ∷ 4 ∷ 7 ∷ 6 ∷ []) $ first ! $ blocks ! $
       loops ! 𝓣 Nearer Nearer-wf (At 𝓣 known small room (asked .0) (asked .1) l₀ l₁ l₂ l₃ l₄ l₅ l₆ l₇ l₈ l₉) (turns 𝓣 known small room (asked .0) (asked .1) l₀ l₁ l₂ l₃ l₄ l₅ l₆ l₇ l₈ l₉) (0, zero-le)))))))))))
