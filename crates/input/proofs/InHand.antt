@@ -17,9 +17,9 @@ module _ {b q : List ℕ} {r : Beginning} {T : Tables} (G : Begun b q r T) where
   pub begun-short : r .rows ≤ rowLimit
   begun-short = omega (arith, G .rows, G .laid .short)
 
-  pub begun-columns : HaveColumns (r .tags) (r .starts) (recordAt q (T .places)) (r .n)
+  pub begun-columns : HaveColumns (r .tags) (r .starts) (recordAt q (T .offsets)) (r .n)
   begun-columns = rw (G .tags, G .starts) (have-columns (G .laid) (G .tabled))
 
-  pub begun-accessed : (P : List ℕ) (c : ℕ) → c < r .n → accessAt P c ≡ accessOf (r .tags) (r .starts) (recordAt q (T .places) c)
+  pub begun-accessed : (P : List ℕ) (c : ℕ) → c < r .n → accessAt P c ≡ accessOf (r .tags) (r .starts) (recordAt q (T .offsets) c)
       → Accessed b q (G .input .catalogue) (predicateAt (G .input .query) c) (accessAt P c)
   begun-accessed P c k e = planned-accessed (G .laid) (G .tabled) P c k (rw (G .tags, G .starts) at e)

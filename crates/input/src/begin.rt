@@ -18,11 +18,11 @@ pub struct Beginning {
 pub fn begin(
     catalogue: &[u8],
     question: &[u8],
-    places: &mut [usize],
+    offsets: &mut [usize],
     ancestors: &mut [u8],
 ) -> Beginning
-    requires { ⌜ TablesSized (tables (now places) (now ancestors)) ⌝ }
-    ensures { λ r. ⌜ Begins (now (catalogue .entry)) (now (question .entry)) r (tables (now (places .exit)) (now (ancestors .exit))) ⌝ }
+    requires { ⌜ TablesSized (tables (now offsets) (now ancestors)) ⌝ }
+    ensures { λ r. ⌜ Begins (now (catalogue .entry)) (now (question .entry)) r (tables (now (offsets .exit)) (now (ancestors .exit))) ⌝ }
 {
     let layout = catalogue::layout::lay_out(catalogue);
     let refusal = layout.refusal;
@@ -39,7 +39,7 @@ pub fn begin(
             starts,
         };
     }
-    match query::whole::read_query(&tags[..columns], question, places, ancestors) {
+    match query::whole::read_query(&tags[..columns], question, offsets, ancestors) {
         Reading::Refused(e) => Beginning {
             refusal: e,
             rows,

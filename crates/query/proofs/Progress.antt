@@ -22,11 +22,11 @@ use Rattle.query.specs.declared.reader.Progress.{Progress}
 use Rattle.query.specs.declared.reader.Progress.the-variants.{Refused, Next}
 use Rattle.query.specs.Format.{predicateLimit, depthLimit, depthOf}
 use Rattle.query.specs.Decode.{payloadAt, memberField, Read, settling, asGroup, putBefore, memberThen, member, members}
-use Rattle.query.specs.Places.{Placed}
+use Rattle.query.specs.Offsets.{HasPayload}
 use Rattle.query.specs.Table.{predicatesAt}
 use Rattle.query.specs.Ancestors.{Tables, tables, ancestorsWidth, ancestorsSize, heightAt, groupOver, ancestorsOf, Low, Under, Kept, Spans, Closed}
 use Rattle.query.specs.Reader.{AncestorsGained, Reported, MemberReported, MembersReported, MemberRead, MembersRead, StaysWithin, Room}
-use Rattle.query.proofs.Records.{predicates-put, placed-put, record-shows}
+use Rattle.query.proofs.Records.{predicates-put, payload-put, record-shows}
 use Rattle.query.proofs.AncestorLaws.{fresh-height, fresh-kept, fresh-none, fresh-old, fresh-low, fresh-spans}
 use Rattle.query.proofs.Readings.{SoundTree, SoundForest, member-sound, members-sound}
 
@@ -62,10 +62,10 @@ gained-group n k tag f T T1 T2 e A C = record {
 gained-none : (n : ℕ) (T : Tables) → AncestorsGained n 0 (enclosingIn none n) T T
 gained-none n T = record { old = λ c h. refl; new = λ c i. absurd (omega arith) }
 
-gained-leaf : (P P′ A : List ℕ) (n d : ℕ) → ancestorsWidth * n < length A → Low n A
-    → AncestorsGained n 1 (enclosing (leaf d) n) (tables P A) (tables P′ (set A (ancestorsWidth * n) 0))
+gained-leaf : (os os′ A : List ℕ) (n d : ℕ) → ancestorsWidth * n < length A → Low n A
+    → AncestorsGained n 1 (enclosing (leaf d) n) (tables os A) (tables os′ (set A (ancestorsWidth * n) 0))
 unfolding enclosing
-gained-leaf P P′ A n d h l = record {
+gained-leaf os os′ A n d h l = record {
   old = fresh-old A n h l;
   new = λ c i. (let z : c ≡ n = omega arith in rw z (fresh-none A n h l));
 }
@@ -74,7 +74,7 @@ gained-leaf P P′ A n d h l = record {
 
 module _ (q : List ℕ) (n : ℕ) (T T1 T2 : Tables) where
   put-reported : (o : Read (Forest ℕ)) (t : Tree ℕ) (ps : List Predicate) (r : Progress) → size t ≡ length ps
-      → predicatesAt q (T1 .places) (n + length ps) ≡ predicatesAt q (T .places) n ++ ps → AncestorsGained n (length ps) (enclosing t n) T T1
+      → predicatesAt q (T1 .offsets) (n + length ps) ≡ predicatesAt q (T .offsets) n ++ ps → AncestorsGained n (length ps) (enclosing t n) T T1
       → Reported q enclosingIn (n + length ps) o r T1 T2 → Reported q enclosingIn n (putBefore t ps o) r T T2
   put-reported (refused e) t ps r s a A b = b
   put-reported (accepted (f, rest, next)) t ps r s a A b = record {
@@ -85,12 +85,12 @@ module _ (q : List ℕ) (n : ℕ) (T T1 T2 : Tables) where
 
   then-reported : (tags : List ℕ) (at end number : ℕ) (o : Read (Tree ℕ)) (p m : ℕ) (r : Progress) (go : List Predicate → ℕ → Read (Forest ℕ))
       → SoundTree tags q at end number o → Reported q enclosing n o (Next p m) T T1
-      → Reported q enclosingIn m (go (predicatesAt q (T1 .places) m) p) r T1 T2 → Reported q enclosingIn n (memberThen o (λ ps next. go (predicatesAt q (T .places) n ++ ps) next)) r T T2
+      → Reported q enclosingIn m (go (predicatesAt q (T1 .offsets) m) p) r T1 T2 → Reported q enclosingIn n (memberThen o (λ ps next. go (predicatesAt q (T .offsets) n ++ ps) next)) r T T2
   then-reported tags at end number (refused e) p m r go s h l = let z : _≡_ {A = ℕ} 0 1 = cc in absurd (omega arith)
   then-reported tags at end number (accepted (t, ps, next)) p m r go s h l =
       let z : p ≡ next = cc in
       let y : m ≡ n + length ps = cc in
-      put-reported (go (predicatesAt q (T .places) n ++ ps) next) t ps r (s .counted) (h .shown) (h .ancestors) (rw (z, y, h .shown) at l)
+      put-reported (go (predicatesAt q (T .offsets) n ++ ps) next) t ps r (s .counted) (h .shown) (h .ancestors) (rw (z, y, h .shown) at l)
 
   then-refused : (o : Read (Tree ℕ)) (e : ℕ) (go : List Predicate → ℕ → Read (Forest ℕ)) → Reported q enclosing n o (Refused e) T T1 → Reported q enclosingIn n (memberThen o go) (Refused e) T T1
   then-refused (refused x) e go h = h
@@ -101,7 +101,7 @@ module _ (q : List ℕ) (n : ℕ) (T T1 T2 : Tables) where
   group-refused (accepted (f, ps, next)) tag e h = let z : _≡_ {A = ℕ} 0 1 = cc in absurd (omega arith)
 
   group-reported : (tags : List ℕ) (at end number : ℕ) (o : Read (Forest ℕ)) (tag p m : ℕ) → SoundForest tags q at end number o → Reported q enclosingIn n o (Next p m) T T1
-      → T2 .places ≡ T1 .places → Closed n m m tag (T1 .ancestors) (T2 .ancestors) → Reported q enclosing n (asGroup tag o) (Next p m) T T2
+      → T2 .offsets ≡ T1 .offsets → Closed n m m tag (T1 .ancestors) (T2 .ancestors) → Reported q enclosing n (asGroup tag o) (Next p m) T T2
   group-reported tags at end number (refused x) tag p m s h a C = let z : _≡_ {A = ℕ} 0 1 = cc in absurd (omega arith)
   group-reported tags at end number (accepted (f, ps, next)) tag p m s h a C =
       let y : m ≡ n + length ps = cc in
@@ -123,20 +123,20 @@ module _ (tags q : List ℕ) (at end depth n : ℕ) (T T1 : Tables) where
   unfolding members
   members-refused e ne h zero l = absurd (omega arith)
   members-refused e ne h (suc k) l =
-      simp tests (then-refused q n T T1 T1 (member k tags q at end depth (predicatesAt q (T .places) n)) e
-      (λ ps next. members k tags q next end depth (predicatesAt q (T .places) n ++ ps)) (h k (omega arith)))
+      simp tests (then-refused q n T T1 T1 (member k tags q at end depth (predicatesAt q (T .offsets) n)) e
+      (λ ps next. members k tags q next end depth (predicatesAt q (T .offsets) n ++ ps)) (h k (omega arith)))
 
   pub members-more : (p m : ℕ) (r : Progress) (T2 : Tables) → (at ≡ end → ⊥) → at < p → p ≤ end → MemberReported tags q at end depth n (Next p m) T T1
       → MembersReported tags q p end depth m r T1 T2 → MembersReported tags q at end depth n r T T2
   unfolding members
   members-more p m r T2 ne b e h g zero l = absurd (omega arith)
   members-more p m r T2 ne b e h g (suc k) l =
-      simp tests (then-reported q n T T1 T2 tags at end (length (predicatesAt q (T .places) n)) (member k tags q at end depth (predicatesAt q (T .places) n)) p m r
-      (λ earlier next. members k tags q next end depth earlier) (member-sound k tags q at end depth (predicatesAt q (T .places) n)) (h k (omega arith)) (g k (omega arith)))
+      simp tests (then-reported q n T T1 T2 tags at end (length (predicatesAt q (T .offsets) n)) (member k tags q at end depth (predicatesAt q (T .offsets) n)) p m r
+      (λ earlier next. members k tags q next end depth earlier) (member-sound k tags q at end depth (predicatesAt q (T .offsets) n)) (h k (omega arith)) (g k (omega arith)))
 
   -- the paths of the member reader
 
-  module _ (f : MemberField) (f-is : f ≡ memberField tags q depth (predicatesAt q (T .places) n) (headerAt q at end)) where
+  module _ (f : MemberField) (f-is : f ≡ memberField tags q depth (predicatesAt q (T .offsets) n) (headerAt q at end)) where
     pub member-refused : (e : ℕ) → f ≡ field.Refused e → MemberReported tags q at end depth n (Refused e) T T1
     unfolding member
     member-refused e j zero l = absurd (omega arith)
@@ -148,41 +148,41 @@ module _ (tags q : List ℕ) (at end depth n : ℕ) (T T1 : Tables) where
       unfolding member
       member-group-refused e g zero l = absurd (omega arith)
       member-group-refused e g (suc k) l =
-          simp (← f-is, is-group) (group-refused q n T T1 T1 (members k tags q start stop (depth + 1) (predicatesAt q (T .places) n)) tag e (rw deeper at (g k (omega arith))))
+          simp (← f-is, is-group) (group-refused q n T T1 T1 (members k tags q start stop (depth + 1) (predicatesAt q (T .offsets) n)) tag e (rw deeper at (g k (omega arith))))
 
-      pub member-group : (p m : ℕ) (T2 : Tables) → MembersReported tags q start stop inner n (Next p m) T T1 → T2 .places ≡ T1 .places
+      pub member-group : (p m : ℕ) (T2 : Tables) → MembersReported tags q start stop inner n (Next p m) T T1 → T2 .offsets ≡ T1 .offsets
           → Closed n m m tag (T1 .ancestors) (T2 .ancestors) → MemberReported tags q at end depth n (Next p m) T T2
       unfolding member
       member-group p m T2 g c C zero l = absurd (omega arith)
       member-group p m T2 g c C (suc k) l =
-          simp (← f-is, is-group) (group-reported q n T T1 T2 tags start stop (length (predicatesAt q (T .places) n)) (members k tags q start stop (depth + 1) (predicatesAt q (T .places) n)) tag p m
-          (members-sound k tags q start stop (depth + 1) (predicatesAt q (T .places) n)) (rw deeper at (g k (omega arith))) c C)
+          simp (← f-is, is-group) (group-reported q n T T1 T2 tags start stop (length (predicatesAt q (T .offsets) n)) (members k tags q start stop (depth + 1) (predicatesAt q (T .offsets) n)) tag p m
+          (members-sound k tags q start stop (depth + 1) (predicatesAt q (T .offsets) n)) (rw deeper at (g k (omega arith))) c C)
 
-module _ (tags q : List ℕ) (at end depth n : ℕ) (P A : List ℕ) (start stop : ℕ) (begins : start ≡ at + headerSize) (ends : stop ≡ fieldEnd q at)
-    (two : start + payloadHead ≤ stop) (place : n < length P) (line : ancestorsWidth * n < length A) (low : Low n A) where
-  leaf-predicates : predicatesAt q (set P n at) (n + 1) ≡ predicatesAt q P n ++ (predicateOf (start + payloadHead) (payloadAt q start stop) ∷ [])
+module _ (tags q : List ℕ) (at end depth n : ℕ) (os A : List ℕ) (start stop : ℕ) (begins : start ≡ at + headerSize) (ends : stop ≡ fieldEnd q at)
+    (two : start + payloadHead ≤ stop) (free : n < length os) (line : ancestorsWidth * n < length A) (low : Low n A) where
+  leaf-predicates : predicatesAt q (set os n at) (n + 1) ≡ predicatesAt q os n ++ (predicateOf (start + payloadHead) (payloadAt q start stop) ∷ [])
   leaf-predicates =
-      rw (begins, ends) (predicates-put q P n at place ∙ ap (λ p. predicatesAt q P n ++ (p ∷ [])) (record-shows q (at + headerSize) (fieldEnd q at) (omega arith)))
+      rw (begins, ends) (predicates-put q os n at free ∙ ap (λ p. predicatesAt q os n ++ (p ∷ [])) (record-shows q (at + headerSize) (fieldEnd q at) (omega arith)))
 
-  pub member-leaf : (f : MemberField) → f ≡ memberField tags q depth (predicatesAt q P n) (headerAt q at end) → f ≡ field.Leaf start stop
-      → MemberReported tags q at end depth n (Next stop (n + 1)) (tables P A) (tables (set P n at) (set A (ancestorsWidth * n) 0))
+  pub member-leaf : (f : MemberField) → f ≡ memberField tags q depth (predicatesAt q os n) (headerAt q at end) → f ≡ field.Leaf start stop
+      → MemberReported tags q at end depth n (Next stop (n + 1)) (tables os A) (tables (set os n at) (set A (ancestorsWidth * n) 0))
   unfolding member
   member-leaf f i j zero l = absurd (omega arith)
   member-leaf f i j (suc k) l =
       simp (← i, j) (record {
         answer = refl;
         shown = leaf-predicates;
-        ancestors = gained-leaf P (set P n at) A n (length (predicatesAt q P n)) line low;
+        ancestors = gained-leaf os (set os n at) A n (length (predicatesAt q os n)) line low;
       })
 
-  pub leaf-within : stop ≤ end → end ≤ length q → n < predicateLimit → depth ≤ depthLimit → ((c : ℕ) → c < n → Placed q P c) → Spans n A
-      → StaysWithin (at + headerSize) end depth n q (Next stop (n + 1)) (tables P A) (tables (set P n at) (set A (ancestorsWidth * n) 0))
+  pub leaf-within : stop ≤ end → end ≤ length q → n < predicateLimit → depth ≤ depthLimit → ((c : ℕ) → c < n → HasPayload q os c) → Spans n A
+      → StaysWithin (at + headerSize) end depth n q (Next stop (n + 1)) (tables os A) (tables (set os n at) (set A (ancestorsWidth * n) 0))
   leaf-within b e c d p s = record {
     past = omega arith;
     inside = b;
     more = omega arith;
     few = omega arith;
-    placed = placed-put q P n at place p (omega arith) (omega arith);
+    each = payload-put q os n at free p (omega arith) (omega arith);
     low = fresh-low A n line low;
     under = λ k i j. (let z : k ≡ n = omega arith in rw z (rw (fresh-height A n line low) (omega arith)));
     kept = fresh-kept A n line low;
@@ -191,15 +191,15 @@ module _ (tags q : List ℕ) (at end depth n : ℕ) (P A : List ℕ) (start stop
 
 -- bounds
 
-pub group-within : (q : List ℕ) (at end depth inner n start stop p m tag : ℕ) (T0 : Tables) (P A A′ : List ℕ) → start ≡ at + headerSize → stop ≤ end
-    → inner ≡ depth + 1 → StaysWithin start stop inner n q (Next p m) T0 (tables P A) → Closed n m m tag A A′
-    → StaysWithin (at + headerSize) end depth n q (Next p m) T0 (tables P A′)
-group-within q at end depth inner n start stop p m tag T0 P A A′ a b deeper w C = record {
+pub group-within : (q : List ℕ) (at end depth inner n start stop p m tag : ℕ) (T0 : Tables) (os A A′ : List ℕ) → start ≡ at + headerSize → stop ≤ end
+    → inner ≡ depth + 1 → StaysWithin start stop inner n q (Next p m) T0 (tables os A) → Closed n m m tag A A′
+    → StaysWithin (at + headerSize) end depth n q (Next p m) T0 (tables os A′)
+group-within q at end depth inner n start stop p m tag T0 os A A′ a b deeper w C = record {
   past = omega (arith, w .past);
   inside = omega (arith, w .inside);
   more = w .more;
   few = w .few;
-  placed = w .placed;
+  each = w .each;
   low = C .low;
   under = λ k i j. (let u = w .under k i j in let t = C .taller k i j in omega arith);
   kept = λ k i. C .same-before k i ∙ w .kept k i;
@@ -242,7 +242,7 @@ module _ (tags q : List ℕ) (at end allowed n p m : ℕ) (T0 T : Tables) (G : I
           inside = G .room .order;
           more = G .more;
           few = G .room .located .few;
-          placed = G .room .located .placed;
+          each = G .room .located .each;
           low = G .room .low;
           under = G .under;
           kept = G .kept;
@@ -259,7 +259,7 @@ module _ (tags q : List ℕ) (at end allowed n p m : ℕ) (T0 T : Tables) (G : I
     }
 
     pub in-group-more : (next k : ℕ) → MemberRead tags q p end (depthOf allowed) m (Next next k) T T1
-        → length (T1 .places) ≡ predicateLimit → length (T1 .ancestors) ≡ ancestorsSize → InGroup tags q at end allowed n next k T0 T1
+        → length (T1 .offsets) ≡ predicateLimit → length (T1 .ancestors) ≡ ancestorsSize → InGroup tags q at end allowed n next k T0 T1
     in-group-more next k h s l =
         let w = h .within in
         record {
@@ -269,7 +269,7 @@ module _ (tags q : List ℕ) (at end allowed n p m : ℕ) (T0 T : Tables) (G : I
             order = w .inside;
             inside = G .room .inside;
             deep = G .room .deep;
-            located = record { sized = s; few = w .few; placed = w .placed };
+            located = record { sized = s; few = w .few; each = w .each };
             ancestors = l;
             low = w .low;
             spans = w .spans;

@@ -1,4 +1,4 @@
--- The predicates listed by their places, a place put, and the predicate of a payload.
+-- The predicates listed by their offsets, an offset put, and the predicate of a payload.
 use Prim.Native.Nat.{ℕ, zero, suc, _+_, _-_, _≤_, _<_}
 use native.Mathlib.Numerals.{add-one}
 use native.Mathlib.Omega.{arith}
@@ -12,49 +12,49 @@ use Rattle.strategy.specs.Bools.{same?}
 use Rattle.predicate.specs.Meaning.{Predicate}
 use Rattle.predicate.specs.Payload.{payloadHead, predicateOf}
 use Rattle.query.specs.Decode.{payloadAt}
-use Rattle.query.specs.Places.{Placed}
+use Rattle.query.specs.Offsets.{HasPayload}
 use Rattle.query.specs.Table.{recordAt, recordOf, predicateIn, predicatesAt}
 
 -- the predicates listed
 
-pub predicates-length : (q P : List ℕ) (n : ℕ) → length (predicatesAt q P n) ≡ n
+pub predicates-length : (q os : List ℕ) (n : ℕ) → length (predicatesAt q os n) ≡ n
 unfolding predicatesAt
-predicates-length q P zero = refl
-predicates-length q P (suc n) = rw length-append (omega (arith, predicates-length q P n))
+predicates-length q os zero = refl
+predicates-length q os (suc n) = rw length-append (omega (arith, predicates-length q os n))
 
-pub predicates-at : (q P : List ℕ) (n c : ℕ) (other : Predicate) → c < n → getD (predicatesAt q P n) c other ≡ predicateIn q (recordAt q P c)
+pub predicates-at : (q os : List ℕ) (n c : ℕ) (other : Predicate) → c < n → getD (predicatesAt q os n) c other ≡ predicateIn q (recordAt q os c)
 unfolding predicatesAt
-predicates-at q P zero c other l = absurd (omega arith)
-predicates-at q P (suc n) c other l =
-    let size : length (predicatesAt q P n) ≡ n = predicates-length q P n in
-    let go : (c ≡ n) ⊎ (c ≡ n → ⊥) → getD (predicatesAt q P n ++ (predicateIn q (recordAt q P n) ∷ [])) c other ≡ predicateIn q (recordAt q P c)
+predicates-at q os zero c other l = absurd (omega arith)
+predicates-at q os (suc n) c other l =
+    let size : length (predicatesAt q os n) ≡ n = predicates-length q os n in
+    let go : (c ≡ n) ⊎ (c ≡ n → ⊥) → getD (predicatesAt q os n ++ (predicateIn q (recordAt q os n) ∷ [])) c other ≡ predicateIn q (recordAt q os c)
     = elim [
-      | inl e ↦ rw e (getD-at (predicatesAt q P n) (predicateIn q (recordAt q P n)) [] other n size)
-      | inr e ↦ List·getD-append (predicatesAt q P n) (predicateIn q (recordAt q P n) ∷ []) other c (omega arith) ∙ predicates-at q P n c other (omega arith)
+      | inl e ↦ rw e (getD-at (predicatesAt q os n) (predicateIn q (recordAt q os n)) [] other n size)
+      | inr e ↦ List·getD-append (predicatesAt q os n) (predicateIn q (recordAt q os n) ∷ []) other c (omega arith) ∙ predicates-at q os n c other (omega arith)
     ] in
     go (same? c n)
 
-predicates-same : (q P P′ : List ℕ) (n : ℕ) → ((c : ℕ) → c < n → getD P′ c 0 ≡ getD P c 0) → predicatesAt q P′ n ≡ predicatesAt q P n
+predicates-same : (q os os′ : List ℕ) (n : ℕ) → ((c : ℕ) → c < n → getD os′ c 0 ≡ getD os c 0) → predicatesAt q os′ n ≡ predicatesAt q os n
 unfolding predicatesAt
-predicates-same q P P′ zero h = refl
-predicates-same q P P′ (suc n) h = rw (h n (omega arith), predicates-same q P P′ n (λ c l. h c (omega arith)))
+predicates-same q os os′ zero h = refl
+predicates-same q os os′ (suc n) h = rw (h n (omega arith), predicates-same q os os′ n (λ c l. h c (omega arith)))
 
--- the place of one predicate more
-module _ (q P : List ℕ) (n at : ℕ) (room : n < length P) where
-  here : getD (set P n at) n 0 ≡ at
-  here = getD-set-same P n at 0 room
+-- the offset of one predicate more
+module _ (q os : List ℕ) (n at : ℕ) (room : n < length os) where
+  here : getD (set os n at) n 0 ≡ at
+  here = getD-set-same os n at 0 room
 
-  before : (c : ℕ) → c < n → getD (set P n at) c 0 ≡ getD P c 0
-  before c l = getD-set-other P n c at 0 (λ e. omega arith)
+  before : (c : ℕ) → c < n → getD (set os n at) c 0 ≡ getD os c 0
+  before c l = getD-set-other os n c at 0 (λ e. omega arith)
 
-  pub predicates-put : predicatesAt q (set P n at) (n + 1) ≡ predicatesAt q P n ++ (predicateIn q (recordOf q (at + headerSize) (fieldEnd q at)) ∷ [])
+  pub predicates-put : predicatesAt q (set os n at) (n + 1) ≡ predicatesAt q os n ++ (predicateIn q (recordOf q (at + headerSize) (fieldEnd q at)) ∷ [])
   unfolding predicatesAt
-  predicates-put = rw (add-one n, here, predicates-same q P (set P n at) n before)
+  predicates-put = rw (add-one n, here, predicates-same q os (set os n at) n before)
 
-  pub placed-put : ((c : ℕ) → c < n → Placed q P c) → at + headerSize + payloadHead ≤ fieldEnd q at → fieldEnd q at ≤ length q → (c : ℕ) → c < n + 1 → Placed q (set P n at) c
-  placed-put h a b c k = go (same? c n)
+  pub payload-put : ((c : ℕ) → c < n → HasPayload q os c) → at + headerSize + payloadHead ≤ fieldEnd q at → fieldEnd q at ≤ length q → (c : ℕ) → c < n + 1 → HasPayload q (set os n at) c
+  payload-put h a b c k = go (same? c n)
     where
-      go : (c ≡ n) ⊎ (c ≡ n → ⊥) → Placed q (set P n at) c
+      go : (c ≡ n) ⊎ (c ≡ n → ⊥) → HasPayload q (set os n at) c
       go (inl e) = rw (e, here) (a, b)
       go (inr e) = rw (before c (omega arith)) (h c (omega arith))
 

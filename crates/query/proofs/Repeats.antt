@@ -14,7 +14,7 @@ use Rattle.strategy.specs.Bools.{same?, or-left, or-right}
 use Rattle.predicate.specs.Meaning.{Predicate, same}
 use Rattle.predicate.specs.Payload.{payloadHead}
 use Rattle.query.specs.Decode.{payloadAt, payloadOf, isRepeated}
-use Rattle.query.specs.Places.{startAt, endAt, Placed}
+use Rattle.query.specs.Offsets.{startAt, endAt, HasPayload}
 use Rattle.query.specs.Table.{recordAt, predicateIn, predicatesAt}
 use Rattle.query.proofs.Records.{payload-byte, payload-length, record-shows}
 
@@ -81,13 +81,13 @@ module _ (payload q : List ℕ) (start end : ℕ) (some : 2 ≤ length payload) 
   same-part r e = e
 
 -- the payload at a predicate's place is its own
-module _ (q P : List ℕ) (c : ℕ) (placed : Placed q P c) where
-  shown : payloadOf (predicateIn q (recordAt q P c)) ≡ payloadAt q (startAt P c) (endAt q P c)
+module _ (q os : List ℕ) (c : ℕ) (has : HasPayload q os c) where
+  shown : payloadOf (predicateIn q (recordAt q os c)) ≡ payloadAt q (startAt os c) (endAt q os c)
   shown =
-      ap payloadOf (record-shows q (startAt P c) (endAt q P c) (placed .0))
-      ∙ sym (payload-parts (payloadAt q (startAt P c) (endAt q P c)) (omega (arith, payload-length q (startAt P c) (endAt q P c) (omega arith) (placed .1))))
+      ap payloadOf (record-shows q (startAt os c) (endAt q os c) (has .0))
+      ∙ sym (payload-parts (payloadAt q (startAt os c) (endAt q os c)) (omega (arith, payload-length q (startAt os c) (endAt q os c) (omega arith) (has .1))))
 
-  pub same-shown : (payload : List ℕ) (r : Bool) → r ≡ same payload (payloadAt q (startAt P c) (endAt q P c)) → r ≡ same payload (payloadOf (predicateIn q (recordAt q P c)))
+  pub same-shown : (payload : List ℕ) (r : Bool) → r ≡ same payload (payloadAt q (startAt os c) (endAt q os c)) → r ≡ same payload (payloadOf (predicateIn q (recordAt q os c)))
   same-shown payload r e = e ∙ ap (same payload) (sym shown)
 
 -- one predicate more to compare with
@@ -98,30 +98,30 @@ repeated-last payload (o ∷ ps) p =
     ap (_||_ (same payload (payloadOf o))) (repeated-last payload ps p) ∙ sym (or-assoc (same payload (payloadOf o)) (isRepeated payload ps) (same payload (payloadOf p)))
 
 -- the payload is that of none of the predicates from `c` up to `n`
-abbrev pub Unlike : (payload q places : List ℕ) → (c n : ℕ) → Type 0
-Unlike payload q P c n = (d : ℕ) → c ≤ d → d < n → same payload (payloadOf (predicateIn q (recordAt q P d))) ≡ false
+abbrev pub Unlike : (payload q offsets : List ℕ) → (c n : ℕ) → Type 0
+Unlike payload q os c n = (d : ℕ) → c ≤ d → d < n → same payload (payloadOf (predicateIn q (recordAt q os d))) ≡ false
 
-pub repeated-none : (payload q P : List ℕ) (n : ℕ) → Unlike payload q P 0 n → isRepeated payload (predicatesAt q P n) ≡ false
+pub repeated-none : (payload q os : List ℕ) (n : ℕ) → Unlike payload q os 0 n → isRepeated payload (predicatesAt q os n) ≡ false
 unfolding isRepeated predicatesAt
-repeated-none payload q P zero h = refl
-repeated-none payload q P (suc n) h =
-    repeated-last payload (predicatesAt q P n) (predicateIn q (recordAt q P n))
-    ∙ rw (repeated-none payload q P n (λ d i j. h d i (omega arith)), h n (omega arith) (omega arith))
+repeated-none payload q os zero h = refl
+repeated-none payload q os (suc n) h =
+    repeated-last payload (predicatesAt q os n) (predicateIn q (recordAt q os n))
+    ∙ rw (repeated-none payload q os n (λ d i j. h d i (omega arith)), h n (omega arith) (omega arith))
 
-module _ (payload q P : List ℕ) (r : Bool) (c : ℕ) (r-is : r ≡ same payload (payloadOf (predicateIn q (recordAt q P c)))) where
-  pub repeated-at : (n : ℕ) → c < n → r ≡ true → true ≡ isRepeated payload (predicatesAt q P n)
+module _ (payload q os : List ℕ) (r : Bool) (c : ℕ) (r-is : r ≡ same payload (payloadOf (predicateIn q (recordAt q os c)))) where
+  pub repeated-at : (n : ℕ) → c < n → r ≡ true → true ≡ isRepeated payload (predicatesAt q os n)
   unfolding predicatesAt
   repeated-at zero l e = absurd (omega arith)
-  repeated-at (suc n) l e = sym (repeated-last payload (predicatesAt q P n) (predicateIn q (recordAt q P n)) ∙ go (λ k. repeated-at n k e) (same? c n))
+  repeated-at (suc n) l e = sym (repeated-last payload (predicatesAt q os n) (predicateIn q (recordAt q os n)) ∙ go (λ k. repeated-at n k e) (same? c n))
     where
-      go : (c < n → true ≡ isRepeated payload (predicatesAt q P n)) → (c ≡ n) ⊎ (c ≡ n → ⊥)
-          → (isRepeated payload (predicatesAt q P n) || same payload (payloadOf (predicateIn q (recordAt q P n)))) ≡ true
-      go h (inl z) = or-right (isRepeated payload (predicatesAt q P n)) (rw (← z) (sym r-is ∙ e))
-      go h (inr z) = or-left (same payload (payloadOf (predicateIn q (recordAt q P n)))) (sym (h (omega arith)))
+      go : (c < n → true ≡ isRepeated payload (predicatesAt q os n)) → (c ≡ n) ⊎ (c ≡ n → ⊥)
+          → (isRepeated payload (predicatesAt q os n) || same payload (payloadOf (predicateIn q (recordAt q os n)))) ≡ true
+      go h (inl z) = or-right (isRepeated payload (predicatesAt q os n)) (rw (← z) (sym r-is ∙ e))
+      go h (inr z) = or-left (same payload (payloadOf (predicateIn q (recordAt q os n)))) (sym (h (omega arith)))
 
-  pub unlike-more : (n left next : ℕ) → left ≤ c + 1 → c ≤ next → Unlike payload q P left n → r ≡ false → Unlike payload q P next n
+  pub unlike-more : (n left next : ℕ) → left ≤ c + 1 → c ≤ next → Unlike payload q os left n → r ≡ false → Unlike payload q os next n
   unlike-more n left next a b h e d i j = go (same? d c)
     where
-      go : (d ≡ c) ⊎ (d ≡ c → ⊥) → same payload (payloadOf (predicateIn q (recordAt q P d))) ≡ false
+      go : (d ≡ c) ⊎ (d ≡ c → ⊥) → same payload (payloadOf (predicateIn q (recordAt q os d))) ≡ false
       go (inl z) = rw z (sym r-is ∙ e)
       go (inr z) = h d (omega arith) j

@@ -9,7 +9,7 @@ use native.Mathlib.Omega.{arith}
 use lib.ListN.{length, getD, set, drop, length-append, length-drop, List·getD-append}
 use lib.Seq.{drop-cons, append-snoc, set-at, getD-at}
 use Rattle.query.specs.declared.table.PredicateRecord.{PredicateRecord}
-use Rattle.query.specs.Places.{Located}
+use Rattle.query.specs.Offsets.{Located}
 use Rattle.query.specs.Table.{recordAt, noRecord, recordIn, recordsOf, HasRecord}
 
 -- one element more of a list that is filled from the front, whatever d is
@@ -17,41 +17,41 @@ grow : {A : Type 0} (p : List A) (r : A) (old : List A) (c : ℕ) (d : A) → le
 grow {A} p r old c d e h =
     ap (λ (l : List A). set (p ++ l) c r) (drop-cons old c d h) ∙ set-at p (getD old c d) (drop (suc c) old) r c e ∙ sym (append-snoc p r (drop (suc c) old))
 
-module _ (q places : List ℕ) where
-  pub has-record : (n c : ℕ) → Located q places n → c < n → HasRecord q places c
-  has-record n c s h = (s .sized, lt-of-lt-of-le h (s .few), s .placed c h)
+module _ (q offsets : List ℕ) where
+  pub has-record : (n c : ℕ) → Located q offsets n → c < n → HasRecord q offsets c
+  has-record n c s h = (s .sized, lt-of-lt-of-le h (s .few), s .each c h)
 
-  length-records : (c : ℕ) → length (recordsOf q places c) ≡ c
+  length-records : (c : ℕ) → length (recordsOf q offsets c) ≡ c
   unfolding recordsOf
   length-records zero = refl
   length-records (suc c) = simp (length-append, length-records c, add-one)
 
-  record-listed : (n c : ℕ) → c < n → recordIn (recordsOf q places n) c ≡ recordAt q places c
+  record-listed : (n c : ℕ) → c < n → recordIn (recordsOf q offsets n) c ≡ recordAt q offsets c
   unfolding recordsOf
   record-listed zero c l = absurd (not-suc-le-zero l)
   record-listed (suc n) c l = elim (eq-or-lt-of-le (le-of-suc-le-suc l)) [
-    | inl e ↦ getD-at (recordsOf q places n) (recordAt q places n) [] noRecord c (length-records n ∙ sym e) ∙ ap (recordAt q places) (sym e)
-    | inr k ↦ List·getD-append (recordsOf q places n) _ noRecord c (omega (arith, length-records n)) ∙ record-listed n c k
+    | inl e ↦ getD-at (recordsOf q offsets n) (recordAt q offsets n) [] noRecord c (length-records n ∙ sym e) ∙ ap (recordAt q offsets) (sym e)
+    | inr k ↦ List·getD-append (recordsOf q offsets n) _ noRecord c (omega (arith, length-records n)) ∙ record-listed n c k
   ]
 
   module _ (table : List PredicateRecord) where
     -- the list where the first c records are stored
     abbrev pub filled : ℕ → List PredicateRecord
-    filled c = recordsOf q places c ++ drop c table
+    filled c = recordsOf q offsets c ++ drop c table
 
     pub filled-none : filled 0 ≡ table
     unfolding recordsOf
     filled-none = refl
 
     pub length-filled : (c : ℕ) → c ≤ length table → length (filled c) ≡ length table
-    length-filled c h = let e = length-append (recordsOf q places c) (drop c table) in omega (arith, e, length-records c, length-drop c table)
+    length-filled c h = let e = length-append (recordsOf q offsets c) (drop c table) in omega (arith, e, length-records c, length-drop c table)
 
     -- one record more
-    pub filled-next : (c : ℕ) (r : PredicateRecord) → c < length table → r ≡ recordAt q places c → set (filled c) c r ≡ filled (c + 1)
+    pub filled-next : (c : ℕ) (r : PredicateRecord) → c < length table → r ≡ recordAt q offsets c → set (filled c) c r ≡ filled (c + 1)
     unfolding recordsOf
     filled-next c r h e =
-        grow (recordsOf q places c) r table c noRecord (length-records c) h ∙ ap (λ (s : PredicateRecord). recordsOf q places c ++ (s ∷ []) ++ drop (suc c) table) e ∙ ap filled (sym (add-one c))
+        grow (recordsOf q offsets c) r table c noRecord (length-records c) h ∙ ap (λ (s : PredicateRecord). recordsOf q offsets c ++ (s ∷ []) ++ drop (suc c) table) e ∙ ap filled (sym (add-one c))
 
     -- a record of the list is that of its predicate
-    pub record-in : (n c : ℕ) → c < n → recordIn (filled n) c ≡ recordAt q places c
-    record-in n c l = List·getD-append (recordsOf q places n) _ noRecord c (omega (arith, length-records n)) ∙ record-listed n c l
+    pub record-in : (n c : ℕ) → c < n → recordIn (filled n) c ≡ recordAt q offsets c
+    record-in n c l = List·getD-append (recordsOf q offsets n) _ noRecord c (omega (arith, length-records n)) ∙ record-listed n c l

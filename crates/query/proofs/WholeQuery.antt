@@ -46,18 +46,18 @@ each-last P [] p h = (tt, h .0)
 each-last P (o ∷ ps) p h = let r = each-last P ps p (h .1) in ((h .0, r .0), r .1)
 
 -- what holds of each predicate listed holds at each number
-each-at : (P : Predicate → Type 0) (q S : List ℕ) (n : ℕ) → Each P (predicatesAt q S n) → (c : ℕ) → c < n → P (predicateIn q (recordAt q S c))
+each-at : (P : Predicate → Type 0) (q os : List ℕ) (n : ℕ) → Each P (predicatesAt q os n) → (c : ℕ) → c < n → P (predicateIn q (recordAt q os c))
 unfolding predicatesAt
-each-at P q S zero h c l = absurd (omega arith)
-each-at P q S (suc n) h c l =
-    let s = each-last P (predicatesAt q S n) (predicateIn q (recordAt q S n)) h in
-    let go : (c ≡ n) ⊎ (c ≡ n → ⊥) → P (predicateIn q (recordAt q S c))
-    = elim [ inl e ↦ rw e (s .1) | inr e ↦ each-at P q S n (s .0) c (omega arith) ] in
+each-at P q os zero h c l = absurd (omega arith)
+each-at P q os (suc n) h c l =
+    let s = each-last P (predicatesAt q os n) (predicateIn q (recordAt q os n)) h in
+    let go : (c ≡ n) ⊎ (c ≡ n → ⊥) → P (predicateIn q (recordAt q os c))
+    = elim [ inl e ↦ rw e (s .1) | inr e ↦ each-at P q os n (s .0) c (omega arith) ] in
     go (same? c n)
 
-recorded : (tags q S : List ℕ) (c : ℕ) → Fits tags q (predicateIn q (recordAt q S c)) → Recorded tags q S c
-recorded tags q S c f =
-    let v = valid-payload tags (payloadOf (predicateIn q (recordAt q S c))) (f .valid) in
+recorded : (tags q os : List ℕ) (c : ℕ) → Fits tags q (predicateIn q (recordAt q os c)) → Recorded tags q os c
+recorded tags q os c f =
+    let v = valid-payload tags (payloadOf (predicateIn q (recordAt q os c))) (f .valid) in
     record { valid = f .valid; column = v .column-in; kind = kind-small _ _ (v .kind-fits) }
 
 module _ (tags q : List ℕ) (T T1 : Tables) where
@@ -92,7 +92,7 @@ module _ (tags q : List ℕ) (T T1 : Tables) where
       go (accepted (t, ps, next)) d k =
           let z : next ≡ p = cc in
           let y : m ≡ length ps = (let w : m ≡ 0 + length ps = cc in omega arith) in
-          let l : predicatesAt q (T1 .places) (length ps) ≡ ps = (let w : 0 + length ps ≡ length ps = omega arith in rw w at (d .shown)) in
+          let l : predicatesAt q (T1 .offsets) (length ps) ≡ ps = (let w : 0 + length ps ≡ length ps = omega arith in rw w at (d .shown)) in
           let few = k .few (omega arith) in
           rw (z, eq-eqb _ _ e) (
             ap Accepted y,
@@ -103,9 +103,9 @@ module _ (tags q : List ℕ) (T T1 : Tables) where
               leaves = k .counted;
               numbered = k .numbered;
               full = k .full;
-              located = record { sized = s .places; few = omega arith; placed = λ c i. h .within .placed c (omega arith) };
+              located = record { sized = s .offsets; few = omega arith; each = λ c i. h .within .each c (omega arith) };
               shown = l;
-              each = λ c i. recorded tags q (T1 .places) c (each-at (Fits tags q) q (T1 .places) (length ps) (rw l (k .each)) c i);
+              each = λ c i. recorded tags q (T1 .offsets) c (each-at (Fits tags q) q (T1 .offsets) (length ps) (rw l (k .each)) c i);
               ancestors = λ c i. d .ancestors .new c (omega arith, omega arith);
               low = λ c i. h .within .low c (omega arith);
               spans = rw y at (h .within .spans);

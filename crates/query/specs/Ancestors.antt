@@ -9,11 +9,11 @@ use Rattle.query.specs.Decode.{settling}
 
 -- the reader's tables: where each predicate's field begins in the query, and the groups around each predicate
 pub record Tables : Type 0 where
-  pub places : List ℕ
+  pub offsets : List ℕ
   pub ancestors : List ℕ
 
 abbrev pub tables : List ℕ → List ℕ → Tables
-tables P A = record { places = P; ancestors = A }
+tables os A = record { offsets = os; ancestors = A }
 
 -- an ancestor is three bytes: its first predicate, the end of its predicates, its tag
 abbrev pub ancestorSize : ℕ

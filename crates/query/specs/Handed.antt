@@ -13,20 +13,20 @@ use Rattle.query.specs.declared.whole.Reading.the-variants.{Refused, Acc
 use Rattle.query.specs.Format.{predicateLimit}
 use Rattle.query.specs.Query.{Query}
 use Rattle.query.specs.Decode.{payloadOf}
-use Rattle.query.specs.Places.{Located}
+use Rattle.query.specs.Offsets.{Located}
 use Rattle.query.specs.Table.{recordAt, predicateIn, predicatesAt}
 use Rattle.query.specs.Ancestors.{Tables, ancestorsSize, ancestorsOf, Low, Spans}
 use Rattle.query.specs.Sound.{IsRefusal}
 
 pub record TablesSized (T : Tables) : Type 0 where
-  pub places : length (T .places) ≡ predicateLimit
+  pub offsets : length (T .offsets) ≡ predicateLimit
   pub ancestors : length (T .ancestors) ≡ ancestorsSize
 
 -- one record: a condition over columns with these tags
-pub record Recorded (tags q places : List ℕ) (c : ℕ) : Type 0 where
-  pub valid : validPayload tags (payloadOf (predicateIn q (recordAt q places c))) ≡ true
-  pub column : recordAt q places c .column < length tags
-  pub kind : recordAt q places c .kind < 256
+pub record Recorded (tags q offsets : List ℕ) (c : ℕ) : Type 0 where
+  pub valid : validPayload tags (payloadOf (predicateIn q (recordAt q offsets c))) ≡ true
+  pub column : recordAt q offsets c .column < length tags
+  pub kind : recordAt q offsets c .kind < 256
 
 -- the tables show this query, of n predicates
 pub record Tabled (tags q : List ℕ) (Q : Query) (n : ℕ) (T : Tables) : Type 0 where
@@ -36,9 +36,9 @@ pub record Tabled (tags q : List ℕ) (Q : Query) (n : ℕ) (T : Tables) : Type 
   pub leaves : size (Q .tree) ≡ n
   pub numbered : Numbered (Q .tree) 0
   pub full : NonEmpty (Q .tree)
-  pub located : Located q (T .places) n
-  pub shown : predicatesAt q (T .places) n ≡ Q .predicates
-  pub each : (c : ℕ) → c < n → Recorded tags q (T .places) c
+  pub located : Located q (T .offsets) n
+  pub shown : predicatesAt q (T .offsets) n ≡ Q .predicates
+  pub each : (c : ℕ) → c < n → Recorded tags q (T .offsets) c
   pub ancestors : (c : ℕ) → c < n → ancestorsOf (T .ancestors) c ≡ enclosing (Q .tree) 0 c
   pub low : Low n (T .ancestors)
   pub spans : Spans n (T .ancestors)

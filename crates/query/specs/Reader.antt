@@ -12,7 +12,7 @@ use Rattle.query.specs.declared.reader.Progress.{Progress}
 use Rattle.query.specs.declared.reader.Progress.the-variants.{Refused, Next}
 use Rattle.query.specs.Format.{predicateLimit, depthLimit}
 use Rattle.query.specs.Decode.{Read, member, members}
-use Rattle.query.specs.Places.{Placed, Located}
+use Rattle.query.specs.Offsets.{HasPayload, Located}
 use Rattle.query.specs.Table.{predicatesAt}
 use Rattle.query.specs.Ancestors.{Tables, ancestorsSize, ancestorsOf, Low, Under, Kept, Spans}
 use Rattle.query.specs.Sound.{IsRefusal}
@@ -25,7 +25,7 @@ pub record AncestorsGained (n k : ℕ) (around : ℕ → List Group) (T T′ : T
 -- the predicates `ps` read: the answer counts them, and the tables show them after the first n
 pub record PredicatesGained (q : List ℕ) (around : ℕ → List Group) (n : ℕ) (ps : List Predicate) (next : ℕ) (r : Progress) (T T′ : Tables) : Type 0 where
   pub answer : r ≡ Next next (n + length ps)
-  pub shown : predicatesAt q (T′ .places) (n + length ps) ≡ predicatesAt q (T .places) n ++ ps
+  pub shown : predicatesAt q (T′ .offsets) (n + length ps) ≡ predicatesAt q (T .offsets) n ++ ps
   pub ancestors : AncestorsGained n (length ps) around T T′
 
 -- r is the answer to a reading that began with n predicates in the tables T, and T′ are the tables then
@@ -39,7 +39,7 @@ pub record Advanced (at end depth n : ℕ) (q : List ℕ) (next m : ℕ) (T T′
   pub inside : next ≤ end
   pub more : n ≤ m
   pub few : m ≤ predicateLimit
-  pub placed : (c : ℕ) → c < m → Placed q (T′ .places) c
+  pub each : (c : ℕ) → c < m → HasPayload q (T′ .offsets) c
   pub low : Low m (T′ .ancestors)
   pub under : Under n m depth (T′ .ancestors)
   pub kept : Kept n (T .ancestors) (T′ .ancestors)
@@ -52,11 +52,11 @@ StaysWithin at end depth n q (Next next m) T T′ = Advanced at end depth n q ne
 -- the member at a place, and the members from a place on, at every fuel that is enough
 abbrev pub MemberReported : (tags q : List ℕ) → (at end depth n : ℕ) → Progress → Tables → Tables → Type 0
 MemberReported tags q at end depth n r T T′ =
-    (f : ℕ) → 2 * (end - at) < f → Reported {A = Tree ℕ} q enclosing n (member f tags q at end depth (predicatesAt q (T .places) n)) r T T′
+    (f : ℕ) → 2 * (end - at) < f → Reported {A = Tree ℕ} q enclosing n (member f tags q at end depth (predicatesAt q (T .offsets) n)) r T T′
 
 abbrev pub MembersReported : (tags q : List ℕ) → (at end depth n : ℕ) → Progress → Tables → Tables → Type 0
 MembersReported tags q at end depth n r T T′ =
-    (f : ℕ) → 2 * (end - at) + 1 < f → Reported {A = Forest ℕ} q enclosingIn n (members f tags q at end depth (predicatesAt q (T .places) n)) r T T′
+    (f : ℕ) → 2 * (end - at) + 1 < f → Reported {A = Forest ℕ} q enclosingIn n (members f tags q at end depth (predicatesAt q (T .offsets) n)) r T T′
 
 -- the contract of the member reader, and of the group reader
 pub record MemberRead (tags q : List ℕ) (at end depth n : ℕ) (r : Progress) (T T′ : Tables) : Type 0 where
@@ -72,7 +72,7 @@ pub record Room (at end allowed n : ℕ) (q : List ℕ) (T : Tables) : Type 0 wh
   pub order : at ≤ end
   pub inside : end ≤ length q
   pub deep : allowed ≤ depthLimit
-  pub located : Located q (T .places) n
+  pub located : Located q (T .offsets) n
   pub ancestors : length (T .ancestors) ≡ ancestorsSize
   pub low : Low n (T .ancestors)
   pub spans : Spans n (T .ancestors)

@@ -7,7 +7,7 @@ use Rattle.predicate.specs.Meaning.{Predicate}
 use Rattle.predicate.specs.Payload.{payloadHead}
 use Rattle.query.specs.declared.table.PredicateRecord.{PredicateRecord}
 use Rattle.query.specs.Format.{predicateLimit}
-use Rattle.query.specs.Places.{startAt, endAt, Placed}
+use Rattle.query.specs.Offsets.{startAt, endAt, HasPayload}
 
 -- the record of the payload from `start` up to `end`
 abbrev pub recordOf : (q : List ℕ) → (start end : ℕ) → PredicateRecord
@@ -15,16 +15,16 @@ recordOf q start end =
     record { column = getD q start 0; kind = getD q (start + 1) 0; place = start + payloadHead; len = end - (start + payloadHead) }
 
 -- the record of predicate c
-abbrev pub recordAt : (q places : List ℕ) → (c : ℕ) → PredicateRecord
-recordAt q P c = recordOf q (startAt P c) (endAt q P c)
+abbrev pub recordAt : (q offsets : List ℕ) → (c : ℕ) → PredicateRecord
+recordAt q offsets c = recordOf q (startAt offsets c) (endAt q offsets c)
 
-abbrev pub HasRecord : (q places : List ℕ) → (c : ℕ) → Type 0
-HasRecord q P c = (length P ≡ predicateLimit) × (c < predicateLimit) × Placed q P c
+abbrev pub HasRecord : (q offsets : List ℕ) → (c : ℕ) → Type 0
+HasRecord q offsets c = (length offsets ≡ predicateLimit) × (c < predicateLimit) × HasPayload q offsets c
 
 -- the records of the first n predicates
-unfoldable pub recordsOf : (q places : List ℕ) → (n : ℕ) → List PredicateRecord
-recordsOf q P zero = []
-recordsOf q P (suc n) = recordsOf q P n ++ (recordAt q P n ∷ [])
+unfoldable pub recordsOf : (q offsets : List ℕ) → (n : ℕ) → List PredicateRecord
+recordsOf q offsets zero = []
+recordsOf q offsets (suc n) = recordsOf q offsets n ++ (recordAt q offsets n ∷ [])
 
 -- what stands past a table's end
 abbrev pub noRecord : PredicateRecord
@@ -38,6 +38,6 @@ abbrev pub predicateIn : (q : List ℕ) → PredicateRecord → Predicate
 predicateIn q r = record { column = r .column; kind = r .kind; operand = take (r .len) (drop (r .place) q); place = r .place }
 
 -- the first n predicates
-unfoldable pub predicatesAt : (q places : List ℕ) → (n : ℕ) → List Predicate
-predicatesAt q P zero = []
-predicatesAt q P (suc n) = predicatesAt q P n ++ (predicateIn q (recordAt q P n) ∷ [])
+unfoldable pub predicatesAt : (q offsets : List ℕ) → (n : ℕ) → List Predicate
+predicatesAt q offsets zero = []
+predicatesAt q offsets (suc n) = predicatesAt q offsets n ++ (predicateIn q (recordAt q offsets n) ∷ [])

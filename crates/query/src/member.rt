@@ -9,7 +9,7 @@ ghost use lib.ListN.{length};
 ghost use Rattle.fields.specs.Header.{headerAt};
 ghost use Rattle.query.specs.Format.{depthOf};
 ghost use Rattle.query.specs.Decode.{groupField, predicateField, memberField};
-ghost use Rattle.query.specs.Places.{Located};
+ghost use Rattle.query.specs.Offsets.{Located};
 ghost use Rattle.query.specs.Table.{predicatesAt};
 ghost use Rattle.query.specs.Sound.{SoundField};
 
@@ -33,17 +33,17 @@ fn group_field(allowed: usize, tag: u8, start: usize, end: usize) -> MemberField
     MemberField::Group { tag, start, end }
 }
 
-// The predicates before it are those whose fields begin at the first n places.
+// The predicates before it are those whose fields begin at the first n offsets.
 fn predicate_field(
     tags: &[u8],
     q: &[u8],
     start: usize,
     end: usize,
     n: usize,
-    places: &[usize],
+    offsets: &[usize],
 ) -> MemberField
-    requires { ⌜ (start ≤ end) × (end ≤ length (now q)) × Located (now q) (now places) n ⌝ }
-    ensures { λ r. ⌜ r ≡ predicateField (now (tags .entry)) (now (q .entry)) (predicatesAt (now (q .entry)) (now (places .entry)) n) start end ⌝ }
+    requires { ⌜ (start ≤ end) × (end ≤ length (now q)) × Located (now q) (now offsets) n ⌝ }
+    ensures { λ r. ⌜ r ≡ predicateField (now (tags .entry)) (now (q .entry)) (predicatesAt (now (q .entry)) (now (offsets .entry)) n) start end ⌝ }
 {
     if Predicate::LIMIT <= n {
         return MemberField::Refused(Refusal::TOO_MANY_PREDICATES);
@@ -51,7 +51,7 @@ fn predicate_field(
     if !payload::payload_is_valid(tags, &q[start..end]) {
         return MemberField::Refused(Refusal::INVALID_PAYLOAD);
     }
-    if crate::repeated::is_repeated(&q[start..end], q, places, n) {
+    if crate::repeated::is_repeated(&q[start..end], q, offsets, n) {
         return MemberField::Refused(Refusal::REPEATED_PAYLOAD);
     }
     MemberField::Leaf { start, end }
@@ -65,10 +65,10 @@ pub fn read_field(
     end: usize,
     allowed: usize,
     n: usize,
-    places: &[usize],
+    offsets: &[usize],
 ) -> MemberField
-    requires { ⌜ (at ≤ end) × (end ≤ length (now q)) × Located (now q) (now places) n ⌝ }
-    ensures { λ r. ⌜ (r ≡ memberField (now (tags .entry)) (now (q .entry)) (depthOf allowed) (predicatesAt (now (q .entry)) (now (places .entry)) n) (headerAt (now (q .entry)) at end)) × SoundField (now (tags .entry)) (now (q .entry)) at end (depthOf allowed) n r ⌝ }
+    requires { ⌜ (at ≤ end) × (end ≤ length (now q)) × Located (now q) (now offsets) n ⌝ }
+    ensures { λ r. ⌜ (r ≡ memberField (now (tags .entry)) (now (q .entry)) (depthOf allowed) (predicatesAt (now (q .entry)) (now (offsets .entry)) n) (headerAt (now (q .entry)) at end)) × SoundField (now (tags .entry)) (now (q .entry)) at end (depthOf allowed) n r ⌝ }
 {
     match fields::header::read_header(q, at, end) {
         Header::Cut => MemberField::Refused(Refusal::MEMBER_CUT),
@@ -78,7 +78,7 @@ pub fn read_field(
             end: stop,
         } => {
             if tag == Predicate::TAG {
-                return predicate_field(tags, q, start, stop, n, places);
+                return predicate_field(tags, q, start, stop, n, offsets);
             }
             if tag == Group::CONJUNCTION_TAG {
                 return group_field(allowed, tag, start, stop);

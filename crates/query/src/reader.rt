@@ -11,7 +11,7 @@ pub enum Progress {
     Next { at: usize, n: usize },
 }
 
-// The member at a place inside an enclosing end, with n predicates before it and so many more groups allowed; places[c] is
+// The member at a place inside an enclosing end, with n predicates before it and so many more groups allowed; offsets[c] is
 // where the field of predicate c begins, line c of ancestors tells the groups around it.
 pub fn read_member(
     tags: &[u8],
@@ -20,19 +20,19 @@ pub fn read_member(
     end: usize,
     allowed: usize,
     n: usize,
-    places: &mut [usize],
+    offsets: &mut [usize],
     ancestors: &mut [u8],
 ) -> Progress
-    requires { ⌜ Room at end allowed n (now q) (tables (now places) (now ancestors)) ⌝ }
-    ensures { λ r. ⌜ MemberRead (now (tags .entry)) (now (q .entry)) at end (depthOf allowed) n r (tables (now (places .entry)) (now (ancestors .entry))) (tables (now (places .exit)) (now (ancestors .exit))) ⌝ }
+    requires { ⌜ Room at end allowed n (now q) (tables (now offsets) (now ancestors)) ⌝ }
+    ensures { λ r. ⌜ MemberRead (now (tags .entry)) (now (q .entry)) at end (depthOf allowed) n r (tables (now (offsets .entry)) (now (ancestors .entry))) (tables (now (offsets .exit)) (now (ancestors .exit))) ⌝ }
 {
-    match crate::member::read_field(tags, q, at, end, allowed, n, places) {
+    match crate::member::read_field(tags, q, at, end, allowed, n, offsets) {
         MemberField::Refused(e) => Progress::Refused(e),
         MemberField::Leaf {
             start: _,
             end: stop,
         } => {
-            places[n] = at;
+            offsets[n] = at;
             ancestors[Ancestors::WIDTH * n] = 0;
             Progress::Next { at: stop, n: n + 1 }
         }
@@ -41,7 +41,7 @@ pub fn read_member(
             start,
             end: stop,
         } => {
-            match read_group(tags, q, start, stop, allowed - 1, n, places, ancestors) {
+            match read_group(tags, q, start, stop, allowed - 1, n, offsets, ancestors) {
                 Progress::Refused(e) => Progress::Refused(e),
                 Progress::Next { at: next, n: m } => {
                     crate::ancestors::close_group(ancestors, n, m, tag);
@@ -60,16 +60,16 @@ fn read_group(
     end: usize,
     allowed: usize,
     n: usize,
-    places: &mut [usize],
+    offsets: &mut [usize],
     ancestors: &mut [u8],
 ) -> Progress
-    requires { ⌜ Room at end allowed n (now q) (tables (now places) (now ancestors)) ⌝ }
-    ensures { λ r. ⌜ MembersRead (now (tags .entry)) (now (q .entry)) at end (depthOf allowed) n r (tables (now (places .entry)) (now (ancestors .entry))) (tables (now (places .exit)) (now (ancestors .exit))) ⌝ }
+    requires { ⌜ Room at end allowed n (now q) (tables (now offsets) (now ancestors)) ⌝ }
+    ensures { λ r. ⌜ MembersRead (now (tags .entry)) (now (q .entry)) at end (depthOf allowed) n r (tables (now (offsets .entry)) (now (ancestors .entry))) (tables (now (offsets .exit)) (now (ancestors .exit))) ⌝ }
 {
     let mut p = at;
     let mut m = n;
     while p < end {
-        match read_member(tags, q, p, end, allowed, m, places, ancestors) {
+        match read_member(tags, q, p, end, allowed, m, offsets, ancestors) {
             Progress::Refused(e) => {
                 return Progress::Refused(e);
             }

@@ -7,7 +7,7 @@ ghost use Rattle.fields.specs.Header.{headerSize, fieldEnd};
 ghost use Rattle.predicate.specs.Meaning.{same};
 ghost use Rattle.predicate.specs.Payload.{payloadHead};
 ghost use Rattle.query.specs.Decode.{payloadAt, isRepeated};
-ghost use Rattle.query.specs.Places.{Located};
+ghost use Rattle.query.specs.Offsets.{Located};
 ghost use Rattle.query.specs.Table.{predicatesAt};
 
 fn same_bytes(a: &[u8], b: &[u8]) -> bool
@@ -49,13 +49,13 @@ fn is_payload_at(payload: &[u8], q: &[u8], at: usize) -> bool
 }
 
 // Whether one of the first n predicates has this payload.
-pub fn is_repeated(payload: &[u8], q: &[u8], places: &[usize], n: usize) -> bool
-    requires { ⌜ (payloadHead ≤ length (now payload)) × Located (now q) (now places) n ⌝ }
-    ensures { λ r. ⌜ r ≡ isRepeated (now (payload .entry)) (predicatesAt (now (q .entry)) (now (places .entry)) n) ⌝ }
+pub fn is_repeated(payload: &[u8], q: &[u8], offsets: &[usize], n: usize) -> bool
+    requires { ⌜ (payloadHead ≤ length (now payload)) × Located (now q) (now offsets) n ⌝ }
+    ensures { λ r. ⌜ r ≡ isRepeated (now (payload .entry)) (predicatesAt (now (q .entry)) (now (offsets .entry)) n) ⌝ }
 {
     let mut left = n;
     while 0 < left {
-        if is_payload_at(payload, q, places[left - 1]) {
+        if is_payload_at(payload, q, offsets[left - 1]) {
             return true;
         }
         left -= 1;

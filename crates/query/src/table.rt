@@ -6,7 +6,7 @@ ghost use mathlib.Core.List.{_++_};
 ghost use Prim.Native.Nat.{_+_, _≤_};
 ghost use lib.ListN.{length, drop};
 ghost use Rattle.predicate.specs.Payload.{payloadHead};
-ghost use Rattle.query.specs.Places.{Located};
+ghost use Rattle.query.specs.Offsets.{Located};
 ghost use Rattle.query.specs.Table.{recordOf, recordAt, HasRecord, recordsOf};
 
 // Document 01's condition: the operand is the len bytes of the query from place on.
@@ -31,23 +31,23 @@ fn record_of(q: &[u8], start: usize, end: usize) -> PredicateRecord
     }
 }
 
-// The record of predicate c: places[c] is where its field begins, the record's place where its operand begins.
-pub fn record_at(q: &[u8], places: &[usize], c: usize) -> PredicateRecord
-    requires { ⌜ HasRecord (now q) (now places) c ⌝ }
-    ensures { λ r. ⌜ r ≡ recordAt (now (q .entry)) (now (places .entry)) c ⌝ }
+// The record of predicate c: offsets[c] is where its field begins, the record's place where its operand begins.
+pub fn record_at(q: &[u8], offsets: &[usize], c: usize) -> PredicateRecord
+    requires { ⌜ HasRecord (now q) (now offsets) c ⌝ }
+    ensures { λ r. ⌜ r ≡ recordAt (now (q .entry)) (now (offsets .entry)) c ⌝ }
 {
-    let at = places[c];
+    let at = offsets[c];
     record_of(q, at + Header::SIZE, fields::header::field_end(q, at))
 }
 
 // Stores the records of the first n predicates; what stands after them stays.
-pub fn tabulate(q: &[u8], places: &[usize], n: usize, table: &mut [PredicateRecord])
-    requires { ⌜ Located (now q) (now places) n × (n ≤ length (now table)) ⌝ }
-    ensures { λ _. ⌜ now (table .exit) ≡ recordsOf (now (q .entry)) (now (places .entry)) n ++ drop n (now (table .entry)) ⌝ }
+pub fn tabulate(q: &[u8], offsets: &[usize], n: usize, table: &mut [PredicateRecord])
+    requires { ⌜ Located (now q) (now offsets) n × (n ≤ length (now table)) ⌝ }
+    ensures { λ _. ⌜ now (table .exit) ≡ recordsOf (now (q .entry)) (now (offsets .entry)) n ++ drop n (now (table .entry)) ⌝ }
 {
     let mut c: usize = 0;
     while c < n {
-        table[c] = record_at(q, places, c);
+        table[c] = record_at(q, offsets, c);
         c += 1;
     }
 }

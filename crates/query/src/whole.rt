@@ -13,9 +13,9 @@ pub enum Reading {
 
 // Checks a query against a catalogue whose columns have these tags, and tells where the fields of its n
 // predicates begin and which groups are around each.
-pub fn read_query(tags: &[u8], q: &[u8], places: &mut [usize], ancestors: &mut [u8]) -> Reading
-    requires { ⌜ TablesSized (tables (now places) (now ancestors)) ⌝ }
-    ensures { λ r. ⌜ Handed (now (tags .entry)) (now (q .entry)) (decodeTagged (now (tags .entry)) (now (q .entry))) r (tables (now (places .exit)) (now (ancestors .exit))) ⌝ }
+pub fn read_query(tags: &[u8], q: &[u8], offsets: &mut [usize], ancestors: &mut [u8]) -> Reading
+    requires { ⌜ TablesSized (tables (now offsets) (now ancestors)) ⌝ }
+    ensures { λ r. ⌜ Handed (now (tags .entry)) (now (q .entry)) (decodeTagged (now (tags .entry)) (now (q .entry))) r (tables (now (offsets .exit)) (now (ancestors .exit))) ⌝ }
 {
     match crate::reader::read_member(
         tags,
@@ -24,7 +24,7 @@ pub fn read_query(tags: &[u8], q: &[u8], places: &mut [usize], ancestors: &mut [
         q.len(),
         Group::DEPTH_LIMIT,
         0,
-        places,
+        offsets,
         ancestors,
     ) {
         Progress::Refused(e) => Reading::Refused(e),

@@ -17,12 +17,12 @@ pub fn work(
     question: &[u8],
     order: &[u8],
     begun: Beginning,
-    places: &[usize],
+    offsets: &[usize],
     ancestors: &[u8],
     selected: &mut [u8],
     probes: &mut [u8],
 )
-    requires { ⌜ Begun (now catalogue) (now question) begun (tables (now places) (now ancestors)) × (isOrder (begun .n) (now order) ≡ true) ⌝ }
+    requires { ⌜ Begun (now catalogue) (now question) begun (tables (now offsets) (now ancestors)) × (isOrder (begun .n) (now order) ≡ true) ⌝ }
     requires { ⌜ Empty 1 (now selected) × Empty predicateLimit (now probes) ⌝ }
     ensures { λ _. ⌜ RunWorked (now (catalogue .entry)) (now (question .entry)) (now (order .entry)) (begun .n) (now (selected .exit)) (now (probes .exit)) ⌝ }
 {
@@ -30,7 +30,7 @@ pub fn work(
     let tags = begun.tags;
     let starts = begun.starts;
     let mut plan = [0usize; Plan::TABLE];
-    plan::table::fill_plan(&tags, &starts, question, places, n, &mut plan);
+    plan::table::fill_plan(&tags, &starts, question, offsets, n, &mut plan);
     let extent = Extent {
         rows: begun.rows,
         start: sets::below(fields::number::narrow(n)),

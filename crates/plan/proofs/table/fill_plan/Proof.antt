@@ -48,7 +48,7 @@ use denote.Triple.Walked.{says, needs, Stays, stay-dropped, gave-slice, walkOf, 
 use denote.Exit.{yes}
 use Rattle.query.specs.declared.table.PredicateRecord.{PredicateRecord}
 use Rattle.query.specs.Format.{predicateLimit}
-use Rattle.query.specs.Places.{Located}
+use Rattle.query.specs.Offsets.{Located}
 use Rattle.query.specs.Table.{noRecord, recordAt, recordIn, recordsOf}
 use Rattle.query.proofs.table.PredicateRecord as T
 use Rattle.query.proofs.table.PredicateRecord.Laws as T′
@@ -107,30 +107,30 @@ module _ {M : Type 1} (𝓤 : URA M) (H : Heap 𝓤) (A : Atoms 𝓤) (mem′ : 
   abbrev Plans : Contract 𝓤
   Plans = tripleOf 𝓤 H A plan-records.signature (plan-records.spec 𝓤 H A mem′ run)
 
-module _ {M : Type 1} (𝓤 : URA M) (H : Heap 𝓤) (A : Atoms 𝓤) (W : Given 𝓤 H A) (mem′ : Memory → SProp 𝓤) (run : Routine → Fun 𝓤) (κ₀ κ₁ κ₂ κ₃ κ₄ : Lft) (q₀ q₁ q₂ q₃ q₄ : Share) (tags starts q places : RefT (List ℕ)) (n : ℕ) (plan : RefT (List ℕ)) where
+module _ {M : Type 1} (𝓤 : URA M) (H : Heap 𝓤) (A : Atoms 𝓤) (W : Given 𝓤 H A) (mem′ : Memory → SProp 𝓤) (run : Routine → Fun 𝓤) (κ₀ κ₁ κ₂ κ₃ κ₄ : Lft) (q₀ q₁ q₂ q₃ q₄ : Share) (tags starts q offsets : RefT (List ℕ)) (n : ℕ) (plan : RefT (List ℕ)) where
   -- ---- what the three contracts say: the `requires` of `fill_plan`, the `ensures` of `tabulate` and of `plan_records` at the table ts, and the `ensures` of `fill_plan`
   abbrev Asked : Type 0
-  Asked = Located (q .now) (places .now) n × (length (plan .now) ≡ planSize) × HaveColumns (tags .now) (starts .now) (recordAt (q .now) (places .now)) n
+  Asked = Located (q .now) (offsets .now) n × (length (plan .now) ≡ planSize) × HaveColumns (tags .now) (starts .now) (recordAt (q .now) (offsets .now)) n
 
   abbrev Tabulated : List PredicateRecord → Type 0
-  Tabulated ts = ts ≡ recordsOf (q .now) (places .now) n ++ dropN n blank
+  Tabulated ts = ts ≡ recordsOf (q .now) (offsets .now) n ++ dropN n blank
 
   abbrev Filled : List PredicateRecord → List ℕ → Type 0
   Filled ts ps = Planned (tags .now) (starts .now) (recordIn ts) ps n
 
   abbrev Answered : List ℕ → Type 0
-  Answered ps = Planned (tags .now) (starts .now) (recordAt (q .now) (places .now)) ps n
+  Answered ps = Planned (tags .now) (starts .now) (recordAt (q .now) (offsets .now)) ps n
 
   -- and how each follows from those before it: the `requires` of `tabulate`, of `plan_records`, and the `ensures` of `fill_plan` (`Recorded.antt`)
-  can-tabulate : Asked → Located (q .now) (places .now) n × (n ≤ length blank)
+  can-tabulate : Asked → Located (q .now) (offsets .now) n × (n ≤ length blank)
   can-tabulate f = (f .0, subst (λ (m : ℕ). n ≤ m) (sym blank-size) (f .0 .few))
 
   can-plan : (ts : List PredicateRecord) → Asked → Tabulated ts → length ts ≡ predicateLimit
       → (n ≤ predicateLimit) × (n ≤ length ts) × (length (plan .now) ≡ planSize) × HaveColumns (tags .now) (starts .now) (recordIn ts) n
-  can-plan ts f t e = (f .0 .few, subst (λ (m : ℕ). n ≤ m) (sym e) (f .0 .few), f .1, have-columns (q .now) (places .now) ts blank n t (tags .now) (starts .now) (f .2))
+  can-plan ts f t e = (f .0 .few, subst (λ (m : ℕ). n ≤ m) (sym e) (f .0 .few), f .1, have-columns (q .now) (offsets .now) ts blank n t (tags .now) (starts .now) (f .2))
 
   answers : (ts : List PredicateRecord) (ps : List ℕ) → Tabulated ts → Filled ts ps → Answered ps
-  answers ts ps t = planned (q .now) (places .now) ts blank n t (tags .now) (starts .now) ps
+  answers ts ps t = planned (q .now) (offsets .now) ts blank n t (tags .now) (starts .now) ps
 
   -- ---- the lifetimes, their shares, the arguments and their machine values
   abbrev κs : Lfts 5
@@ -143,13 +143,13 @@ module _ {M : Type 1} (𝓤 : URA M) (H : Heap 𝓤) (A : Atoms 𝓤) (W : Given
   Arg = RefT (List ℕ) × (RefT (List ℕ) × (RefT (List ℕ) × (RefT (List ℕ) × (ℕ × (RefT (List ℕ) × Unit {0})))))
 
   abbrev a : Arg
-  a = (tags, (starts, (q, (places, (n, (plan, tt))))))
+  a = (tags, (starts, (q, (offsets, (n, (plan, tt))))))
 
   abbrev vals : List Val × (List Val × (List Val × (List Val × (List Val × (List Val × Unit {0})))))
-  vals = (val tags ∷ [], (val starts ∷ [], (val q ∷ [], (val places ∷ [], (vint w64 n ∷ [], (val plan ∷ [], tt))))))
+  vals = (val tags ∷ [], (val starts ∷ [], (val q ∷ [], (val offsets ∷ [], (vint w64 n ∷ [], (val plan ∷ [], tt))))))
 
   abbrev args : List Val
-  args = val tags ∷ val starts ∷ val q ∷ val places ∷ vint w64 n ∷ val plan ∷ []
+  args = val tags ∷ val starts ∷ val q ∷ val offsets ∷ vint w64 n ∷ val plan ∷ []
 
   abbrev param-types : List RattleType
   param-types = ShrSlice (named 0) κ₀ u8 ∷ ShrSlice (named 1) κ₁ usize ∷ ShrSlice (named 2) κ₂ u8 ∷ ShrSlice (named 3) κ₃ usize ∷ usize ∷ MutSlice (named 4) κ₄ usize ∷ []
@@ -162,7 +162,7 @@ module _ {M : Type 1} (𝓤 : URA M) (H : Heap 𝓤) (A : Atoms 𝓤) (W : Given
 
   -- what goes to `tabulate`, and what goes to `plan_records`
   abbrev for-table : Item 𝓤
-  for-table = ‵ (flft κ₂ q₂) ⊛ ‵ (flft κ₃ q₃) ⊛ ‵ (ShrSlice (named 0) κ₂ u8 .own q (val q ∷ [])) ⊛ ‵ (ShrSlice (named 1) κ₃ usize .own places (val places ∷ []))
+  for-table = ‵ (flft κ₂ q₂) ⊛ ‵ (flft κ₃ q₃) ⊛ ‵ (ShrSlice (named 0) κ₂ u8 .own q (val q ∷ [])) ⊛ ‵ (ShrSlice (named 1) κ₃ usize .own offsets (val offsets ∷ []))
 
   abbrev for-plan : Item 𝓤
   for-plan = ‵ (flft κ₀ q₀) ⊛ ‵ (flft κ₁ q₁) ⊛ ‵ (flft κ₄ q₄) ⊛ ‵ (ShrSlice (named 0) κ₀ u8 .own tags (val tags ∷ [])) ⊛ ‵ (ShrSlice (named 1) κ₁ usize .own starts (val starts ∷ [])) ⊛ ‵ (MutSlice (named 3) κ₄ usize .own plan (val plan ∷ []))
@@ -172,7 +172,7 @@ module _ {M : Type 1} (𝓤 : URA M) (H : Heap 𝓤) (A : Atoms 𝓤) (W : Given
       qed W (tokens ∷ ‵ (owns param-types a vals) ∷ []) ∵ split ! $ move ! (1 ∷ []) $ split ! $ move ! (1 ∷ []) $ split ! $ move ! (1 ∷ []) $ split ! $ move ! (1 ∷ []) $ split ! $
       -- [κ₄'s token; true; κ₃'s; κ₂'s; κ₁'s; κ₀'s; what the parameters own]
       move ! (6 ∷ []) $ fsplit ! $ move ! (1 ∷ []) $ fsplit ! $ move ! (1 ∷ []) $ fsplit ! $ move ! (1 ∷ []) $ fsplit ! $ move ! (1 ∷ []) $ fsplit ! $ move ! (1 ∷ []) $ fsplit ! $
-      -- [plan; true; n; places; q; starts; tags; κ₄'s token; true; κ₃'s; κ₂'s; κ₁'s; κ₀'s]
+      -- [plan; true; n; offsets; q; starts; tags; κ₄'s token; true; κ₃'s; κ₂'s; κ₁'s; κ₀'s]
       keep ! (10 ∷ 9 ∷ 4 ∷ 3 ∷ 12 ∷ 11 ∷ 7 ∷ 6 ∷ 5 ∷ 0 ∷ []) $ group ! 4 $ done !
 
   -- ---- the call of `tabulate`: what its triple binds outside, that the caller has what it asks, and what the caller has of what it leaves
@@ -180,17 +180,17 @@ module _ {M : Type 1} (𝓤 : URA M) (H : Heap 𝓤) (A : Atoms 𝓤) (W : Given
   table-lfts α = (κ₂, (κ₃, (α ∷ [], tt)))
 
   abbrev table-args : GName → ℕ → RefT (List ℕ) × (RefT (List ℕ) × (ℕ × (RefT (List PredicateRecord) × Unit {0})))
-  table-args γ l = (q, (places, (n, (slot γ l blank, tt))))
+  table-args γ l = (q, (offsets, (n, (slot γ l blank, tt))))
 
   abbrev to-tabulate : ℕ → GName → ℕ → Tabulate 𝓤 H A mem′ run .Ghost
-  to-tabulate α γ l = ((table-lfts α, (q₂, (q₃, (fullShare, tt))), tt, table-args γ l, (val q ∷ [], (val places ∷ [], (vint w64 n ∷ [], (val (slot γ l blank) ∷ [], tt))))), tt)
+  to-tabulate α γ l = ((table-lfts α, (q₂, (q₃, (fullShare, tt))), tt, table-args γ l, (val q ∷ [], (val offsets ∷ [], (vint w64 n ∷ [], (val (slot γ l blank) ∷ [], tt))))), tt)
 
   asks-tabulate : n < 2 ^ 64 → Asked → (α : ℕ) (γ : GName) (l : ℕ)
       → ent 𝓤 (sep 𝓤 (A .lft (α ∷ []) fullShare) (sep 𝓤 (sem 𝓤 H A (MutSlice (named 2) (α ∷ []) R .own (slot γ l blank) (val (slot γ l blank) ∷ []))) (mean 𝓤 H A for-table))) (Tabulate 𝓤 H A mem′ run .pre (to-tabulate α γ l))
   asks-tabulate gn f α γ l =
       qed W (‵ (flft (α ∷ []) fullShare) ∷ ‵ (MutSlice (named 2) (α ∷ []) R .own (slot γ l blank) (val (slot γ l blank) ∷ [])) ∷ for-table ∷ []) ∵ says ! (can-tabulate f) $
       move ! (2 ∷ []) $ split ! $ move ! (1 ∷ []) $ split ! $ move ! (1 ∷ []) $ split ! $ nothing ! $
-      -- [true; q; places; κ₃'s token; κ₂'s; α's; the table]
+      -- [true; q; offsets; κ₃'s token; κ₂'s; α's; the table]
       move ! (4 ∷ 3 ∷ 5 ∷ 0 ∷ []) $ group ! 4 $ frame ! $
       nothing ! $ owned ! usize (Is usize) (uint-makes 𝓤 H A W w64) n _ (refl, gn) $ move ! (2 ∷ 3 ∷ 0 ∷ 4 ∷ 1 ∷ []) $ done !
 
@@ -203,7 +203,7 @@ module _ {M : Type 1} (𝓤 : URA M) (H : Heap 𝓤) (A : Atoms 𝓤) (W : Given
       use1 W (later (some (λ (r : Unit {0}). ((‵ (flft κ₂ q₂) ⊛ ‵ (flft κ₃ q₃) ⊛ ‵ (flft (α ∷ []) fullShare) ⊛ ‵ ftrue) ⊛ ‵ (Nothing .own r (w ∷ []))) ⊛ raw (ensured 𝓤 H A tabulate.ended (tabulate.clauses 𝓤 H A mem′ run) (table-lfts α) (table-args γ l) tt r)))) (id⊢ 𝓤 _) $ await ! tt $ pick ! (λ r. split ! $ move ! (1 ∷ []) $
       use1 W (some (λ (zs : Unit {0} × (Unit {0} × (Unit {0} × (List PredicateRecord × Unit {0})))). ‵ (lasts tabulate.ended (table-lfts α) (table-args γ l) zs) ⊛ raw (fact 𝓤 (Tabulated (zs .1 .1 .1 .0))))) (id⊢ 𝓤 _) $ pick ! (λ zs.
       split ! $ move ! (1 ∷ []) $ heard ! (Tabulated (zs .1 .1 .1 .0)) (λ f.
-      -- [what is said of q, of places, of n and of the table; the tokens and the result]
+      -- [what is said of q, of offsets, of n and of the table; the tokens and the result]
       fsplit ! $ drop ! $ fsplit ! $ drop ! $ fsplit ! $ drop ! $ fsplit ! $ fsplit ! $ move ! (3 ∷ []) $ split ! $ move ! (1 ∷ []) $ facts ! Nothing (Is Nothing) (shows 𝓤 H A Nothing) r (w ∷ []) (λ is.
       split ! $ move ! (1 ∷ []) $ split ! $ move ! (1 ∷ []) $ split ! $
       -- [α's token; true; κ₃'s; κ₂'s; the table's last list; its length; true]
@@ -257,7 +257,7 @@ module _ {M : Type 1} (𝓤 : URA M) (H : Heap 𝓤) (A : Atoms 𝓤) (W : Given
       feqI ! (List Val) (vunit ∷ []) (vunit ∷ []) refl $ done !
 
   module _ (C : Calls 𝓤 H) (Λ : Loops 𝓤 H) (fm : FmC 𝓤 H (W .laws) C) (tabulates : Triple 𝓤 (C #query·table·tabulate) (Tabulate 𝓤 H A mem′ run)) (plans : Triple 𝓤 (C #plan·table·plan-records) (Plans 𝓤 H A mem′ run)) where
-    walk : Room u8 (length (tags .now)) → Room usize (length (starts .now)) → Room u8 (length (q .now)) → Room usize (length (places .now)) → n < 2 ^ 64 → Room usize (length (plan .now)) → Asked
+    walk : Room u8 (length (tags .now)) → Room usize (length (starts .now)) → Room u8 (length (q .now)) → Room usize (length (offsets .now)) → n < 2 ^ 64 → Room usize (length (plan .now)) → Asked
         → ent 𝓤 (onEntry 𝓤 H A fill-plan.signature κs qs a vals) (WpFn 𝓤 H C Λ code.function args Post)
     walk r₁ r₂ r₃ r₄ gn r₆ f =
         let wt = LL.lawful T.the-type T′.the-laws 𝓤 H A W .typed noRecord _ none-is .0 in

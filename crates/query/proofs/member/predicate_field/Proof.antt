@@ -11,7 +11,7 @@ use Rattle.query.proofs.member.predicate_field.Tie as tie
 returns : tie.Need-returns
 returns c =
     let a = c .before .before .before .before .args in
-    predicate-many (a .tags .now) (a .q .now) (a .places .now) (a .n) (a .start) (a .end) (omega arith)
+    predicate-many (a .tags .now) (a .q .now) (a .offsets .now) (a .n) (a .start) (a .end) (omega arith)
 
 sub-payload-is-valid : tie.Need-sub-payload-is-valid
 sub-payload-is-valid c = search needs
@@ -28,7 +28,7 @@ payload-is-valid-requires c κs = search needs
 returns-2 : tie.Need-returns-2
 returns-2 c =
     let a = c .before .before .before .before .before .before .before .args in
-    predicate-invalid (a .tags .now) (a .q .now) (a .places .now) (a .n) (a .start) (a .end) (omega arith) _ (c .before .payload-is-valid .ensures) (not-true _ (c .if2 .taken))
+    predicate-invalid (a .tags .now) (a .q .now) (a .offsets .now) (a .n) (a .start) (a .end) (omega arith) _ (c .before .payload-is-valid .ensures) (not-true _ (c .if2 .taken))
 
 sub-is-repeated : tie.Need-sub-is-repeated
 sub-is-repeated c = search needs
@@ -45,12 +45,12 @@ is-repeated-requires c κs = (valid-payload _ _ (sym (c .before .before .payload
 returns-3 : tie.Need-returns-3
 returns-3 c =
     let a = c .before .before .before .before .before .before .before .before .before .before .args in
-    predicate-repeated (a .tags .now) (a .q .now) (a .places .now) (a .n) (a .start) (a .end) (omega arith) _ (c .before .before .before .before .payload-is-valid .ensures) (not-false _ (c .before .before .before .if2 .left)) _ (c .before .is-repeated .ensures) (c .if3 .taken)
+    predicate-repeated (a .tags .now) (a .q .now) (a .offsets .now) (a .n) (a .start) (a .end) (omega arith) _ (c .before .before .before .before .payload-is-valid .ensures) (not-false _ (c .before .before .before .if2 .left)) _ (c .before .is-repeated .ensures) (c .if3 .taken)
 
 returns-4 : tie.Need-returns-4
 returns-4 c =
     let a = c .before .before .before .before .before .before .before .before .before .before .args in
-    predicate-leaf (a .tags .now) (a .q .now) (a .places .now) (a .n) (a .start) (a .end) (omega arith) _ (c .before .before .before .before .payload-is-valid .ensures) (not-false _ (c .before .before .before .if2 .left)) _ (c .before .is-repeated .ensures) (c .if3 .left)
+    predicate-leaf (a .tags .now) (a .q .now) (a .offsets .now) (a .n) (a .start) (a .end) (omega arith) _ (c .before .before .before .before .payload-is-valid .ensures) (not-false _ (c .before .before .before .if2 .left)) _ (c .before .is-repeated .ensures) (c .if3 .left)
 
 pub predicate-field-spec : {M : Type 1} → statement M
 predicate-field-spec =

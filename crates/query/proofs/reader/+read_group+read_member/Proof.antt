@@ -51,10 +51,10 @@ member-claims t =
     (read-field-reads.Asked, read-field-reads.Learnt, read-group-below t, read-group.Post, close-group-reads.Asked, close-group-reads.Learnt)
 
 abbrev read-group-Inv-loop : read-group-lts.InvT-loop
-read-group-Inv-loop tags q at end allowed n places₀ ancestors₀ p₀ m₀ places ancestors p m = InGroup tags q at end allowed n p m (tables places₀ ancestors₀) (tables places ancestors)
+read-group-Inv-loop tags q at end allowed n offsets₀ ancestors₀ p₀ m₀ offsets ancestors p m = InGroup tags q at end allowed n p m (tables offsets₀ ancestors₀) (tables offsets ancestors)
 
 abbrev read-group-μ-loop : read-group-lts.MeasureT-loop
-read-group-μ-loop tags q at end allowed n places₀ ancestors₀ p₀ m₀ places ancestors p m = end - p
+read-group-μ-loop tags q at end allowed n offsets₀ ancestors₀ p₀ m₀ offsets ancestors p m = end - p
 
 read-group-loop-holds : (t : ℕ) → read-group-lts.Need-loop-holds (group-claims t) (read-group-at t) read-group.Post read-group-Inv-loop read-group-μ-loop
 read-group-loop-holds t c = in-group-none _ _ _ _ _ _ _ (c .before .before .before .before .pre .1)
@@ -76,7 +76,7 @@ read-group-returns t c =
     let a = c .before .before .before .before .before .before .before .before .before .before .before .before .before .before .before .before .args in
     let l = c .before .before .before .before .before .before .before .before .before .before .before .loop in
     let m = c .before .before .before .before .before .before .before .read-member in
-    in-group-refused _ _ _ (a .end) (a .allowed) _ (l .p) (l .m) (tables (now (a .places)) (now (a .ancestors))) (tables (l .places) (l .ancestors)) (l .inv) (tables (m .last .1 .1 .1 .1 .1 .1 .0) (m .last .1 .1 .1 .1 .1 .1 .1 .0)) (omega arith) _ (rw (c .before .e .given .1) at (m .ensures))
+    in-group-refused _ _ _ (a .end) (a .allowed) _ (l .p) (l .m) (tables (now (a .offsets)) (now (a .ancestors))) (tables (l .offsets) (l .ancestors)) (l .inv) (tables (m .last .1 .1 .1 .1 .1 .1 .0) (m .last .1 .1 .1 .1 .1 .1 .1 .0)) (omega arith) _ (rw (c .before .e .given .1) at (m .ensures))
 
 read-group-enum-known-next : (t : ℕ) → read-group-lts.Need-enum-known-next (group-claims t) (read-group-at t) read-group.Post read-group-Inv-loop read-group-μ-loop
 read-group-enum-known-next t c = search needs
@@ -93,7 +93,7 @@ read-group-loop-again t c =
     let m = c .before .before .before .before .before .before .before .read-member in
     let k = m .kept in
     let r = l .inv .room in
-    in-group-more _ _ _ (a .end) (a .allowed) _ (l .p) (l .m) (tables (now (a .places)) (now (a .ancestors))) (tables (l .places) (l .ancestors)) (l .inv) (tables (m .last .1 .1 .1 .1 .1 .1 .0) (m .last .1 .1 .1 .1 .1 .1 .1 .0)) (omega arith) _ _ (rw (c .before .next .given .1) at (m .ensures)) (omega (arith, r .located .sized)) (omega (arith, r .ancestors))
+    in-group-more _ _ _ (a .end) (a .allowed) _ (l .p) (l .m) (tables (now (a .offsets)) (now (a .ancestors))) (tables (l .offsets) (l .ancestors)) (l .inv) (tables (m .last .1 .1 .1 .1 .1 .1 .0) (m .last .1 .1 .1 .1 .1 .1 .1 .0)) (omega arith) _ _ (rw (c .before .next .given .1) at (m .ensures)) (omega (arith, r .located .sized)) (omega (arith, r .ancestors))
 
 read-group-same-length-3 : (t : ℕ) → read-group-lts.Need-same-length-3 (group-claims t) (read-group-at t) read-group.Post read-group-Inv-loop read-group-μ-loop
 read-group-same-length-3 t c = search needs
@@ -105,7 +105,7 @@ read-group-returns-2 : (t : ℕ) → read-group-lts.Need-returns-2 (group-claims
 read-group-returns-2 t c =
     let a = c .before .before .before .before .before .before .args in
     let l = c .before .loop in
-    in-group-end _ _ _ (a .end) (a .allowed) _ (l .p) (l .m) (tables (now (a .places)) (now (a .ancestors))) (tables (l .places) (l .ancestors)) (l .inv) (omega arith)
+    in-group-end _ _ _ (a .end) (a .allowed) _ (l .p) (l .m) (tables (now (a .offsets)) (now (a .ancestors))) (tables (l .offsets) (l .ancestors)) (l .inv) (omega arith)
 
 read-member-read-field-requires : (t : ℕ) → read-member-lts.Need-read-field-requires (member-claims t) (read-member-at t) read-member.Post
 read-member-read-field-requires t c κs = let p = c .before .before .before .before .before .pre .1 in (p .order, p .inside, p .located)
@@ -116,13 +116,13 @@ read-member-enum-known-e t c = search needs
 read-member-enum-known-stop : (t : ℕ) → read-member-lts.Need-enum-known-stop (member-claims t) (read-member-at t) read-member.Post
 read-member-enum-known-stop t c = search needs
 
-read-member-mul-places : (t : ℕ) → read-member-lts.Need-mul-places (member-claims t) (read-member-at t) read-member.Post
-read-member-mul-places t c =
+read-member-mul-offsets : (t : ℕ) → read-member-lts.Need-mul-offsets (member-claims t) (read-member-at t) read-member.Post
+read-member-mul-offsets t c =
     let w = rw (c .before .stop .given .1) at (c .before .before .before .read-field .ensures .1) in
     omega (arith, c .before .before .before .before .before .before .before .before .before .pre .1 .located .sized)
 
-read-member-slice-write-places : (t : ℕ) → read-member-lts.Need-slice-write-places (member-claims t) (read-member-at t) read-member.Post
-read-member-slice-write-places t c =
+read-member-slice-write-offsets : (t : ℕ) → read-member-lts.Need-slice-write-offsets (member-claims t) (read-member-at t) read-member.Post
+read-member-slice-write-offsets t c =
     let w = rw (c .before .stop .given .1) at (c .before .before .before .read-field .ensures .1) in
     omega (arith, c .before .before .before .before .before .before .before .before .before .pre .1 .located .sized)
 
@@ -186,7 +186,7 @@ read-member-returns t c =
     let a = c .before .before .before .before .before .before .before .before .before .args in
     let f = c .before .before .before .read-field in record {
       within = rw (c .before .e .given .1) at (f .ensures .1);
-      exact = member-refused _ _ (a .at) (a .end) (depthOf (a .allowed)) (a .n) (tables (now (a .places)) (now (a .ancestors))) (tables (now (a .places)) (now (a .ancestors))) _ (f .ensures .0) _ (c .before .e .given .1);
+      exact = member-refused _ _ (a .at) (a .end) (depthOf (a .allowed)) (a .n) (tables (now (a .offsets)) (now (a .ancestors))) (tables (now (a .offsets)) (now (a .ancestors))) _ (f .ensures .0) _ (c .before .e .given .1);
     }
 
 read-member-same-length-2 : (t : ℕ) → read-member-lts.Need-same-length-2 (member-claims t) (read-member-at t) read-member.Post
@@ -203,10 +203,10 @@ read-member-returns-2 t c =
     let is = c .before .stop .given .1 in
     let w = rw is at (f .ensures .1) in record {
       within =
-          leaf-within (now (a .tags)) (now (a .q)) (a .at) (a .end) (depthOf (a .allowed)) (a .n) (now (a .places)) (now (a .ancestors)) _ _ (w .0) (w .5) (w .1)
-          (omega (arith, p .located .sized)) (omega (arith, p .ancestors)) (p .low) (w .2) (p .inside) (w .3) (omega arith) (p .located .placed) (p .spans);
+          leaf-within (now (a .tags)) (now (a .q)) (a .at) (a .end) (depthOf (a .allowed)) (a .n) (now (a .offsets)) (now (a .ancestors)) _ _ (w .0) (w .5) (w .1)
+          (omega (arith, p .located .sized)) (omega (arith, p .ancestors)) (p .low) (w .2) (p .inside) (w .3) (omega arith) (p .located .each) (p .spans);
       exact =
-          member-leaf (now (a .tags)) (now (a .q)) (a .at) (a .end) (depthOf (a .allowed)) (a .n) (now (a .places)) (now (a .ancestors)) _ _ (w .0) (w .5) (w .1)
+          member-leaf (now (a .tags)) (now (a .q)) (a .at) (a .end) (depthOf (a .allowed)) (a .n) (now (a .offsets)) (now (a .ancestors)) _ _ (w .0) (w .5) (w .1)
           (omega (arith, p .located .sized)) (omega (arith, p .ancestors)) (p .low) _ (f .ensures .0) is;
     }
 
@@ -227,7 +227,7 @@ read-member-returns-3 t c =
     let is = c .before .e2 .given .1 in record {
       within = rw is at (g .ensures .within);
       exact =
-          member-group-refused _ _ (a .at) (a .end) (depthOf (a .allowed)) (a .n) (tables (now (a .places)) (now (a .ancestors))) (tables (g .last .1 .1 .1 .1 .1 .1 .0) (g .last .1 .1 .1 .1 .1 .1 .1 .0))
+          member-group-refused _ _ (a .at) (a .end) (depthOf (a .allowed)) (a .n) (tables (now (a .offsets)) (now (a .ancestors))) (tables (g .last .1 .1 .1 .1 .1 .1 .0) (g .last .1 .1 .1 .1 .1 .1 .1 .0))
           _ (f .ensures .0) _ _ _ (v .1) (w .0) (w .1) (w .2) _ deeper _ (rw is at (g .ensures .exact));
     }
 
@@ -248,10 +248,10 @@ read-member-returns-4 t c =
     let deeper = deeper-by-one (a .allowed) (w .3) (c .before .before .before .before .before .before .before .before .before .before .before .before .before .before .before .before .before .before .before .before .before .before .before .pre .1 .deep) in
     let is = c .before .before .before .before .before .next .given .1 in record {
       within =
-          group-within (now (a .q)) (a .at) (a .end) (depthOf (a .allowed)) _ (a .n) _ _ _ _ (v .0 .0) (tables (now (a .places)) (now (a .ancestors)))
+          group-within (now (a .q)) (a .at) (a .end) (depthOf (a .allowed)) _ (a .n) _ _ _ _ (v .0 .0) (tables (now (a .offsets)) (now (a .ancestors)))
           (g .last .1 .1 .1 .1 .1 .1 .0) (g .last .1 .1 .1 .1 .1 .1 .1 .0) (k .last .0) (w .0) (w .2) deeper (rw is at (g .ensures .within)) (k .ensures);
       exact =
-          member-group _ _ (a .at) (a .end) (depthOf (a .allowed)) (a .n) (tables (now (a .places)) (now (a .ancestors))) (tables (g .last .1 .1 .1 .1 .1 .1 .0) (g .last .1 .1 .1 .1 .1 .1 .1 .0))
+          member-group _ _ (a .at) (a .end) (depthOf (a .allowed)) (a .n) (tables (now (a .offsets)) (now (a .ancestors))) (tables (g .last .1 .1 .1 .1 .1 .1 .0) (g .last .1 .1 .1 .1 .1 .1 .1 .0))
           _ (f .ensures .0) _ _ _ (v .1) (w .0) (w .1) (w .2) _ deeper _ _ (tables (g .last .1 .1 .1 .1 .1 .1 .0) (k .last .0)) (rw is at (g .ensures .exact)) refl (k .ensures);
     }
 
@@ -273,8 +273,8 @@ pub +read-group+read-member-spec : {M : Type 1} → statement M
     (read-member-read-field-requires t)
     (read-member-enum-known-e t)
     (read-member-enum-known-stop t)
-    (read-member-mul-places t)
-    (read-member-slice-write-places t)
+    (read-member-mul-offsets t)
+    (read-member-slice-write-offsets t)
     (read-member-mul-ancestors t)
     (read-member-slice-write-ancestors t)
     (read-member-add-t21 t)

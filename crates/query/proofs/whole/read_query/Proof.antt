@@ -26,7 +26,7 @@ returns : tie.Need-returns
 returns c =
     let a = c .before .before .before .before .before .before .before .before .before .before .before .before .before .before .before .args in
     let m = c .before .before .before .before .before .before .before .before .read-member in
-    whole-left (now (a .tags)) (now (a .q)) (tables (now (a .places)) (now (a .ancestors))) (tables (m .last .1 .1 .1 .1 .1 .1 .0) (m .last .1 .1 .1 .1 .1 .1 .1 .0)) _ _ (rw (c .before .before .at .given .1) at (m .ensures)) (c .if1 .taken)
+    whole-left (now (a .tags)) (now (a .q)) (tables (now (a .offsets)) (now (a .ancestors))) (tables (m .last .1 .1 .1 .1 .1 .1 .0) (m .last .1 .1 .1 .1 .1 .1 .1 .0)) _ _ (rw (c .before .before .at .given .1) at (m .ensures)) (c .if1 .taken)
 
 same-length-3 : tie.Need-same-length-3
 same-length-3 c = search needs
@@ -38,7 +38,7 @@ returns-2 : tie.Need-returns-2
 returns-2 c =
     let a = c .before .before .before .before .before .before .before .before .before .before .before .before .before .before .args in
     let m = c .before .before .before .before .before .before .before .read-member in
-    whole-refused (now (a .tags)) (now (a .q)) (tables (now (a .places)) (now (a .ancestors))) (tables (m .last .1 .1 .1 .1 .1 .1 .0) (m .last .1 .1 .1 .1 .1 .1 .1 .0)) _ (rw (c .before .e .given .1) at (m .ensures))
+    whole-refused (now (a .tags)) (now (a .q)) (tables (now (a .offsets)) (now (a .ancestors))) (tables (m .last .1 .1 .1 .1 .1 .1 .0) (m .last .1 .1 .1 .1 .1 .1 .1 .0)) _ (rw (c .before .e .given .1) at (m .ensures))
 
 same-length-5 : tie.Need-same-length-5
 same-length-5 c = search needs
@@ -52,8 +52,8 @@ returns-3 c =
     let m = c .before .before .before .before .before .before .before .before .read-member in
     let p = c .before .before .before .before .before .before .before .before .before .before .before .before .before .before .before .pre in
     let k = m .kept in
-    whole-accepted (now (a .tags)) (now (a .q)) (tables (now (a .places)) (now (a .ancestors))) (tables (m .last .1 .1 .1 .1 .1 .1 .0) (m .last .1 .1 .1 .1 .1 .1 .1 .0)) _ _ (rw (c .before .before .at .given .1) at (m .ensures)) (c .if1 .left)
-    (record { places = omega arith; ancestors = omega arith })
+    whole-accepted (now (a .tags)) (now (a .q)) (tables (now (a .offsets)) (now (a .ancestors))) (tables (m .last .1 .1 .1 .1 .1 .1 .0) (m .last .1 .1 .1 .1 .1 .1 .1 .0)) _ _ (rw (c .before .before .at .given .1) at (m .ensures)) (c .if1 .left)
+    (record { offsets = omega arith; ancestors = omega arith })
 
 pub read-query-spec : {M : Type 1} → statement M
 read-query-spec =
