@@ -4,8 +4,8 @@ use native.Mathlib.Omega.{arith}
 use mathlib.Core.Path.{_≡_}
 use mathlib.Core.List.{List}
 use Rattle.catalogue.specs.Format.{rowLimit}
-use Rattle.query.specs.Table.{recordAt}
-use Rattle.query.specs.Ancestors.{Tables}
+use Rattle.records.specs.Table.{recordAt}
+use Rattle.reader.specs.Tables.{Tables}
 use Rattle.plan.specs.Plan.{accessAt, accessOf, HaveColumns}
 use Rattle.plan.specs.Access.{Accessed}
 use Rattle.run.specs.Run.{predicateAt}

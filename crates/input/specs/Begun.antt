@@ -6,8 +6,8 @@ use Rattle.fields.specs.Decoded.{refused, accepted}
 use Rattle.catalogue.specs.declared.layout.Layout.{Layout}
 use Rattle.catalogue.specs.Layout.{Laid}
 use Rattle.predicate.specs.Payload.{tagsOf}
-use Rattle.query.specs.Ancestors.{Tables, tables}
-use Rattle.query.specs.Handed.{Tabled}
+use Rattle.reader.specs.Tables.{Tables, tables}
+use Rattle.reader.specs.Handed.{Tabled}
 use Rattle.input.specs.declared.begin.Beginning.{Beginning}
 use Rattle.input.specs.Input.{Input, decodeInput}
 

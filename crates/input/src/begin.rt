@@ -1,8 +1,7 @@
 // How every call on a question begins: the catalogue laid out, the question read against it.
 use catalogue::format::Column;
-use query::whole::Reading;
-ghost use Rattle.query.specs.Ancestors.{tables};
-ghost use Rattle.query.specs.Handed.{TablesSized};
+use reader::whole::Reading;
+ghost use Rattle.reader.specs.Tables.{tables, TablesSized};
 ghost use Rattle.input.specs.Begun.{Begins};
 
 // The number of the first check that fails, or 0 and what the later steps ask for.
@@ -39,7 +38,7 @@ pub fn begin(
             starts,
         };
     }
-    match query::whole::read_query(&tags[..columns], question, offsets, ancestors) {
+    match reader::whole::read_query(&tags[..columns], question, offsets, ancestors) {
         Reading::Refused(e) => Beginning {
             refusal: e,
             rows,

@@ -1,9 +1,9 @@
 // Working out one condition at one entry.
+use ancestors::Ancestors;
 use answers::refusal::Refusal;
 use answers::word::Answer;
 use input::begin::Beginning;
 use plan::table::Plan;
-use query::ancestors::Ancestors;
 use query::format::Predicate;
 ghost use mathlib.Core.Path.{_≡_};
 ghost use Rattle.input.specs.Input.{decodeInput};

@@ -26,11 +26,11 @@ use denote.Index.{row, whole-in, whole-out}
 use denote.Steps.{only, owned}
 use denote.Struct.Steps.{spelt}
 use denote.Struct.Laws as LL
-use Rattle.query.specs.declared.table.PredicateRecord.{PredicateRecord}
+use Rattle.records.specs.declared.PredicateRecord.{PredicateRecord}
 use Rattle.query.specs.Format.{predicateLimit}
-use Rattle.query.specs.Table.{noRecord}
-use Rattle.query.proofs.table.PredicateRecord as T
-use Rattle.query.proofs.table.PredicateRecord.Laws as T′
+use Rattle.records.specs.Table.{noRecord}
+use Rattle.records.proofs.PredicateRecord as T
+use Rattle.records.proofs.PredicateRecord.Laws as T′
 
 abbrev pub R : RattleType
 R = T.the-row

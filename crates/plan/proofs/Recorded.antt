@@ -3,9 +3,9 @@ use mathlib.Core.Path.{_≡_, sym, ap, subst, _∙_}
 use Prim.Native.Nat.{ℕ, _<_}
 use mathlib.Core.List.{List, _++_}
 use lib.ListN.{drop}
-use Rattle.query.specs.declared.table.PredicateRecord.{PredicateRecord}
-use Rattle.query.specs.Table.{recordAt, recordIn, recordsOf}
-use Rattle.query.proofs.Tabulated.{record-in}
+use Rattle.records.specs.declared.PredicateRecord.{PredicateRecord}
+use Rattle.records.specs.Table.{recordAt, recordIn, recordsOf}
+use Rattle.records.proofs.Tabulated.{record-in}
 use Rattle.plan.specs.Plan.{accessOf, HasColumn, HaveColumns, Planned}
 
 module _ (q offsets : List ℕ) (T T₀ : List PredicateRecord) (n : ℕ) (filled : T ≡ recordsOf q offsets n ++ drop n T₀) where

@@ -1,12 +1,12 @@
 // The plan of a run: five numbers for each predicate, filled once, so that no row looks up a column.
 use query::format::Predicate;
-use query::table::PredicateRecord;
+use records::PredicateRecord;
 ghost use mathlib.Core.Path.{_≡_};
 ghost use Prim.Native.Nat.{_≤_, _<_};
 ghost use lib.ListN.{length};
 ghost use Rattle.query.specs.Format.{predicateLimit};
-ghost use Rattle.query.specs.Offsets.{Located};
-ghost use Rattle.query.specs.Table.{recordAt, HasRecord, recordIn};
+ghost use Rattle.records.specs.Offsets.{Located};
+ghost use Rattle.records.specs.Table.{recordAt, HasRecord, recordIn};
 ghost use Rattle.plan.specs.Plan.{planSize, accessAt, accessOf, HasColumn, HaveColumns, PutAccess, Planned};
 
 pub struct Plan;
@@ -44,7 +44,7 @@ pub fn plan_predicate(
     requires { ⌜ HasRecord (now q) (now offsets) c × (length (now plan) ≡ planSize) × HasColumn (now tags) (now starts) (recordAt (now q) (now offsets) c) ⌝ }
     ensures { λ _. ⌜ accessAt (now (plan .exit)) c ≡ accessOf (now (tags .entry)) (now (starts .entry)) (recordAt (now (q .entry)) (now (offsets .entry)) c) ⌝ }
 {
-    let r = query::table::record_at(q, offsets, c);
+    let r = records::record_at(q, offsets, c);
     put_access(tags, starts, r, c, plan);
 }
 
@@ -85,6 +85,6 @@ pub fn fill_plan(
         place: 0,
         len: 0,
     }; Predicate::LIMIT];
-    query::table::tabulate(q, offsets, n, &mut table);
+    records::tabulate(q, offsets, n, &mut table);
     plan_records(tags, starts, &table, n, plan);
 }

@@ -1,4 +1,4 @@
-// The numbers of the query's format; the contracts tie them to those of specs/Format.antt.
+// The numbers of the query's format; the contracts of the crates above tie them to those of specs/Format.antt.
 
 pub struct Predicate;
 

@@ -14,13 +14,13 @@ use Rattle.predicate.specs.Kinds.{plainKind}
 use Rattle.predicate.specs.Payload.{tagsOf, kindFits}
 use Rattle.predicate.proofs.PayloadLaws.{Valid, valid-payload, tags-length, tags-at, shown-tag, tag-small}
 use Rattle.strategy.specs.Order.{isOrder}
-use Rattle.query.specs.declared.table.PredicateRecord.{PredicateRecord}
+use Rattle.records.specs.declared.PredicateRecord.{PredicateRecord}
 use Rattle.query.specs.Query.{Query}
 use Rattle.query.specs.Decode.{payloadOf}
-use Rattle.query.specs.Table.{recordAt, predicateIn}
-use Rattle.query.specs.Ancestors.{Tables}
-use Rattle.query.specs.Handed.{Tabled}
-use Rattle.query.proofs.Records.{predicates-at}
+use Rattle.records.specs.Table.{recordAt, predicateIn}
+use Rattle.reader.specs.Tables.{Tables}
+use Rattle.reader.specs.Handed.{Tabled}
+use Rattle.records.proofs.Records.{predicates-at}
 use Rattle.plan.specs.Plan.{planSize, accessAt, accessOf, HaveColumns, Planned}
 use Rattle.plan.specs.Access.{Accessed}
 use Rattle.run.specs.Run.{predicateAt}

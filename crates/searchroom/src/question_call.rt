@@ -1,6 +1,6 @@
 // Checking a question against a catalogue.
+use ancestors::Ancestors;
 use answers::word::Answer;
-use query::ancestors::Ancestors;
 use query::format::Predicate;
 ghost use mathlib.Core.Path.{_≡_};
 ghost use Rattle.input.specs.Input.{decodeInput};

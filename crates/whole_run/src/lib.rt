@@ -1,7 +1,7 @@
 // Running a question in a given order.
+use ancestors::Ancestors;
 use answers::word::Answer;
 use bitmaps::copy::Line;
-use query::ancestors::Ancestors;
 use query::format::Predicate;
 ghost use mathlib.Core.Path.{_≡_};
 ghost use Rattle.answers.specs.Word.{packed, FitsWord};

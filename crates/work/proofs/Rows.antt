@@ -6,8 +6,8 @@ use mathlib.Core.List.{List}
 use lib.ListN.{length}
 use Rattle.strategy.specs.Order.{isOrder}
 use Rattle.sets.specs.Set.{belowSet}
-use Rattle.query.specs.Table.{recordAt}
-use Rattle.query.specs.Ancestors.{Tables}
+use Rattle.records.specs.Table.{recordAt}
+use Rattle.reader.specs.Tables.{Tables}
 use Rattle.plan.specs.Plan.{planSize, Planned}
 use Rattle.run.specs.declared.rows.Extent.{Extent}
 use Rattle.run.specs.Ready.{given, Ready}

@@ -6,7 +6,7 @@ ghost use mathlib.Core.Path.{_≡_};
 ghost use mathlib.Core.Bool.{true};
 ghost use Rattle.strategy.specs.Order.{isOrder};
 ghost use Rattle.query.specs.Format.{predicateLimit};
-ghost use Rattle.query.specs.Ancestors.{tables};
+ghost use Rattle.reader.specs.Tables.{tables};
 ghost use Rattle.run.specs.Worked.{Empty};
 ghost use Rattle.input.specs.Begun.{Begun};
 ghost use Rattle.work.specs.Worked.{RunWorked};

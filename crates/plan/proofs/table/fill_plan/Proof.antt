@@ -46,16 +46,16 @@ use denote.Triple.Clauses.{ensured, lasts}
 use denote.Triple.Table.{entered, cited}
 use denote.Triple.Walked.{says, needs, Stays, stay-dropped, gave-slice, walkOf, goes-dropped, goes-gave-slice, Walks, ends-at, walked, walk-meets}
 use denote.Exit.{yes}
-use Rattle.query.specs.declared.table.PredicateRecord.{PredicateRecord}
+use Rattle.records.specs.declared.PredicateRecord.{PredicateRecord}
 use Rattle.query.specs.Format.{predicateLimit}
-use Rattle.query.specs.Offsets.{Located}
-use Rattle.query.specs.Table.{noRecord, recordAt, recordIn, recordsOf}
-use Rattle.query.proofs.table.PredicateRecord as T
-use Rattle.query.proofs.table.PredicateRecord.Laws as T′
-use Rattle.query.proofs.table.tabulate as tabulate
-use Rattle.query.proofs.table.tabulate.Symbol as tabulate-def
-use Rattle.query.proofs.table.tabulate.Symbol.{name as #query·table·tabulate}
-use Rattle.query.proofs.table.tabulate.Met as tabulate-thm
+use Rattle.records.specs.Offsets.{Located}
+use Rattle.records.specs.Table.{noRecord, recordAt, recordIn, recordsOf}
+use Rattle.records.proofs.PredicateRecord as T
+use Rattle.records.proofs.PredicateRecord.Laws as T′
+use Rattle.records.proofs.tabulate as tabulate
+use Rattle.records.proofs.tabulate.Symbol as tabulate-def
+use Rattle.records.proofs.tabulate.Symbol.{name as #records·tabulate}
+use Rattle.records.proofs.tabulate.Met as tabulate-thm
 use Rattle.plan.specs.Plan.{planSize, HaveColumns, Planned}
 use Rattle.plan.proofs.RecordArray.{R, Table, table-mir, mach, blank, blank-size, blank-mach, blank-is, none-is, made-typed, lies-out, lies-in, parts-out, parts-in}
 use Rattle.plan.proofs.Recorded.{have-columns, planned}
@@ -256,7 +256,7 @@ module _ {M : Type 1} (𝓤 : URA M) (H : Heap 𝓤) (A : Atoms 𝓤) (W : Given
       nothing ! $ nothing ! $ nothing ! $ nothing ! $ nothing ! $ nothing ! $ move ! (0 ∷ 1 ∷ 2 ∷ 3 ∷ 4 ∷ 6 ∷ 5 ∷ []) $ group ! 7 $ frame ! $
       feqI ! (List Val) (vunit ∷ []) (vunit ∷ []) refl $ done !
 
-  module _ (C : Calls 𝓤 H) (Λ : Loops 𝓤 H) (fm : FmC 𝓤 H (W .laws) C) (tabulates : Triple 𝓤 (C #query·table·tabulate) (Tabulate 𝓤 H A mem′ run)) (plans : Triple 𝓤 (C #plan·table·plan-records) (Plans 𝓤 H A mem′ run)) where
+  module _ (C : Calls 𝓤 H) (Λ : Loops 𝓤 H) (fm : FmC 𝓤 H (W .laws) C) (tabulates : Triple 𝓤 (C #records·tabulate) (Tabulate 𝓤 H A mem′ run)) (plans : Triple 𝓤 (C #plan·table·plan-records) (Plans 𝓤 H A mem′ run)) where
     walk : Room u8 (length (tags .now)) → Room usize (length (starts .now)) → Room u8 (length (q .now)) → Room usize (length (offsets .now)) → n < 2 ^ 64 → Room usize (length (plan .now)) → Asked
         → ent 𝓤 (onEntry 𝓤 H A fill-plan.signature κs qs a vals) (WpFn 𝓤 H C Λ code.function args Post)
     walk r₁ r₂ r₃ r₄ gn r₆ f =
@@ -319,7 +319,7 @@ module _ {M : Type 1} (𝓤 : URA M) (H : Heap 𝓤) (A : Atoms 𝓤) (W : Given
         keep ! (1 ∷ 2 ∷ []) $ by ! (exits ps (answers ts ps (t .0) (g .0)) (g .1)))))))))))))))))))))))))))))
 
 module _ {M : Type 1} (𝓤 : URA M) (H : Heap 𝓤) (A : Atoms 𝓤) (W : Given 𝓤 H A) (mem′ : Memory → SProp 𝓤) (run : Routine → Fun 𝓤) where
-  fill-plan-walks : (C : Calls 𝓤 H) (Λ : Loops 𝓤 H) → FmC 𝓤 H (W .laws) C → Triple 𝓤 (C #query·table·tabulate) (Tabulate 𝓤 H A mem′ run) → Triple 𝓤 (C #plan·table·plan-records) (Plans 𝓤 H A mem′ run)
+  fill-plan-walks : (C : Calls 𝓤 H) (Λ : Loops 𝓤 H) → FmC 𝓤 H (W .laws) C → Triple 𝓤 (C #records·tabulate) (Tabulate 𝓤 H A mem′ run) → Triple 𝓤 (C #plan·table·plan-records) (Plans 𝓤 H A mem′ run)
       → Walks 𝓤 H A fill-plan.ended stayed (WpFn 𝓤 H C Λ code.function) (fill-plan.clauses 𝓤 H A mem′ run)
   fill-plan-walks C Λ fm tabulates plans = walked 𝓤 H A fill-plan.ended stayed (fill-plan.clauses 𝓤 H A mem′ run) (WpFn 𝓤 H C Λ code.function)
       (λ κs. (slice-vals, (slice-vals, (slice-vals, (slice-vals, (uint-vals w64, (slice-vals, tt)))))))
@@ -329,7 +329,7 @@ module _ {M : Type 1} (𝓤 : URA M) (H : Heap 𝓤) (A : Atoms 𝓤) (W : Given
       C Λ fm tabulates plans (are .0 .0 .1) (are .1 .0 .0 .1) (are .1 .1 .0 .0 .1) (are .1 .1 .1 .0 .0 .1) (are .1 .1 .1 .1 .0 .1) (are .1 .1 .1 .1 .1 .0 .0 .1)))
 
 fill-plan-meets : {M : Type 1} (𝓤 : URA M) (H : Heap 𝓤) (A : Atoms 𝓤) → Given 𝓤 H A → (mem′ : Memory → SProp 𝓤) (run : Routine → Fun 𝓤) (𝓣 : Tables 𝓤 H)
-    → Triple 𝓤 (𝓣 .C #query·table·tabulate) (Tabulate 𝓤 H A mem′ run) → Triple 𝓤 (𝓣 .C #plan·table·plan-records) (Plans 𝓤 H A mem′ run)
+    → Triple 𝓤 (𝓣 .C #records·tabulate) (Tabulate 𝓤 H A mem′ run) → Triple 𝓤 (𝓣 .C #plan·table·plan-records) (Plans 𝓤 H A mem′ run)
     → Meets 𝓤 H A fill-plan.signature (WpFn 𝓤 H (𝓣 .C) (𝓣 .Λ) code.function) (fill-plan.spec 𝓤 H A mem′ run)
 fill-plan-meets 𝓤 H A W mem′ run 𝓣 tabulates plans =
     walk-meets 𝓤 H A fill-plan.ended stayed W
@@ -342,5 +342,5 @@ fill-plan-spec 𝓤 H 𝓜 𝓖 𝓡 =
     entered 𝓤 H (tripleOf 𝓤 H (𝓖 .A) fill-plan.signature (fill-plan.spec 𝓤 H (𝓖 .A) (𝓜 .mem) (𝓡 .run)))
     (tables 𝓤 H 𝓜 𝓡 code.env .C) (tables 𝓤 H 𝓜 𝓡 code.env .Λ) #plan·table·fill-plan code.function (code.unfolded 𝓤 H 𝓜 𝓡)
     (fill-plan-meets 𝓤 H (𝓖 .A) (givenOf 𝓤 H 𝓜 𝓖) (𝓜 .mem) (𝓡 .run) (tablesOf 𝓤 H 𝓜 (tables 𝓤 H 𝓜 𝓡 code.env))
-    (cited 𝓤 H (Tabulate 𝓤 H (𝓖 .A) (𝓜 .mem) (𝓡 .run)) 𝓜 𝓡 code.env #query·table·tabulate tabulate-def.routine code.calls-query·table·tabulate (tabulate-thm.met 𝓤 H 𝓜 𝓖 𝓡))
+    (cited 𝓤 H (Tabulate 𝓤 H (𝓖 .A) (𝓜 .mem) (𝓡 .run)) 𝓜 𝓡 code.env #records·tabulate tabulate-def.routine code.calls-records·tabulate (tabulate-thm.met 𝓤 H 𝓜 𝓖 𝓡))
     (cited 𝓤 H (Plans 𝓤 H (𝓖 .A) (𝓜 .mem) (𝓡 .run)) 𝓜 𝓡 code.env #plan·table·plan-records plan-records-def.routine code.calls-plan·table·plan-records (plan-records-thm.met 𝓤 H 𝓜 𝓖 𝓡)))

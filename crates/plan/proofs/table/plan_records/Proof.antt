@@ -47,11 +47,11 @@ use denote.Triple.Clauses.{ensured, lasts}
 use denote.Triple.Table.{entered, cited}
 use denote.Triple.Walked.{says, needs, Stays, stay-none-slice, stay-none, stay-slice, walkOf, goes-none-slice, goes-none, goes-slice, Walks, ends-at, walked, walk-meets}
 use denote.Exit.{yes}
-use Rattle.query.specs.declared.table.PredicateRecord.{PredicateRecord}
+use Rattle.records.specs.declared.PredicateRecord.{PredicateRecord}
 use Rattle.query.specs.Format.{predicateLimit}
-use Rattle.query.specs.Table.{noRecord, recordIn}
-use Rattle.query.proofs.table.PredicateRecord as T
-use Rattle.query.proofs.table.PredicateRecord.Laws as T′
+use Rattle.records.specs.Table.{noRecord, recordIn}
+use Rattle.records.proofs.PredicateRecord as T
+use Rattle.records.proofs.PredicateRecord.Laws as T′
 use Rattle.plan.specs.Plan.{planSize, accessOf, HasColumn, HaveColumns, PutAccess, Planned}
 use Rattle.plan.proofs.Again.{LentAgain, lends-again, comes-back}
 use Rattle.plan.proofs.Plans.{Stage, Nearer, nearer, nearer-wf, begun, put-on, planned-end}
