@@ -1,15 +1,13 @@
 -- The whole query: the reader's answer and tables are handed on as `decodeTagged` says.
-use Prim.Native.Nat.{ℕ, zero, suc, _+_, _-_, _*_, _≤_, _<_}
+use Prim.Native.Nat.{ℕ, _+_, _-_, _*_, _≤_, _<_}
 use native.Mathlib.Omega.{arith}
-use mathlib.Core.Path.{_≡_, refl, ap}
+use mathlib.Core.Path.{_≡_, refl, ap, subst}
 use mathlib.Core.Bool.{Bool, true, false, _&&_, cond}
-use mathlib.Core.Logic.{_⊎_, inl, inr}
-use mathlib.Core.List.{List, [], _∷_, _++_}
+use mathlib.Core.List.{List, []}
 use lib.ListN.{length}
 use lib.Dec.{ltb, leb, eqb}
 use borrow.Author.Tests.{eq-eqb, ne-eqb, leb-true, ltb-true}
 use Rattle.fields.specs.Decoded.{refused, accepted}
-use Rattle.strategy.specs.Bools.{same?}
 use Rattle.strategy.specs.Tree.{Tree}
 use Rattle.strategy.specs.Climb.{enclosing}
 use Rattle.predicate.specs.Kinds.{plainKind, oppositeFrom}
@@ -26,6 +24,8 @@ use Rattle.reader.specs.Tables.{Tables, TablesSized}
 use Rattle.reader.specs.Reader.{Reported, MemberRead}
 use Rattle.reader.specs.Handed.{Recorded, Handed}
 use Rattle.query.proofs.Readings.{Fits, Each, SoundTree, member-sound}
+use Rattle.query.proofs.Accepted.{each-at}
+use Rattle.records.proofs.Records.{predicates-length, predicates-at}
 
 -- a valid payload's kind is at most 133
 kind-small : (tag kind : ℕ) → kindFits tag (plainKind kind) ≡ true → kind < 256
@@ -41,19 +41,11 @@ kind-small tag kind h = opposite (ltb kind oppositeFrom) refl h
     opposite true e g = let l = ltb-true kind 128 e in omega arith
     opposite false e g = let l = below (leb (kind - 128) 1) (kind - 128) tag refl g in omega arith
 
-each-last : (P : Predicate → Type 0) (ps : List Predicate) (p : Predicate) → Each P (ps ++ (p ∷ [])) → Each P ps × P p
-each-last P [] p h = (tt, h .0)
-each-last P (o ∷ ps) p h = let r = each-last P ps p (h .1) in ((h .0, r .0), r .1)
-
 -- what holds of each predicate listed holds at each number
-each-at : (P : Predicate → Type 0) (q os : List ℕ) (n : ℕ) → Each P (predicatesAt q os n) → (c : ℕ) → c < n → P (predicateIn q (recordAt q os c))
-unfolding predicatesAt
-each-at P q os zero h c l = absurd (omega arith)
-each-at P q os (suc n) h c l =
-    let s = each-last P (predicatesAt q os n) (predicateIn q (recordAt q os n)) h in
-    let go : (c ≡ n) ⊎ (c ≡ n → ⊥) → P (predicateIn q (recordAt q os c))
-    = elim [ inl e ↦ rw e (s .1) | inr e ↦ each-at P q os n (s .0) c (omega arith) ] in
-    go (same? c n)
+listed-at : (P : Predicate → Type 0) (q os : List ℕ) (n : ℕ) → Each P (predicatesAt q os n) → (c : ℕ) → c < n → P (predicateIn q (recordAt q os c))
+listed-at P q os n h c l =
+    let other : Predicate = predicateIn q (recordAt q os c) in
+    subst P (predicates-at q os n c other l) (each-at P (predicatesAt q os n) h c other (omega (arith, predicates-length q os n)))
 
 recorded : (tags q os : List ℕ) (c : ℕ) → Fits tags q (predicateIn q (recordAt q os c)) → Recorded tags q os c
 recorded tags q os c f =
@@ -105,7 +97,7 @@ module _ (tags q : List ℕ) (T T1 : Tables) where
               full = k .full;
               located = record { sized = s .offsets; few = omega arith; each = λ c i. h .within .each c (omega arith) };
               shown = l;
-              each = λ c i. recorded tags q (T1 .offsets) c (each-at (Fits tags q) q (T1 .offsets) (length ps) (rw l (k .each)) c i);
+              each = λ c i. recorded tags q (T1 .offsets) c (listed-at (Fits tags q) q (T1 .offsets) (length ps) (rw l (k .each)) c i);
               ancestors = λ c i. d .ancestors .new c (omega arith, omega arith);
               low = λ c i. h .within .low c (omega arith);
               spans = rw y at (h .within .spans);
