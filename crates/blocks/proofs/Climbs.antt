@@ -10,7 +10,7 @@ use Rattle.strategy.specs.ClimbLaws.{climb-stopped}
 use Rattle.sets.specs.Set.{member}
 use Rattle.sets.specs.SetLaws.{member-none}
 use Rattle.query.specs.Decode.{settling}
-use Rattle.query.specs.Ancestors.{ancestorsWidth, ancestorPlace, heightAt, ancestorAt, ancestorsFrom, ancestorsOf}
+use Rattle.ancestors.specs.Ancestors.{ancestorsWidth, ancestorPlace, heightAt, ancestorAt, ancestorsFrom, ancestorsOf}
 use Rattle.blocks.specs.Block.{rowStep, Passed, Climbed, Ancestor}
 
 -- the ancestors of c from number k on

@@ -10,7 +10,7 @@ use Rattle.strategy.specs.Live.{Live, Step, inRun, meets, through}
 use Rattle.strategy.specs.Climb.{Group, climb}
 use Rattle.sets.specs.Set.{member}
 use Rattle.query.specs.Format.{predicateLimit}
-use Rattle.query.specs.Ancestors.{ancestorsWidth, ancestorPlace, heightAt}
+use Rattle.ancestors.specs.Ancestors.{ancestorsWidth, ancestorPlace, heightAt}
 
 -- the live set of row d
 abbrev pub rowLive : (live : List ℕ) → (d : ℕ) → Live

@@ -1,8 +1,8 @@
 // From group to group outward: what a probe leaves live, at 64 rows at once.
-use query::ancestors::Ancestors;
+use ancestors::Ancestors;
 use query::format::Group;
 ghost use lib.ListN.{length};
-ghost use Rattle.query.specs.Ancestors.{ancestorAt, ancestorsOf};
+ghost use Rattle.ancestors.specs.Ancestors.{ancestorAt, ancestorsOf};
 ghost use Rattle.blocks.specs.Block.{Ancestor, HasAncestors, Passed, Climbed};
 
 // Outward through the ancestor at place i of the table; the rows at which the climb goes on.

@@ -1,7 +1,7 @@
 // One consultation: a run with the tally at zero, and its register.
 use bitmaps::copy::Line;
 use fields::counter::Counter;
-use query::table::Predicate;
+use query::format::Predicate;
 ghost use Prim.Native.Nat.{_≤_};
 ghost use lib.ListN.{length};
 ghost use Rattle.query.specs.Format.{predicateLimit};

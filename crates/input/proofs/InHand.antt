@@ -4,8 +4,8 @@ use native.Mathlib.Omega.{arith}
 use mathlib.Core.Path.{_≡_}
 use mathlib.Core.List.{List}
 use Rattle.catalogue.specs.Format.{rowLimit}
-use Rattle.query.specs.Table.{recordAt}
-use Rattle.query.specs.Ancestors.{Tables}
+use Rattle.records.specs.Table.{recordAt}
+use Rattle.reader.specs.Tables.{Tables}
 use Rattle.plan.specs.Plan.{accessAt, accessOf, HaveColumns}
 use Rattle.plan.specs.Access.{Accessed}
 use Rattle.run.specs.Run.{predicateAt}
@@ -17,9 +17,9 @@ module _ {b q : List ℕ} {r : Beginning} {T : Tables} (G : Begun b q r T) where
   pub begun-short : r .rows ≤ rowLimit
   begun-short = omega (arith, G .rows, G .laid .short)
 
-  pub begun-columns : HaveColumns (r .tags) (r .starts) (recordAt q (T .places)) (r .n)
+  pub begun-columns : HaveColumns (r .tags) (r .starts) (recordAt q (T .offsets)) (r .n)
   begun-columns = rw (G .tags, G .starts) (have-columns (G .laid) (G .tabled))
 
-  pub begun-accessed : (P : List ℕ) (c : ℕ) → c < r .n → accessAt P c ≡ accessOf (r .tags) (r .starts) (recordAt q (T .places) c)
+  pub begun-accessed : (P : List ℕ) (c : ℕ) → c < r .n → accessAt P c ≡ accessOf (r .tags) (r .starts) (recordAt q (T .offsets) c)
       → Accessed b q (G .input .catalogue) (predicateAt (G .input .query) c) (accessAt P c)
   begun-accessed P c k e = planned-accessed (G .laid) (G .tabled) P c k (rw (G .tags, G .starts) at e)

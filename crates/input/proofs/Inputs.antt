@@ -13,12 +13,12 @@ use Rattle.catalogue.specs.Decode.{decodeCatalogue}
 use Rattle.catalogue.proofs.Columns.{column-shown}
 use Rattle.predicate.specs.Payload.{tagsOf}
 use Rattle.predicate.proofs.PayloadLaws.{tags-length, tags-at, shown-tag}
-use Rattle.query.specs.declared.whole.Reading.{Reading}
-use Rattle.query.specs.declared.whole.Reading.the-variants as reading
+use Rattle.reader.specs.declared.whole.Reading.{Reading}
+use Rattle.reader.specs.declared.whole.Reading.the-variants as reading
 use Rattle.query.specs.Query.{Query}
-use Rattle.query.specs.Ancestors.{Tables}
+use Rattle.reader.specs.Tables.{Tables}
 use Rattle.query.specs.Decode.{decodeTagged, decodeQuery}
-use Rattle.query.specs.Handed.{Handed}
+use Rattle.reader.specs.Handed.{Handed}
 use Rattle.input.specs.Input.{withQuery, decodeInput}
 use Rattle.input.specs.Begun.{Begun}
 

@@ -6,8 +6,8 @@ use Rattle.fields.specs.Decoded.{refused, accepted}
 use Rattle.catalogue.specs.declared.layout.Layout.{Layout}
 use Rattle.catalogue.specs.Layout.{Laid}
 use Rattle.predicate.specs.Payload.{tagsOf}
-use Rattle.query.specs.Ancestors.{Tables, tables}
-use Rattle.query.specs.Handed.{Tabled}
+use Rattle.reader.specs.Tables.{Tables, tables}
+use Rattle.reader.specs.Handed.{Tabled}
 use Rattle.input.specs.declared.begin.Beginning.{Beginning}
 use Rattle.input.specs.Input.{Input, decodeInput}
 
@@ -23,8 +23,8 @@ pub record Begun (b q : List ℕ) (r : Beginning) (T : Tables) : Type 0 where
   pub tabled : Tabled (tagsOf (input .catalogue)) q (input .query) (r .n) T
 
 -- the same where the groups around the predicates don't matter
-abbrev pub BegunPlaces : (b q : List ℕ) → Beginning → (places : List ℕ) → Type 0
-BegunPlaces b q r places = (ancestors : List ℕ) × Begun b q r (tables places ancestors)
+abbrev pub BegunOffsets : (b q : List ℕ) → Beginning → (offsets : List ℕ) → Type 0
+BegunOffsets b q r offsets = (ancestors : List ℕ) × Begun b q r (tables offsets ancestors)
 
 -- the beginning of a call: a refusal of the input, or all in hand
 pub record Begins (b q : List ℕ) (r : Beginning) (T : Tables) : Type 0 where

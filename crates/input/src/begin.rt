@@ -1,8 +1,7 @@
 // How every call on a question begins: the catalogue laid out, the question read against it.
 use catalogue::format::Column;
-use query::whole::Reading;
-ghost use Rattle.query.specs.Ancestors.{tables};
-ghost use Rattle.query.specs.Handed.{TablesSized};
+use reader::whole::Reading;
+ghost use Rattle.reader.specs.Tables.{tables, TablesSized};
 ghost use Rattle.input.specs.Begun.{Begins};
 
 // The number of the first check that fails, or 0 and what the later steps ask for.
@@ -18,11 +17,11 @@ pub struct Beginning {
 pub fn begin(
     catalogue: &[u8],
     question: &[u8],
-    places: &mut [usize],
+    offsets: &mut [usize],
     ancestors: &mut [u8],
 ) -> Beginning
-    requires { ⌜ TablesSized (tables (now places) (now ancestors)) ⌝ }
-    ensures { λ r. ⌜ Begins (now (catalogue .entry)) (now (question .entry)) r (tables (now (places .exit)) (now (ancestors .exit))) ⌝ }
+    requires { ⌜ TablesSized (tables (now offsets) (now ancestors)) ⌝ }
+    ensures { λ r. ⌜ Begins (now (catalogue .entry)) (now (question .entry)) r (tables (now (offsets .exit)) (now (ancestors .exit))) ⌝ }
 {
     let layout = catalogue::layout::lay_out(catalogue);
     let refusal = layout.refusal;
@@ -39,7 +38,7 @@ pub fn begin(
             starts,
         };
     }
-    match query::whole::read_query(&tags[..columns], question, places, ancestors) {
+    match reader::whole::read_query(&tags[..columns], question, offsets, ancestors) {
         Reading::Refused(e) => Beginning {
             refusal: e,
             rows,

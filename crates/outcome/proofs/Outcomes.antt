@@ -11,7 +11,7 @@ use Rattle.fields.specs.Decoded.{Decoded, refused}
 use Rattle.predicate.specs.declared.answer.Answer.{Answer as Outcome}
 use Rattle.predicate.specs.declared.answer.Answer.the-variants.{No, Yes}
 use Rattle.predicate.specs.Meaning.{outcome}
-use Rattle.query.specs.Ancestors.{Tables}
+use Rattle.reader.specs.Tables.{Tables}
 use Rattle.run.specs.Run.{predicateAt}
 use Rattle.input.specs.declared.begin.Beginning.{Beginning}
 use Rattle.input.specs.Input.{Input, decodeInput}

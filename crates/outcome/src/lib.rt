@@ -1,13 +1,13 @@
 // Working out one condition at one entry.
+use ancestors::Ancestors;
 use answers::refusal::Refusal;
 use answers::word::Answer;
 use input::begin::Beginning;
 use plan::table::Plan;
-use query::ancestors::Ancestors;
-use query::table::Predicate;
+use query::format::Predicate;
 ghost use mathlib.Core.Path.{_≡_};
 ghost use Rattle.input.specs.Input.{decodeInput};
-ghost use Rattle.input.specs.Begun.{BegunPlaces};
+ghost use Rattle.input.specs.Begun.{BegunOffsets};
 ghost use Rattle.answers.specs.Answers.{outcomeNumber, outcomeAnswer, Answered};
 
 fn number_of(answer: predicate::answer::Answer) -> u64
@@ -23,11 +23,11 @@ fn outcome_accepted(
     catalogue: &[u8],
     question: &[u8],
     begun: Beginning,
-    places: &[usize],
+    offsets: &[usize],
     entry: u64,
     condition: u64,
 ) -> Answer
-    requires { ⌜ BegunPlaces (now catalogue) (now question) begun (now places) ⌝ }
+    requires { ⌜ BegunOffsets (now catalogue) (now question) begun (now offsets) ⌝ }
     ensures { λ r. ⌜ Answered (outcomeAnswer (decodeInput (now (catalogue .entry)) (now (question .entry))) entry condition) r ⌝ }
 {
     let rows = begun.rows;
@@ -45,7 +45,7 @@ fn outcome_accepted(
         &tags,
         &starts,
         question,
-        places,
+        offsets,
         condition as usize,
         &mut plan,
     );
@@ -69,12 +69,12 @@ fn outcome_accepted(
 pub fn outcome_at(catalogue: &[u8], question: &[u8], entry: u64, condition: u64) -> Answer
     ensures { λ r. ⌜ Answered (outcomeAnswer (decodeInput (now (catalogue .entry)) (now (question .entry))) entry condition) r ⌝ }
 {
-    let mut places = [0usize; Predicate::LIMIT];
+    let mut offsets = [0usize; Predicate::LIMIT];
     let mut ancestors = [0u8; Ancestors::TABLE];
-    let begun = input::begin::begin(catalogue, question, &mut places, &mut ancestors);
+    let begun = input::begin::begin(catalogue, question, &mut offsets, &mut ancestors);
     let refusal = begun.refusal;
     if refusal != 0 {
         return Answer::Refused(refusal);
     }
-    outcome_accepted(catalogue, question, begun, &places, entry, condition)
+    outcome_accepted(catalogue, question, begun, &offsets, entry, condition)
 }

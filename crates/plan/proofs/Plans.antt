@@ -9,7 +9,7 @@ use lib.ListN.{length, getD, set, length-set}
 use lib.Seq.{getD-set-same, getD-set-other}
 use lib.WfN.{Nat·lt-wfRel}
 use Rattle.strategy.specs.Bools.{same?}
-use Rattle.query.specs.declared.table.Predicate.{Predicate}
+use Rattle.records.specs.declared.PredicateRecord.{PredicateRecord}
 use Rattle.query.specs.Format.{predicateLimit}
 use Rattle.plan.specs.Plan.{Access, accessWidth, planSize, accessAt, accessOf, HasColumn, PutAccess, Planned}
 
@@ -98,10 +98,10 @@ module _ (P : List ℕ) (c a b k p s : ℕ) (sized : length P ≡ planSize) (ins
           go (inl z) = inl (omega (arith, n))
           go (inr z) = inr (omega (arith, z))
 
-pub planned-none : (tags starts : List ℕ) (R : ℕ → Predicate) (P : List ℕ) → Planned tags starts R P 0
+pub planned-none : (tags starts : List ℕ) (R : ℕ → PredicateRecord) (P : List ℕ) → Planned tags starts R P 0
 planned-none tags starts R P c l = absurd (omega arith)
 
-pub planned-more : (tags starts : List ℕ) (R : ℕ → Predicate) (P P′ : List ℕ) (n : ℕ) → PutAccess n (accessOf tags starts (R n)) P P′
+pub planned-more : (tags starts : List ℕ) (R : ℕ → PredicateRecord) (P P′ : List ℕ) (n : ℕ) → PutAccess n (accessOf tags starts (R n)) P P′
     → Planned tags starts R P n → Planned tags starts R P′ (n + 1)
 planned-more tags starts R P P′ n p h c l = go (same? c n)
   where
@@ -110,7 +110,7 @@ planned-more tags starts R P P′ n p h c l = go (same? c n)
     go (inr e) = p .elsewhere c e ∙ h c (omega (arith, e))
 
 -- a record that was read is the predicate's own
-module _ (tags starts : List ℕ) (r r′ : Predicate) (e : r ≡ r′) where
+module _ (tags starts : List ℕ) (r r′ : PredicateRecord) (e : r ≡ r′) where
   pub record-column : HasColumn tags starts r′ → HasColumn tags starts r
   record-column h = rw e h
 
@@ -118,14 +118,14 @@ module _ (tags starts : List ℕ) (r r′ : Predicate) (e : r ≡ r′) where
   record-put P P′ c p = rw (← e) (p .here)
 
 -- how far the loop over the predicates is: the list has the accesses of the first `count` of n
-pub record Stage (tags starts : List ℕ) (R : ℕ → Predicate) (n : ℕ) : Type 0 where
+pub record Stage (tags starts : List ℕ) (R : ℕ → PredicateRecord) (n : ℕ) : Type 0 where
   pub count : ℕ
   pub list : List ℕ
   pub few : count ≤ n
   pub sized : length list ≡ planSize
   pub planned : Planned tags starts R list count
 
-module _ {tags starts : List ℕ} {R : ℕ → Predicate} {n : ℕ} where
+module _ {tags starts : List ℕ} {R : ℕ → PredicateRecord} {n : ℕ} where
   abbrev pub begun : (P : List ℕ) → length P ≡ planSize → Stage tags starts R n
   begun P sized = record { count = 0; list = P; few = omega arith; sized = sized; planned = planned-none tags starts R P }
 

@@ -3,18 +3,18 @@ use mathlib.Core.Path.{_≡_, sym, ap, subst, _∙_}
 use Prim.Native.Nat.{ℕ, _<_}
 use mathlib.Core.List.{List, _++_}
 use lib.ListN.{drop}
-use Rattle.query.specs.declared.table.Predicate.{Predicate}
-use Rattle.query.specs.Table.{recordAt, recordIn, recordsOf}
-use Rattle.query.proofs.Tabulated.{record-in}
+use Rattle.records.specs.declared.PredicateRecord.{PredicateRecord}
+use Rattle.records.specs.Table.{recordAt, recordIn, recordsOf}
+use Rattle.records.proofs.Tabulated.{record-in}
 use Rattle.plan.specs.Plan.{accessOf, HasColumn, HaveColumns, Planned}
 
-module _ (q places : List ℕ) (T T₀ : List Predicate) (n : ℕ) (filled : T ≡ recordsOf q places n ++ drop n T₀) where
-  same : (c : ℕ) → c < n → recordIn T c ≡ recordAt q places c
-  same c l = ap (λ (t : List Predicate). recordIn t c) filled ∙ record-in q places T₀ n c l
+module _ (q offsets : List ℕ) (T T₀ : List PredicateRecord) (n : ℕ) (filled : T ≡ recordsOf q offsets n ++ drop n T₀) where
+  same : (c : ℕ) → c < n → recordIn T c ≡ recordAt q offsets c
+  same c l = ap (λ (t : List PredicateRecord). recordIn t c) filled ∙ record-in q offsets T₀ n c l
 
   module _ (tags starts : List ℕ) where
-    pub have-columns : HaveColumns tags starts (recordAt q places) n → HaveColumns tags starts (recordIn T) n
+    pub have-columns : HaveColumns tags starts (recordAt q offsets) n → HaveColumns tags starts (recordIn T) n
     have-columns h c l = subst (HasColumn tags starts) (sym (same c l)) (h c l)
 
-    pub planned : (P : List ℕ) → Planned tags starts (recordIn T) P n → Planned tags starts (recordAt q places) P n
+    pub planned : (P : List ℕ) → Planned tags starts (recordIn T) P n → Planned tags starts (recordAt q offsets) P n
     planned P h c l = h c l ∙ ap (accessOf tags starts) (same c l)

@@ -3,7 +3,7 @@ use Prim.Native.Nat.{ℕ, _+_, _*_, _<_}
 use mathlib.Core.Path.{_≡_}
 use mathlib.Core.List.{List}
 use lib.ListN.{length, getD}
-use Rattle.query.specs.declared.table.Predicate.{Predicate as PredicateRecord}
+use Rattle.records.specs.declared.PredicateRecord.{PredicateRecord}
 use Rattle.query.specs.Format.{predicateLimit}
 
 -- where a predicate's outcome comes from: the column's tag and start in the catalogue, the operand's place and size in the query

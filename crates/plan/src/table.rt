@@ -1,11 +1,12 @@
 // The plan of a run: five numbers for each predicate, filled once, so that no row looks up a column.
-use query::table::Predicate;
+use query::format::Predicate;
+use records::PredicateRecord;
 ghost use mathlib.Core.Path.{_≡_};
 ghost use Prim.Native.Nat.{_≤_, _<_};
 ghost use lib.ListN.{length};
 ghost use Rattle.query.specs.Format.{predicateLimit};
-ghost use Rattle.query.specs.Places.{Located};
-ghost use Rattle.query.specs.Table.{recordAt, HasRecord, recordIn};
+ghost use Rattle.records.specs.Offsets.{Located};
+ghost use Rattle.records.specs.Table.{recordAt, HasRecord, recordIn};
 ghost use Rattle.plan.specs.Plan.{planSize, accessAt, accessOf, HasColumn, HaveColumns, PutAccess, Planned};
 
 pub struct Plan;
@@ -18,7 +19,7 @@ impl Plan {
 }
 
 // Writes down where the outcome of predicate c comes from.
-fn put_access(tags: &[u8], starts: &[usize], r: Predicate, c: usize, plan: &mut [usize])
+fn put_access(tags: &[u8], starts: &[usize], r: PredicateRecord, c: usize, plan: &mut [usize])
     requires { ⌜ (c < predicateLimit) × (length (now plan) ≡ planSize) × HasColumn (now tags) (now starts) r ⌝ }
     ensures { λ _. ⌜ PutAccess c (accessOf (now (tags .entry)) (now (starts .entry)) r) (now (plan .entry)) (now (plan .exit)) ⌝ }
 {
@@ -31,24 +32,30 @@ fn put_access(tags: &[u8], starts: &[usize], r: Predicate, c: usize, plan: &mut 
     plan[i + 4] = r.len;
 }
 
-// Plans predicate c alone, whose field begins at places[c] of the query.
+// Plans predicate c alone, whose field begins at offsets[c] of the query.
 pub fn plan_predicate(
     tags: &[u8],
     starts: &[usize],
     q: &[u8],
-    places: &[usize],
+    offsets: &[usize],
     c: usize,
     plan: &mut [usize],
 )
-    requires { ⌜ HasRecord (now q) (now places) c × (length (now plan) ≡ planSize) × HasColumn (now tags) (now starts) (recordAt (now q) (now places) c) ⌝ }
-    ensures { λ _. ⌜ accessAt (now (plan .exit)) c ≡ accessOf (now (tags .entry)) (now (starts .entry)) (recordAt (now (q .entry)) (now (places .entry)) c) ⌝ }
+    requires { ⌜ HasRecord (now q) (now offsets) c × (length (now plan) ≡ planSize) × HasColumn (now tags) (now starts) (recordAt (now q) (now offsets) c) ⌝ }
+    ensures { λ _. ⌜ accessAt (now (plan .exit)) c ≡ accessOf (now (tags .entry)) (now (starts .entry)) (recordAt (now (q .entry)) (now (offsets .entry)) c) ⌝ }
 {
-    let r = query::table::record_at(q, places, c);
+    let r = records::record_at(q, offsets, c);
     put_access(tags, starts, r, c, plan);
 }
 
 // Plans the first n predicates of the table, over columns with these tags and starts.
-fn plan_records(tags: &[u8], starts: &[usize], table: &[Predicate], n: usize, plan: &mut [usize])
+fn plan_records(
+    tags: &[u8],
+    starts: &[usize],
+    table: &[PredicateRecord],
+    n: usize,
+    plan: &mut [usize],
+)
     requires { ⌜ (n ≤ predicateLimit) × (n ≤ length (now table)) × (length (now plan) ≡ planSize) × HaveColumns (now tags) (now starts) (recordIn (now table)) n ⌝ }
     ensures { λ _. ⌜ Planned (now (tags .entry)) (now (starts .entry)) (recordIn (now (table .entry))) (now (plan .exit)) n ⌝ }
 {
@@ -59,25 +66,25 @@ fn plan_records(tags: &[u8], starts: &[usize], table: &[Predicate], n: usize, pl
     }
 }
 
-// Plans the n predicates whose fields begin at these places of the query, by the table of their records: it is this
+// Plans the n predicates whose fields begin at these offsets of the query, by the table of their records: it is this
 // function's own, lent to the one that fills it and to the one that reads it.
 pub fn fill_plan(
     tags: &[u8],
     starts: &[usize],
     q: &[u8],
-    places: &[usize],
+    offsets: &[usize],
     n: usize,
     plan: &mut [usize],
 )
-    requires { ⌜ Located (now q) (now places) n × (length (now plan) ≡ planSize) × HaveColumns (now tags) (now starts) (recordAt (now q) (now places)) n ⌝ }
-    ensures { λ _. ⌜ Planned (now (tags .entry)) (now (starts .entry)) (recordAt (now (q .entry)) (now (places .entry))) (now (plan .exit)) n ⌝ }
+    requires { ⌜ Located (now q) (now offsets) n × (length (now plan) ≡ planSize) × HaveColumns (now tags) (now starts) (recordAt (now q) (now offsets)) n ⌝ }
+    ensures { λ _. ⌜ Planned (now (tags .entry)) (now (starts .entry)) (recordAt (now (q .entry)) (now (offsets .entry))) (now (plan .exit)) n ⌝ }
 {
-    let mut table = [Predicate {
+    let mut table = [PredicateRecord {
         column: 0,
         kind: 0,
         place: 0,
         len: 0,
     }; Predicate::LIMIT];
-    query::table::tabulate(q, places, n, &mut table);
+    records::tabulate(q, offsets, n, &mut table);
     plan_records(tags, starts, &table, n, plan);
 }

@@ -20,8 +20,7 @@ use Rattle.query.specs.Format.{predicateLimit, bytesAfterQuery}
 use Rattle.query.specs.Query.{Query}
 use Rattle.query.specs.Decode.{payloadAt, payloadOf, memberField, Read, asGroup, fieldThen, putBefore, memberThen, unlessEnd, member, members, wholeQuery, decodeTagged}
 use Rattle.query.specs.Sound.{SoundField}
-use Rattle.query.proofs.Records.{operand-bytes}
-use Rattle.query.proofs.Repeats.{payload-parts}
+use Rattle.query.proofs.PayloadBytes.{operand-bytes, payload-parts}
 use Rattle.query.proofs.Fields.{field-sound}
 
 -- a predicate is a valid condition, and its operand stands at its place in the query

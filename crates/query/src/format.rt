@@ -1,4 +1,12 @@
-// The numbers of the query's format; the contracts tie them to those of specs/Format.antt. A predicate's stand in table.rt.
+// The numbers of the query's format; the contracts of the crates above tie them to those of specs/Format.antt.
+
+pub struct Predicate;
+
+impl Predicate {
+    pub const TAG: u8 = 80;
+
+    pub const LIMIT: usize = 64;
+}
 
 pub struct Group;
 

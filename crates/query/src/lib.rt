@@ -1,8 +1,3 @@
-// Document 01's question: read, checked, numbered.
-pub mod ancestors;
+// Document 01's question: the numbers of its format and a member's field. The rest are definitions and laws, in specs and proofs.
 pub mod format;
 pub mod member;
-pub mod reader;
-pub mod repeated;
-pub mod table;
-pub mod whole;

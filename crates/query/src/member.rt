@@ -1,17 +1,4 @@
-// One field of a query.
-use crate::format::Group;
-use crate::format::Refusal;
-use crate::table::Predicate;
-use fields::header::Header;
-ghost use mathlib.Core.Path.{_≡_};
-ghost use Prim.Native.Nat.{_≤_};
-ghost use lib.ListN.{length};
-ghost use Rattle.fields.specs.Header.{headerAt};
-ghost use Rattle.query.specs.Format.{depthOf};
-ghost use Rattle.query.specs.Decode.{groupField, predicateField, memberField};
-ghost use Rattle.query.specs.Places.{Located};
-ghost use Rattle.query.specs.Table.{predicatesAt};
-ghost use Rattle.query.specs.Sound.{SoundField};
+// A member's field.
 
 // What stands where a member is expected, every check of it done but those of its own members; the payload is the
 // bytes from start up to end.
@@ -19,74 +6,4 @@ pub enum MemberField {
     Refused(u8),
     Leaf { start: usize, end: usize },
     Group { tag: u8, start: usize, end: usize },
-}
-
-fn group_field(allowed: usize, tag: u8, start: usize, end: usize) -> MemberField
-    ensures { λ r. ⌜ r ≡ groupField (depthOf allowed) tag start end ⌝ }
-{
-    if allowed == 0 {
-        return MemberField::Refused(Refusal::TOO_DEEP);
-    }
-    if start == end {
-        return MemberField::Refused(Refusal::EMPTY_GROUP);
-    }
-    MemberField::Group { tag, start, end }
-}
-
-// The predicates before it are those whose fields begin at the first n places.
-fn predicate_field(
-    tags: &[u8],
-    q: &[u8],
-    start: usize,
-    end: usize,
-    n: usize,
-    places: &[usize],
-) -> MemberField
-    requires { ⌜ (start ≤ end) × (end ≤ length (now q)) × Located (now q) (now places) n ⌝ }
-    ensures { λ r. ⌜ r ≡ predicateField (now (tags .entry)) (now (q .entry)) (predicatesAt (now (q .entry)) (now (places .entry)) n) start end ⌝ }
-{
-    if Predicate::LIMIT <= n {
-        return MemberField::Refused(Refusal::TOO_MANY_PREDICATES);
-    }
-    if !payload::payload_is_valid(tags, &q[start..end]) {
-        return MemberField::Refused(Refusal::INVALID_PAYLOAD);
-    }
-    if crate::repeated::is_repeated(&q[start..end], q, places, n) {
-        return MemberField::Refused(Refusal::REPEATED_PAYLOAD);
-    }
-    MemberField::Leaf { start, end }
-}
-
-// The member expected at a place inside an enclosing end, with so many more groups allowed.
-pub fn read_field(
-    tags: &[u8],
-    q: &[u8],
-    at: usize,
-    end: usize,
-    allowed: usize,
-    n: usize,
-    places: &[usize],
-) -> MemberField
-    requires { ⌜ (at ≤ end) × (end ≤ length (now q)) × Located (now q) (now places) n ⌝ }
-    ensures { λ r. ⌜ (r ≡ memberField (now (tags .entry)) (now (q .entry)) (depthOf allowed) (predicatesAt (now (q .entry)) (now (places .entry)) n) (headerAt (now (q .entry)) at end)) × SoundField (now (tags .entry)) (now (q .entry)) at end (depthOf allowed) n r ⌝ }
-{
-    match fields::header::read_header(q, at, end) {
-        Header::Cut => MemberField::Refused(Refusal::MEMBER_CUT),
-        Header::Field {
-            tag,
-            start,
-            end: stop,
-        } => {
-            if tag == Predicate::TAG {
-                return predicate_field(tags, q, start, stop, n, places);
-            }
-            if tag == Group::CONJUNCTION_TAG {
-                return group_field(allowed, tag, start, stop);
-            }
-            if tag == Group::DISJUNCTION_TAG {
-                return group_field(allowed, tag, start, stop);
-            }
-            MemberField::Refused(Refusal::UNKNOWN_TAG)
-        }
-    }
 }

@@ -21,7 +21,7 @@ use Rattle.sets.specs.Kept.{KeptBy}
 use Rattle.bitmaps.specs.Table.{lineSize}
 use Rattle.bitmaps.specs.Word.{wordSize, WordPut}
 use Rattle.query.specs.Format.{predicateLimit}
-use Rattle.query.specs.Ancestors.{ancestorsOf}
+use Rattle.ancestors.specs.Ancestors.{ancestorsOf}
 use Rattle.blocks.specs.Block.{rowLive, rowStep, Climbed, HasAncestors}
 use Rattle.plan.specs.Plan.{accessAt}
 use Rattle.plan.specs.Access.{HasOutcomes, MetIs}

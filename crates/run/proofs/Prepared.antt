@@ -14,13 +14,13 @@ use Rattle.predicate.specs.Kinds.{plainKind}
 use Rattle.predicate.specs.Payload.{tagsOf, kindFits}
 use Rattle.predicate.proofs.PayloadLaws.{Valid, valid-payload, tags-length, tags-at, shown-tag, tag-small}
 use Rattle.strategy.specs.Order.{isOrder}
-use Rattle.query.specs.declared.table.Predicate.{Predicate}
+use Rattle.records.specs.declared.PredicateRecord.{PredicateRecord}
 use Rattle.query.specs.Query.{Query}
 use Rattle.query.specs.Decode.{payloadOf}
-use Rattle.query.specs.Table.{recordAt, predicateIn}
-use Rattle.query.specs.Ancestors.{Tables}
-use Rattle.query.specs.Handed.{Tabled}
-use Rattle.query.proofs.Records.{predicates-at}
+use Rattle.records.specs.Table.{recordAt, predicateIn}
+use Rattle.reader.specs.Tables.{Tables}
+use Rattle.reader.specs.Handed.{Tabled}
+use Rattle.records.proofs.Records.{predicates-at}
 use Rattle.plan.specs.Plan.{planSize, accessAt, accessOf, HaveColumns, Planned}
 use Rattle.plan.specs.Access.{Accessed}
 use Rattle.run.specs.Run.{predicateAt}
@@ -29,18 +29,18 @@ use Rattle.run.specs.Ready.{given, Ready}
 -- a catalogue that is laid out, and a query that was read against its columns
 module _ {b q : List ℕ} {l : Layout} {C : Catalogue} {Q : Query} {n : ℕ} {T : Tables}
     (laid : Laid b l C) (read : Tabled (tagsOf C) q Q n T) where
-  column-inside : (c : ℕ) → c < n → recordAt q (T .places) c .column < length (C .columns)
+  column-inside : (c : ℕ) → c < n → recordAt q (T .offsets) c .column < length (C .columns)
   column-inside c k = omega (arith, read .each c k .column, tags-length (C .columns))
 
   -- what `fill_plan` asks of the tables
-  pub have-columns : HaveColumns (l .tags) (l .starts) (recordAt q (T .places)) n
+  pub have-columns : HaveColumns (l .tags) (l .starts) (recordAt q (T .offsets)) n
   have-columns c k =
-      let inside : recordAt q (T .places) c .column < columnLimit = omega (arith, column-inside c k, laid .columns, laid .few) in
+      let inside : recordAt q (T .offsets) c .column < columnLimit = omega (arith, column-inside c k, laid .columns, laid .few) in
       (omega (arith, laid .tags-size), omega (arith, laid .starts-size))
 
   module _ (c : ℕ) (k : c < n) where
-    abbrev r : Predicate
-    r = recordAt q (T .places) c
+    abbrev r : PredicateRecord
+    r = recordAt q (T .offsets) c
 
     abbrev tag : ℕ
     tag = getD (l .tags) (r .column) 0
@@ -67,7 +67,7 @@ module _ {b q : List ℕ} {l : Layout} {C : Catalogue} {Q : Query} {n : ℕ} {T 
       kind = refl;
       kind-byte = read .each c k .kind;
       operand = refl;
-      placed = omega (arith, read .located .placed c k .0, read .located .placed c k .1);
+      placed = omega (arith, read .located .each c k .0, read .located .each c k .1);
       kind-fits = ap (λ (t : ℕ). kindFits t (plainKind (r .kind))) same-tag ∙ valid .kind-fits;
       operand-fits = valid .operand-fits;
     }
@@ -75,15 +75,15 @@ module _ {b q : List ℕ} {l : Layout} {C : Catalogue} {Q : Query} {n : ℕ} {T 
     predicate-is : predicateAt Q c ≡ predicateIn q r
     predicate-is =
         ap (λ ps. getD ps c (record { column = 0; kind = 0; operand = []; place = 0 })) (sym (read .shown))
-        ∙ predicates-at q (T .places) n c (record { column = 0; kind = 0; operand = []; place = 0 }) k
+        ∙ predicates-at q (T .offsets) n c (record { column = 0; kind = 0; operand = []; place = 0 }) k
 
   -- a predicate that is planned is shown
-  pub planned-accessed : (P : List ℕ) (c : ℕ) → c < n → accessAt P c ≡ accessOf (l .tags) (l .starts) (recordAt q (T .places) c)
+  pub planned-accessed : (P : List ℕ) (c : ℕ) → c < n → accessAt P c ≡ accessOf (l .tags) (l .starts) (recordAt q (T .offsets) c)
       → Accessed b q C (predicateAt Q c) (accessAt P c)
   planned-accessed P c k e = rw (e, predicate-is c k) (planned c k)
 
   -- A RUN IS READY
-  pub ready : {order P : List ℕ} → isOrder n order ≡ true → length P ≡ planSize → Planned (l .tags) (l .starts) (recordAt q (T .places)) P n
+  pub ready : {order P : List ℕ} → isOrder n order ≡ true → length P ≡ planSize → Planned (l .tags) (l .starts) (recordAt q (T .offsets)) P n
       → Ready (given b q order P (T .ancestors)) n (record { catalogue = C; query = Q; order = order })
   ready {order} {P} o s p = record {
     short = omega (arith, laid .rows, laid .short);

@@ -9,7 +9,7 @@ use Rattle.strategy.specs.Tree.{size, Numbered, NonEmpty}
 use Rattle.strategy.specs.Order.{isOrder}
 use Rattle.strategy.specs.Climb.{enclosing}
 use Rattle.query.specs.Format.{predicateLimit}
-use Rattle.query.specs.Ancestors.{ancestorsSize, ancestorsOf, Low, Spans}
+use Rattle.ancestors.specs.Ancestors.{ancestorsSize, ancestorsOf, Low, Spans}
 use Rattle.plan.specs.Plan.{accessAt, planSize}
 use Rattle.plan.specs.Access.{Accessed}
 use Rattle.run.specs.Run.{Task, predicateAt, turnsOf}

@@ -1,6 +1,6 @@
 // A block of 64 rows worked through, turn after turn.
 use bitmaps::copy::Line;
-use query::table::Predicate;
+use query::format::Predicate;
 ghost use mathlib.Core.Path.{_≡_};
 ghost use lib.ListN.{length};
 ghost use Rattle.predicate.specs.Outcome.{Folds};

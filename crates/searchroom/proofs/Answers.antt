@@ -7,7 +7,7 @@ use Rattle.fields.specs.Decoded.{Decoded, refused, accepted}
 use Rattle.catalogue.specs.Catalogue.{Catalogue}
 use Rattle.catalogue.specs.declared.layout.Layout.{Layout}
 use Rattle.catalogue.specs.Layout.{LaidOut}
-use Rattle.query.specs.Ancestors.{Tables}
+use Rattle.reader.specs.Tables.{Tables}
 use Rattle.input.specs.declared.begin.Beginning.{Beginning}
 use Rattle.input.specs.Input.{Input, decodeInput}
 use Rattle.input.specs.Begun.{Begun}

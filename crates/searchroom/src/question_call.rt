@@ -1,7 +1,7 @@
 // Checking a question against a catalogue.
+use ancestors::Ancestors;
 use answers::word::Answer;
-use query::ancestors::Ancestors;
-use query::table::Predicate;
+use query::format::Predicate;
 ghost use mathlib.Core.Path.{_≡_};
 ghost use Rattle.input.specs.Input.{decodeInput};
 ghost use Rattle.answers.specs.Word.{packed};
@@ -10,9 +10,9 @@ ghost use Rattle.answers.specs.Answers.{questionAnswer, Answered};
 fn check_question(catalogue: &[u8], question: &[u8]) -> Answer
     ensures { λ r. ⌜ Answered (questionAnswer (decodeInput (now (catalogue .entry)) (now (question .entry)))) r ⌝ }
 {
-    let mut places = [0usize; Predicate::LIMIT];
+    let mut offsets = [0usize; Predicate::LIMIT];
     let mut ancestors = [0u8; Ancestors::TABLE];
-    let begun = input::begin::begin(catalogue, question, &mut places, &mut ancestors);
+    let begun = input::begin::begin(catalogue, question, &mut offsets, &mut ancestors);
     let refusal = begun.refusal;
     if refusal != 0 {
         return Answer::Refused(refusal);

@@ -6,7 +6,7 @@ use mathlib.Core.List.{List}
 use lib.ListN.{length}
 use Rattle.fields.specs.Decoded.{refused}
 use Rattle.bitmaps.specs.Bitmap.{bytesFor}
-use Rattle.query.specs.Ancestors.{Tables}
+use Rattle.reader.specs.Tables.{Tables}
 use Rattle.run.specs.Worked.{Worked}
 use Rattle.input.specs.declared.begin.Beginning.{Beginning}
 use Rattle.input.specs.Input.{decodeInput}

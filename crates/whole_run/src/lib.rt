@@ -1,8 +1,8 @@
 // Running a question in a given order.
+use ancestors::Ancestors;
 use answers::word::Answer;
 use bitmaps::copy::Line;
-use query::ancestors::Ancestors;
-use query::table::Predicate;
+use query::format::Predicate;
 ghost use mathlib.Core.Path.{_≡_};
 ghost use Rattle.answers.specs.Word.{packed, FitsWord};
 ghost use Rattle.demands.specs.Run.{lent, ran, runOf};
@@ -18,9 +18,9 @@ pub fn run_question(
 ) -> Answer
     ensures { λ r. ⌜ (ran (packed r) (now (listed .exit)) (now (looks .exit)) (now (tally .exit)) ≡ runOf (lent (now (catalogue .entry)) (now (question .entry)) (now (order .entry)) (now (listed .entry)) (now (looks .entry)) (now (tally .entry)))) × FitsWord r ⌝ }
 {
-    let mut places = [0usize; Predicate::LIMIT];
+    let mut offsets = [0usize; Predicate::LIMIT];
     let mut ancestors = [0u8; Ancestors::TABLE];
-    let begun = input::begin::begin(catalogue, question, &mut places, &mut ancestors);
+    let begun = input::begin::begin(catalogue, question, &mut offsets, &mut ancestors);
     let refusal = begun.refusal;
     if refusal != 0 {
         return Answer::Refused(refusal);
@@ -38,7 +38,7 @@ pub fn run_question(
         question,
         order,
         begun,
-        &places,
+        &offsets,
         &ancestors,
         &mut selected,
         &mut probes,

@@ -6,8 +6,8 @@ use mathlib.Core.List.{List}
 use lib.ListN.{length}
 use Rattle.strategy.specs.Order.{isOrder}
 use Rattle.sets.specs.Set.{belowSet}
-use Rattle.query.specs.Table.{recordAt}
-use Rattle.query.specs.Ancestors.{Tables}
+use Rattle.records.specs.Table.{recordAt}
+use Rattle.reader.specs.Tables.{Tables}
 use Rattle.plan.specs.Plan.{planSize, Planned}
 use Rattle.run.specs.declared.rows.Extent.{Extent}
 use Rattle.run.specs.Ready.{given, Ready}
@@ -19,7 +19,7 @@ use Rattle.demands.specs.Run.{taskOf}
 use Rattle.work.specs.Worked.{RunWorked}
 
 module _ {b q : List ℕ} {r : Beginning} {T : Tables} (G : Begun b q r T) (order P : List ℕ) (o : isOrder (r .n) order ≡ true) (s : length P ≡ planSize)
-    (p : Planned (r .tags) (r .starts) (recordAt q (T .places)) P (r .n)) (E : Extent) (rows : E .rows ≡ r .rows) (start : E .start ≡ belowSet (r .n)) where
+    (p : Planned (r .tags) (r .starts) (recordAt q (T .offsets)) P (r .n)) (E : Extent) (rows : E .rows ≡ r .rows) (start : E .start ≡ belowSet (r .n)) where
   begun-ready : Ready (given b q order P (T .ancestors)) (r .n) (taskOf (G .input) order)
   begun-ready = ready (G .laid) (G .tabled) o s (rw (G .tags, G .starts) at p)
 

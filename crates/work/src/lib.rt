@@ -6,7 +6,7 @@ ghost use mathlib.Core.Path.{_≡_};
 ghost use mathlib.Core.Bool.{true};
 ghost use Rattle.strategy.specs.Order.{isOrder};
 ghost use Rattle.query.specs.Format.{predicateLimit};
-ghost use Rattle.query.specs.Ancestors.{tables};
+ghost use Rattle.reader.specs.Tables.{tables};
 ghost use Rattle.run.specs.Worked.{Empty};
 ghost use Rattle.input.specs.Begun.{Begun};
 ghost use Rattle.work.specs.Worked.{RunWorked};
@@ -17,12 +17,12 @@ pub fn work(
     question: &[u8],
     order: &[u8],
     begun: Beginning,
-    places: &[usize],
+    offsets: &[usize],
     ancestors: &[u8],
     selected: &mut [u8],
     probes: &mut [u8],
 )
-    requires { ⌜ Begun (now catalogue) (now question) begun (tables (now places) (now ancestors)) × (isOrder (begun .n) (now order) ≡ true) ⌝ }
+    requires { ⌜ Begun (now catalogue) (now question) begun (tables (now offsets) (now ancestors)) × (isOrder (begun .n) (now order) ≡ true) ⌝ }
     requires { ⌜ Empty 1 (now selected) × Empty predicateLimit (now probes) ⌝ }
     ensures { λ _. ⌜ RunWorked (now (catalogue .entry)) (now (question .entry)) (now (order .entry)) (begun .n) (now (selected .exit)) (now (probes .exit)) ⌝ }
 {
@@ -30,7 +30,7 @@ pub fn work(
     let tags = begun.tags;
     let starts = begun.starts;
     let mut plan = [0usize; Plan::TABLE];
-    plan::table::fill_plan(&tags, &starts, question, places, n, &mut plan);
+    plan::table::fill_plan(&tags, &starts, question, offsets, n, &mut plan);
     let extent = Extent {
         rows: begun.rows,
         start: sets::below(fields::number::narrow(n)),

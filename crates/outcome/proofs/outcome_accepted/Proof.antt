@@ -1,7 +1,7 @@
 -- `outcome_accepted` meets its contract: 18 where there is no such place, else the answer that the plan gives.
 use native.Mathlib.Omega.{arith}
 use mathlib.Core.Path.{refl}
-use Rattle.query.proofs.Tabulated.{has-record}
+use Rattle.records.proofs.Tabulated.{has-record}
 use Rattle.input.proofs.InHand.{begun-columns, begun-accessed}
 use Rattle.outcome.proofs.Outcomes.{no-such-row, no-such-predicate, has-such-row, outcome-told}
 use borrow.Author.Needs.{needs}

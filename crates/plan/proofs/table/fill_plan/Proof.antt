@@ -46,16 +46,16 @@ use denote.Triple.Clauses.{ensured, lasts}
 use denote.Triple.Table.{entered, cited}
 use denote.Triple.Walked.{says, needs, Stays, stay-dropped, gave-slice, walkOf, goes-dropped, goes-gave-slice, Walks, ends-at, walked, walk-meets}
 use denote.Exit.{yes}
-use Rattle.query.specs.declared.table.Predicate.{Predicate}
+use Rattle.records.specs.declared.PredicateRecord.{PredicateRecord}
 use Rattle.query.specs.Format.{predicateLimit}
-use Rattle.query.specs.Places.{Located}
-use Rattle.query.specs.Table.{noRecord, recordAt, recordIn, recordsOf}
-use Rattle.query.proofs.table.Predicate as T
-use Rattle.query.proofs.table.Predicate.Laws as T′
-use Rattle.query.proofs.table.tabulate as tabulate
-use Rattle.query.proofs.table.tabulate.Symbol as tabulate-def
-use Rattle.query.proofs.table.tabulate.Symbol.{name as #query·table·tabulate}
-use Rattle.query.proofs.table.tabulate.Met as tabulate-thm
+use Rattle.records.specs.Offsets.{Located}
+use Rattle.records.specs.Table.{noRecord, recordAt, recordIn, recordsOf}
+use Rattle.records.proofs.PredicateRecord as T
+use Rattle.records.proofs.PredicateRecord.Laws as T′
+use Rattle.records.proofs.tabulate as tabulate
+use Rattle.records.proofs.tabulate.Symbol as tabulate-def
+use Rattle.records.proofs.tabulate.Symbol.{name as #records·tabulate}
+use Rattle.records.proofs.tabulate.Met as tabulate-thm
 use Rattle.plan.specs.Plan.{planSize, HaveColumns, Planned}
 use Rattle.plan.proofs.RecordArray.{R, Table, table-mir, mach, blank, blank-size, blank-mach, blank-is, none-is, made-typed, lies-out, lies-in, parts-out, parts-in}
 use Rattle.plan.proofs.Recorded.{have-columns, planned}
@@ -97,7 +97,7 @@ abbrev val : {X : Type 0} → RefT (List X) → Val
 val x = sliceVal (x .ptr) (length (x .now))
 
 -- the slice at the memory slot l, under the name γ, at the list ys
-abbrev slot : GName → ℕ → List Predicate → RefT (List Predicate)
+abbrev slot : GName → ℕ → List PredicateRecord → RefT (List PredicateRecord)
 slot γ l ys = record { ptr = (l, 0); name = γ; now = ys }
 
 module _ {M : Type 1} (𝓤 : URA M) (H : Heap 𝓤) (A : Atoms 𝓤) (mem′ : Memory → SProp 𝓤) (run : Routine → Fun 𝓤) where
@@ -107,30 +107,30 @@ module _ {M : Type 1} (𝓤 : URA M) (H : Heap 𝓤) (A : Atoms 𝓤) (mem′ : 
   abbrev Plans : Contract 𝓤
   Plans = tripleOf 𝓤 H A plan-records.signature (plan-records.spec 𝓤 H A mem′ run)
 
-module _ {M : Type 1} (𝓤 : URA M) (H : Heap 𝓤) (A : Atoms 𝓤) (W : Given 𝓤 H A) (mem′ : Memory → SProp 𝓤) (run : Routine → Fun 𝓤) (κ₀ κ₁ κ₂ κ₃ κ₄ : Lft) (q₀ q₁ q₂ q₃ q₄ : Share) (tags starts q places : RefT (List ℕ)) (n : ℕ) (plan : RefT (List ℕ)) where
+module _ {M : Type 1} (𝓤 : URA M) (H : Heap 𝓤) (A : Atoms 𝓤) (W : Given 𝓤 H A) (mem′ : Memory → SProp 𝓤) (run : Routine → Fun 𝓤) (κ₀ κ₁ κ₂ κ₃ κ₄ : Lft) (q₀ q₁ q₂ q₃ q₄ : Share) (tags starts q offsets : RefT (List ℕ)) (n : ℕ) (plan : RefT (List ℕ)) where
   -- ---- what the three contracts say: the `requires` of `fill_plan`, the `ensures` of `tabulate` and of `plan_records` at the table ts, and the `ensures` of `fill_plan`
   abbrev Asked : Type 0
-  Asked = Located (q .now) (places .now) n × (length (plan .now) ≡ planSize) × HaveColumns (tags .now) (starts .now) (recordAt (q .now) (places .now)) n
+  Asked = Located (q .now) (offsets .now) n × (length (plan .now) ≡ planSize) × HaveColumns (tags .now) (starts .now) (recordAt (q .now) (offsets .now)) n
 
-  abbrev Tabulated : List Predicate → Type 0
-  Tabulated ts = ts ≡ recordsOf (q .now) (places .now) n ++ dropN n blank
+  abbrev Tabulated : List PredicateRecord → Type 0
+  Tabulated ts = ts ≡ recordsOf (q .now) (offsets .now) n ++ dropN n blank
 
-  abbrev Filled : List Predicate → List ℕ → Type 0
+  abbrev Filled : List PredicateRecord → List ℕ → Type 0
   Filled ts ps = Planned (tags .now) (starts .now) (recordIn ts) ps n
 
   abbrev Answered : List ℕ → Type 0
-  Answered ps = Planned (tags .now) (starts .now) (recordAt (q .now) (places .now)) ps n
+  Answered ps = Planned (tags .now) (starts .now) (recordAt (q .now) (offsets .now)) ps n
 
   -- and how each follows from those before it: the `requires` of `tabulate`, of `plan_records`, and the `ensures` of `fill_plan` (`Recorded.antt`)
-  can-tabulate : Asked → Located (q .now) (places .now) n × (n ≤ length blank)
+  can-tabulate : Asked → Located (q .now) (offsets .now) n × (n ≤ length blank)
   can-tabulate f = (f .0, subst (λ (m : ℕ). n ≤ m) (sym blank-size) (f .0 .few))
 
-  can-plan : (ts : List Predicate) → Asked → Tabulated ts → length ts ≡ predicateLimit
+  can-plan : (ts : List PredicateRecord) → Asked → Tabulated ts → length ts ≡ predicateLimit
       → (n ≤ predicateLimit) × (n ≤ length ts) × (length (plan .now) ≡ planSize) × HaveColumns (tags .now) (starts .now) (recordIn ts) n
-  can-plan ts f t e = (f .0 .few, subst (λ (m : ℕ). n ≤ m) (sym e) (f .0 .few), f .1, have-columns (q .now) (places .now) ts blank n t (tags .now) (starts .now) (f .2))
+  can-plan ts f t e = (f .0 .few, subst (λ (m : ℕ). n ≤ m) (sym e) (f .0 .few), f .1, have-columns (q .now) (offsets .now) ts blank n t (tags .now) (starts .now) (f .2))
 
-  answers : (ts : List Predicate) (ps : List ℕ) → Tabulated ts → Filled ts ps → Answered ps
-  answers ts ps t = planned (q .now) (places .now) ts blank n t (tags .now) (starts .now) ps
+  answers : (ts : List PredicateRecord) (ps : List ℕ) → Tabulated ts → Filled ts ps → Answered ps
+  answers ts ps t = planned (q .now) (offsets .now) ts blank n t (tags .now) (starts .now) ps
 
   -- ---- the lifetimes, their shares, the arguments and their machine values
   abbrev κs : Lfts 5
@@ -143,13 +143,13 @@ module _ {M : Type 1} (𝓤 : URA M) (H : Heap 𝓤) (A : Atoms 𝓤) (W : Given
   Arg = RefT (List ℕ) × (RefT (List ℕ) × (RefT (List ℕ) × (RefT (List ℕ) × (ℕ × (RefT (List ℕ) × Unit {0})))))
 
   abbrev a : Arg
-  a = (tags, (starts, (q, (places, (n, (plan, tt))))))
+  a = (tags, (starts, (q, (offsets, (n, (plan, tt))))))
 
   abbrev vals : List Val × (List Val × (List Val × (List Val × (List Val × (List Val × Unit {0})))))
-  vals = (val tags ∷ [], (val starts ∷ [], (val q ∷ [], (val places ∷ [], (vint w64 n ∷ [], (val plan ∷ [], tt))))))
+  vals = (val tags ∷ [], (val starts ∷ [], (val q ∷ [], (val offsets ∷ [], (vint w64 n ∷ [], (val plan ∷ [], tt))))))
 
   abbrev args : List Val
-  args = val tags ∷ val starts ∷ val q ∷ val places ∷ vint w64 n ∷ val plan ∷ []
+  args = val tags ∷ val starts ∷ val q ∷ val offsets ∷ vint w64 n ∷ val plan ∷ []
 
   abbrev param-types : List RattleType
   param-types = ShrSlice (named 0) κ₀ u8 ∷ ShrSlice (named 1) κ₁ usize ∷ ShrSlice (named 2) κ₂ u8 ∷ ShrSlice (named 3) κ₃ usize ∷ usize ∷ MutSlice (named 4) κ₄ usize ∷ []
@@ -162,7 +162,7 @@ module _ {M : Type 1} (𝓤 : URA M) (H : Heap 𝓤) (A : Atoms 𝓤) (W : Given
 
   -- what goes to `tabulate`, and what goes to `plan_records`
   abbrev for-table : Item 𝓤
-  for-table = ‵ (flft κ₂ q₂) ⊛ ‵ (flft κ₃ q₃) ⊛ ‵ (ShrSlice (named 0) κ₂ u8 .own q (val q ∷ [])) ⊛ ‵ (ShrSlice (named 1) κ₃ usize .own places (val places ∷ []))
+  for-table = ‵ (flft κ₂ q₂) ⊛ ‵ (flft κ₃ q₃) ⊛ ‵ (ShrSlice (named 0) κ₂ u8 .own q (val q ∷ [])) ⊛ ‵ (ShrSlice (named 1) κ₃ usize .own offsets (val offsets ∷ []))
 
   abbrev for-plan : Item 𝓤
   for-plan = ‵ (flft κ₀ q₀) ⊛ ‵ (flft κ₁ q₁) ⊛ ‵ (flft κ₄ q₄) ⊛ ‵ (ShrSlice (named 0) κ₀ u8 .own tags (val tags ∷ [])) ⊛ ‵ (ShrSlice (named 1) κ₁ usize .own starts (val starts ∷ [])) ⊛ ‵ (MutSlice (named 3) κ₄ usize .own plan (val plan ∷ []))
@@ -172,54 +172,54 @@ module _ {M : Type 1} (𝓤 : URA M) (H : Heap 𝓤) (A : Atoms 𝓤) (W : Given
       qed W (tokens ∷ ‵ (owns param-types a vals) ∷ []) ∵ split ! $ move ! (1 ∷ []) $ split ! $ move ! (1 ∷ []) $ split ! $ move ! (1 ∷ []) $ split ! $ move ! (1 ∷ []) $ split ! $
       -- [κ₄'s token; true; κ₃'s; κ₂'s; κ₁'s; κ₀'s; what the parameters own]
       move ! (6 ∷ []) $ fsplit ! $ move ! (1 ∷ []) $ fsplit ! $ move ! (1 ∷ []) $ fsplit ! $ move ! (1 ∷ []) $ fsplit ! $ move ! (1 ∷ []) $ fsplit ! $ move ! (1 ∷ []) $ fsplit ! $
-      -- [plan; true; n; places; q; starts; tags; κ₄'s token; true; κ₃'s; κ₂'s; κ₁'s; κ₀'s]
+      -- [plan; true; n; offsets; q; starts; tags; κ₄'s token; true; κ₃'s; κ₂'s; κ₁'s; κ₀'s]
       keep ! (10 ∷ 9 ∷ 4 ∷ 3 ∷ 12 ∷ 11 ∷ 7 ∷ 6 ∷ 5 ∷ 0 ∷ []) $ group ! 4 $ done !
 
   -- ---- the call of `tabulate`: what its triple binds outside, that the caller has what it asks, and what the caller has of what it leaves
   abbrev table-lfts : ℕ → Lfts 3
   table-lfts α = (κ₂, (κ₃, (α ∷ [], tt)))
 
-  abbrev table-args : GName → ℕ → RefT (List ℕ) × (RefT (List ℕ) × (ℕ × (RefT (List Predicate) × Unit {0})))
-  table-args γ l = (q, (places, (n, (slot γ l blank, tt))))
+  abbrev table-args : GName → ℕ → RefT (List ℕ) × (RefT (List ℕ) × (ℕ × (RefT (List PredicateRecord) × Unit {0})))
+  table-args γ l = (q, (offsets, (n, (slot γ l blank, tt))))
 
   abbrev to-tabulate : ℕ → GName → ℕ → Tabulate 𝓤 H A mem′ run .Ghost
-  to-tabulate α γ l = ((table-lfts α, (q₂, (q₃, (fullShare, tt))), tt, table-args γ l, (val q ∷ [], (val places ∷ [], (vint w64 n ∷ [], (val (slot γ l blank) ∷ [], tt))))), tt)
+  to-tabulate α γ l = ((table-lfts α, (q₂, (q₃, (fullShare, tt))), tt, table-args γ l, (val q ∷ [], (val offsets ∷ [], (vint w64 n ∷ [], (val (slot γ l blank) ∷ [], tt))))), tt)
 
   asks-tabulate : n < 2 ^ 64 → Asked → (α : ℕ) (γ : GName) (l : ℕ)
       → ent 𝓤 (sep 𝓤 (A .lft (α ∷ []) fullShare) (sep 𝓤 (sem 𝓤 H A (MutSlice (named 2) (α ∷ []) R .own (slot γ l blank) (val (slot γ l blank) ∷ []))) (mean 𝓤 H A for-table))) (Tabulate 𝓤 H A mem′ run .pre (to-tabulate α γ l))
   asks-tabulate gn f α γ l =
       qed W (‵ (flft (α ∷ []) fullShare) ∷ ‵ (MutSlice (named 2) (α ∷ []) R .own (slot γ l blank) (val (slot γ l blank) ∷ [])) ∷ for-table ∷ []) ∵ says ! (can-tabulate f) $
       move ! (2 ∷ []) $ split ! $ move ! (1 ∷ []) $ split ! $ move ! (1 ∷ []) $ split ! $ nothing ! $
-      -- [true; q; places; κ₃'s token; κ₂'s; α's; the table]
+      -- [true; q; offsets; κ₃'s token; κ₂'s; α's; the table]
       move ! (4 ∷ 3 ∷ 5 ∷ 0 ∷ []) $ group ! 4 $ frame ! $
       nothing ! $ owned ! usize (Is usize) (uint-makes 𝓤 H A W w64) n _ (refl, gn) $ move ! (2 ∷ 3 ∷ 0 ∷ 4 ∷ 1 ∷ []) $ done !
 
-  abbrev of-tabulate : ℕ → GName → Val → List Predicate → Item 𝓤
+  abbrev of-tabulate : ℕ → GName → Val → List PredicateRecord → Item 𝓤
   of-tabulate α γ w ts = given (Tabulated ts × (Holds (hasTy tyUnit w) × WT w)) (‵ (flft (α ∷ []) fullShare) ⊛ ‵ (finally R γ ts) ⊛ ‵ (flft κ₂ q₂) ⊛ ‵ (flft κ₃ q₃))
 
   leaves-tabulate : (α : ℕ) (γ : GName) (l : ℕ) (w : Val) → ent 𝓤 (Tabulate 𝓤 H A mem′ run .post (to-tabulate α γ l) w) (mean 𝓤 H A (later (some (of-tabulate α γ w))))
   leaves-tabulate α γ l w =
       qed W (raw (Tabulate 𝓤 H A mem′ run .post (to-tabulate α γ l) w) ∷ []) ∵ updating ! $
       use1 W (later (some (λ (r : Unit {0}). ((‵ (flft κ₂ q₂) ⊛ ‵ (flft κ₃ q₃) ⊛ ‵ (flft (α ∷ []) fullShare) ⊛ ‵ ftrue) ⊛ ‵ (Nothing .own r (w ∷ []))) ⊛ raw (ensured 𝓤 H A tabulate.ended (tabulate.clauses 𝓤 H A mem′ run) (table-lfts α) (table-args γ l) tt r)))) (id⊢ 𝓤 _) $ await ! tt $ pick ! (λ r. split ! $ move ! (1 ∷ []) $
-      use1 W (some (λ (zs : Unit {0} × (Unit {0} × (Unit {0} × (List Predicate × Unit {0})))). ‵ (lasts tabulate.ended (table-lfts α) (table-args γ l) zs) ⊛ raw (fact 𝓤 (Tabulated (zs .1 .1 .1 .0))))) (id⊢ 𝓤 _) $ pick ! (λ zs.
+      use1 W (some (λ (zs : Unit {0} × (Unit {0} × (Unit {0} × (List PredicateRecord × Unit {0})))). ‵ (lasts tabulate.ended (table-lfts α) (table-args γ l) zs) ⊛ raw (fact 𝓤 (Tabulated (zs .1 .1 .1 .0))))) (id⊢ 𝓤 _) $ pick ! (λ zs.
       split ! $ move ! (1 ∷ []) $ heard ! (Tabulated (zs .1 .1 .1 .0)) (λ f.
-      -- [what is said of q, of places, of n and of the table; the tokens and the result]
+      -- [what is said of q, of offsets, of n and of the table; the tokens and the result]
       fsplit ! $ drop ! $ fsplit ! $ drop ! $ fsplit ! $ drop ! $ fsplit ! $ fsplit ! $ move ! (3 ∷ []) $ split ! $ move ! (1 ∷ []) $ facts ! Nothing (Is Nothing) (shows 𝓤 H A Nothing) r (w ∷ []) (λ is.
       split ! $ move ! (1 ∷ []) $ split ! $ move ! (1 ∷ []) $ split ! $
       -- [α's token; true; κ₃'s; κ₂'s; the table's last list; its length; true]
-      at-once ! $ show ! (λ (ts : List Predicate). mean 𝓤 H A (of-tabulate α γ w ts)) (zs .1 .1 .1 .0) $ check ! (f, nothing-lawful 𝓤 H A W .typed r _ is .0) $ keep ! (0 ∷ 4 ∷ 3 ∷ 2 ∷ []) $ done !))))
+      at-once ! $ show ! (λ (ts : List PredicateRecord). mean 𝓤 H A (of-tabulate α γ w ts)) (zs .1 .1 .1 .0) $ check ! (f, nothing-lawful 𝓤 H A W .typed r _ is .0) $ keep ! (0 ∷ 4 ∷ 3 ∷ 2 ∷ []) $ done !))))
 
   -- ---- the call of `plan_records`, likewise, at the table ts
   abbrev plan-lfts : ℕ → Lfts 4
   plan-lfts β = (κ₀, (κ₁, (β ∷ [], (κ₄, tt))))
 
-  abbrev plan-args : List Predicate → GName → ℕ → RefT (List ℕ) × (RefT (List ℕ) × (RefT (List Predicate) × (ℕ × (RefT (List ℕ) × Unit {0}))))
+  abbrev plan-args : List PredicateRecord → GName → ℕ → RefT (List ℕ) × (RefT (List ℕ) × (RefT (List PredicateRecord) × (ℕ × (RefT (List ℕ) × Unit {0}))))
   plan-args ts γ l = (tags, (starts, (slot γ l ts, (n, (plan, tt)))))
 
-  abbrev to-plan : List Predicate → ℕ → GName → ℕ → Plans 𝓤 H A mem′ run .Ghost
+  abbrev to-plan : List PredicateRecord → ℕ → GName → ℕ → Plans 𝓤 H A mem′ run .Ghost
   to-plan ts β γ l = ((plan-lfts β, (q₀, (q₁, (fullShare, (q₄, tt)))), tt, plan-args ts γ l, (val tags ∷ [], (val starts ∷ [], (val (slot γ l ts) ∷ [], (vint w64 n ∷ [], (val plan ∷ [], tt)))))), tt)
 
-  asks-plan : n < 2 ^ 64 → Asked → (ts : List Predicate) → Tabulated ts → length ts ≡ predicateLimit → (β : ℕ) (γ : GName) (l : ℕ)
+  asks-plan : n < 2 ^ 64 → Asked → (ts : List PredicateRecord) → Tabulated ts → length ts ≡ predicateLimit → (β : ℕ) (γ : GName) (l : ℕ)
       → ent 𝓤 (sep 𝓤 (A .lft (β ∷ []) fullShare) (sep 𝓤 (sem 𝓤 H A (ShrSlice (named 2) (β ∷ []) R .own (slot γ l ts) (val (slot γ l ts) ∷ []))) (mean 𝓤 H A for-plan))) (Plans 𝓤 H A mem′ run .pre (to-plan ts β γ l))
   asks-plan gn f ts t e β γ l =
       qed W (‵ (flft (β ∷ []) fullShare) ∷ ‵ (ShrSlice (named 2) (β ∷ []) R .own (slot γ l ts) (val (slot γ l ts) ∷ [])) ∷ for-plan ∷ []) ∵ says ! (can-plan ts f t e) $
@@ -229,10 +229,10 @@ module _ {M : Type 1} (𝓤 : URA M) (H : Heap 𝓤) (A : Atoms 𝓤) (W : Given
       -- [starts; plan; tags; the table]
       nothing ! $ owned ! usize (Is usize) (uint-makes 𝓤 H A W w64) n _ (refl, gn) $ move ! (4 ∷ 2 ∷ 5 ∷ 0 ∷ 3 ∷ 1 ∷ []) $ done !
 
-  abbrev of-plan : List Predicate → ℕ → Val → List ℕ → Item 𝓤
+  abbrev of-plan : List PredicateRecord → ℕ → Val → List ℕ → Item 𝓤
   of-plan ts β w ps = given (Filled ts ps × (length ps ≡ length (plan .now)) × (Holds (hasTy tyUnit w) × WT w)) (‵ (flft (β ∷ []) fullShare) ⊛ ‵ (finally usize (plan .name) ps) ⊛ ‵ (flft κ₀ q₀) ⊛ ‵ (flft κ₁ q₁) ⊛ ‵ (flft κ₄ q₄))
 
-  leaves-plan : (ts : List Predicate) (β : ℕ) (γ : GName) (l : ℕ) (w : Val) → ent 𝓤 (Plans 𝓤 H A mem′ run .post (to-plan ts β γ l) w) (mean 𝓤 H A (later (some (of-plan ts β w))))
+  leaves-plan : (ts : List PredicateRecord) (β : ℕ) (γ : GName) (l : ℕ) (w : Val) → ent 𝓤 (Plans 𝓤 H A mem′ run .post (to-plan ts β γ l) w) (mean 𝓤 H A (later (some (of-plan ts β w))))
   leaves-plan ts β γ l w =
       qed W (raw (Plans 𝓤 H A mem′ run .post (to-plan ts β γ l) w) ∷ []) ∵ updating ! $
       use1 W (later (some (λ (r : Unit {0}). ((‵ (flft κ₀ q₀) ⊛ ‵ (flft κ₁ q₁) ⊛ ‵ (flft (β ∷ []) fullShare) ⊛ ‵ (flft κ₄ q₄) ⊛ ‵ ftrue) ⊛ ‵ (Nothing .own r (w ∷ []))) ⊛ raw (ensured 𝓤 H A plan-records.ended (plan-records.clauses 𝓤 H A mem′ run) (plan-lfts β) (plan-args ts γ l) tt r)))) (id⊢ 𝓤 _) $ await ! tt $ pick ! (λ r. split ! $ move ! (1 ∷ []) $
@@ -256,8 +256,8 @@ module _ {M : Type 1} (𝓤 : URA M) (H : Heap 𝓤) (A : Atoms 𝓤) (W : Given
       nothing ! $ nothing ! $ nothing ! $ nothing ! $ nothing ! $ nothing ! $ move ! (0 ∷ 1 ∷ 2 ∷ 3 ∷ 4 ∷ 6 ∷ 5 ∷ []) $ group ! 7 $ frame ! $
       feqI ! (List Val) (vunit ∷ []) (vunit ∷ []) refl $ done !
 
-  module _ (C : Calls 𝓤 H) (Λ : Loops 𝓤 H) (fm : FmC 𝓤 H (W .laws) C) (tabulates : Triple 𝓤 (C #query·table·tabulate) (Tabulate 𝓤 H A mem′ run)) (plans : Triple 𝓤 (C #plan·table·plan-records) (Plans 𝓤 H A mem′ run)) where
-    walk : Room u8 (length (tags .now)) → Room usize (length (starts .now)) → Room u8 (length (q .now)) → Room usize (length (places .now)) → n < 2 ^ 64 → Room usize (length (plan .now)) → Asked
+  module _ (C : Calls 𝓤 H) (Λ : Loops 𝓤 H) (fm : FmC 𝓤 H (W .laws) C) (tabulates : Triple 𝓤 (C #records·tabulate) (Tabulate 𝓤 H A mem′ run)) (plans : Triple 𝓤 (C #plan·table·plan-records) (Plans 𝓤 H A mem′ run)) where
+    walk : Room u8 (length (tags .now)) → Room usize (length (starts .now)) → Room u8 (length (q .now)) → Room usize (length (offsets .now)) → n < 2 ^ 64 → Room usize (length (plan .now)) → Asked
         → ent 𝓤 (onEntry 𝓤 H A fill-plan.signature κs qs a vals) (WpFn 𝓤 H C Λ code.function args Post)
     walk r₁ r₂ r₃ r₄ gn r₆ f =
         let wt = LL.lawful T.the-type T′.the-laws 𝓤 H A W .typed noRecord _ none-is .0 in
@@ -319,7 +319,7 @@ module _ {M : Type 1} (𝓤 : URA M) (H : Heap 𝓤) (A : Atoms 𝓤) (W : Given
         keep ! (1 ∷ 2 ∷ []) $ by ! (exits ps (answers ts ps (t .0) (g .0)) (g .1)))))))))))))))))))))))))))))
 
 module _ {M : Type 1} (𝓤 : URA M) (H : Heap 𝓤) (A : Atoms 𝓤) (W : Given 𝓤 H A) (mem′ : Memory → SProp 𝓤) (run : Routine → Fun 𝓤) where
-  fill-plan-walks : (C : Calls 𝓤 H) (Λ : Loops 𝓤 H) → FmC 𝓤 H (W .laws) C → Triple 𝓤 (C #query·table·tabulate) (Tabulate 𝓤 H A mem′ run) → Triple 𝓤 (C #plan·table·plan-records) (Plans 𝓤 H A mem′ run)
+  fill-plan-walks : (C : Calls 𝓤 H) (Λ : Loops 𝓤 H) → FmC 𝓤 H (W .laws) C → Triple 𝓤 (C #records·tabulate) (Tabulate 𝓤 H A mem′ run) → Triple 𝓤 (C #plan·table·plan-records) (Plans 𝓤 H A mem′ run)
       → Walks 𝓤 H A fill-plan.ended stayed (WpFn 𝓤 H C Λ code.function) (fill-plan.clauses 𝓤 H A mem′ run)
   fill-plan-walks C Λ fm tabulates plans = walked 𝓤 H A fill-plan.ended stayed (fill-plan.clauses 𝓤 H A mem′ run) (WpFn 𝓤 H C Λ code.function)
       (λ κs. (slice-vals, (slice-vals, (slice-vals, (slice-vals, (uint-vals w64, (slice-vals, tt)))))))
@@ -329,7 +329,7 @@ module _ {M : Type 1} (𝓤 : URA M) (H : Heap 𝓤) (A : Atoms 𝓤) (W : Given
       C Λ fm tabulates plans (are .0 .0 .1) (are .1 .0 .0 .1) (are .1 .1 .0 .0 .1) (are .1 .1 .1 .0 .0 .1) (are .1 .1 .1 .1 .0 .1) (are .1 .1 .1 .1 .1 .0 .0 .1)))
 
 fill-plan-meets : {M : Type 1} (𝓤 : URA M) (H : Heap 𝓤) (A : Atoms 𝓤) → Given 𝓤 H A → (mem′ : Memory → SProp 𝓤) (run : Routine → Fun 𝓤) (𝓣 : Tables 𝓤 H)
-    → Triple 𝓤 (𝓣 .C #query·table·tabulate) (Tabulate 𝓤 H A mem′ run) → Triple 𝓤 (𝓣 .C #plan·table·plan-records) (Plans 𝓤 H A mem′ run)
+    → Triple 𝓤 (𝓣 .C #records·tabulate) (Tabulate 𝓤 H A mem′ run) → Triple 𝓤 (𝓣 .C #plan·table·plan-records) (Plans 𝓤 H A mem′ run)
     → Meets 𝓤 H A fill-plan.signature (WpFn 𝓤 H (𝓣 .C) (𝓣 .Λ) code.function) (fill-plan.spec 𝓤 H A mem′ run)
 fill-plan-meets 𝓤 H A W mem′ run 𝓣 tabulates plans =
     walk-meets 𝓤 H A fill-plan.ended stayed W
@@ -342,5 +342,5 @@ fill-plan-spec 𝓤 H 𝓜 𝓖 𝓡 =
     entered 𝓤 H (tripleOf 𝓤 H (𝓖 .A) fill-plan.signature (fill-plan.spec 𝓤 H (𝓖 .A) (𝓜 .mem) (𝓡 .run)))
     (tables 𝓤 H 𝓜 𝓡 code.env .C) (tables 𝓤 H 𝓜 𝓡 code.env .Λ) #plan·table·fill-plan code.function (code.unfolded 𝓤 H 𝓜 𝓡)
     (fill-plan-meets 𝓤 H (𝓖 .A) (givenOf 𝓤 H 𝓜 𝓖) (𝓜 .mem) (𝓡 .run) (tablesOf 𝓤 H 𝓜 (tables 𝓤 H 𝓜 𝓡 code.env))
-    (cited 𝓤 H (Tabulate 𝓤 H (𝓖 .A) (𝓜 .mem) (𝓡 .run)) 𝓜 𝓡 code.env #query·table·tabulate tabulate-def.routine code.calls-query·table·tabulate (tabulate-thm.met 𝓤 H 𝓜 𝓖 𝓡))
+    (cited 𝓤 H (Tabulate 𝓤 H (𝓖 .A) (𝓜 .mem) (𝓡 .run)) 𝓜 𝓡 code.env #records·tabulate tabulate-def.routine code.calls-records·tabulate (tabulate-thm.met 𝓤 H 𝓜 𝓖 𝓡))
     (cited 𝓤 H (Plans 𝓤 H (𝓖 .A) (𝓜 .mem) (𝓡 .run)) 𝓜 𝓡 code.env #plan·table·plan-records plan-records-def.routine code.calls-plan·table·plan-records (plan-records-thm.met 𝓤 H 𝓜 𝓖 𝓡)))

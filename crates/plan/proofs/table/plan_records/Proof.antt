@@ -47,11 +47,11 @@ use denote.Triple.Clauses.{ensured, lasts}
 use denote.Triple.Table.{entered, cited}
 use denote.Triple.Walked.{says, needs, Stays, stay-none-slice, stay-none, stay-slice, walkOf, goes-none-slice, goes-none, goes-slice, Walks, ends-at, walked, walk-meets}
 use denote.Exit.{yes}
-use Rattle.query.specs.declared.table.Predicate.{Predicate}
+use Rattle.records.specs.declared.PredicateRecord.{PredicateRecord}
 use Rattle.query.specs.Format.{predicateLimit}
-use Rattle.query.specs.Table.{noRecord, recordIn}
-use Rattle.query.proofs.table.Predicate as T
-use Rattle.query.proofs.table.Predicate.Laws as T′
+use Rattle.records.specs.Table.{noRecord, recordIn}
+use Rattle.records.proofs.PredicateRecord as T
+use Rattle.records.proofs.PredicateRecord.Laws as T′
 use Rattle.plan.specs.Plan.{planSize, accessOf, HasColumn, HaveColumns, PutAccess, Planned}
 use Rattle.plan.proofs.Again.{LentAgain, lends-again, comes-back}
 use Rattle.plan.proofs.Plans.{Stage, Nearer, nearer, nearer-wf, begun, put-on, planned-end}
@@ -107,8 +107,8 @@ abbrev againTy : Ty
 againTy = tyRef erased mut word
 
 module _ {M : Type 1} (𝓤 : URA M) (H : Heap 𝓤) (A : Atoms 𝓤) (W : Given 𝓤 H A) (mem : Memory → SProp 𝓤) (run : Routine → Fun 𝓤) (κ₀ κ₁ κ₂ κ₃ : Lft) (q₀ q₁ q₂ q₃ : Share) (tags starts : RefT (List ℕ))
-    (b o : ℕ) (γ : GName) (rs : List Predicate) (n : ℕ) (b′ o′ : ℕ) (γ′ : GName) (ps : List ℕ) where
-  abbrev table : RefT (List Predicate)
+    (b o : ℕ) (γ : GName) (rs : List PredicateRecord) (n : ℕ) (b′ o′ : ℕ) (γ′ : GName) (ps : List ℕ) where
+  abbrev table : RefT (List PredicateRecord)
   table = record { ptr = (b, o); name = γ; now = rs }
 
   -- the plan under the name δ at the list l
@@ -123,7 +123,7 @@ module _ {M : Type 1} (𝓤 : URA M) (H : Heap 𝓤) (A : Atoms 𝓤) (W : Given
   plan-val m = sliceVal (b′, o′) m
 
   abbrev Arg : Type 0
-  Arg = RefT (List ℕ) × (RefT (List ℕ) × (RefT (List Predicate) × (ℕ × (RefT (List ℕ) × Unit {0}))))
+  Arg = RefT (List ℕ) × (RefT (List ℕ) × (RefT (List PredicateRecord) × (ℕ × (RefT (List ℕ) × Unit {0}))))
 
   abbrev a : Arg
   a = (tags, (starts, (table, (n, (plan γ′ ps, tt)))))
@@ -167,7 +167,7 @@ module _ {M : Type 1} (𝓤 : URA M) (H : Heap 𝓤) (A : Atoms 𝓤) (W : Given
       feqI ! (List Val) (vunit ∷ []) (vunit ∷ []) refl $ move ! (1 ∷ 0 ∷ []) $ done !
 
   -- the record of predicate c, and its machine value
-  abbrev elem : ℕ → Predicate
+  abbrev elem : ℕ → PredicateRecord
   elem c = recordIn rs c
 
   abbrev mach : ℕ → Val
@@ -184,7 +184,7 @@ module _ {M : Type 1} (𝓤 : URA M) (H : Heap 𝓤) (A : Atoms 𝓤) (W : Given
   abbrev call-shares : Shares 3
   call-shares = (q₀, (q₁, (fullShare, tt)))
 
-  abbrev call-args : ℕ → GName → List ℕ → RefT (List ℕ) × (RefT (List ℕ) × (Predicate × (ℕ × (RefT (List ℕ) × Unit {0}))))
+  abbrev call-args : ℕ → GName → List ℕ → RefT (List ℕ) × (RefT (List ℕ) × (PredicateRecord × (ℕ × (RefT (List ℕ) × Unit {0}))))
   call-args c δ l = (tags, (starts, (elem c, (c, (plan δ l, tt)))))
 
   abbrev call-vals : ℕ → List ℕ → List Val × (List Val × (List Val × (List Val × (List Val × Unit {0}))))
