@@ -1,50 +1,49 @@
 -- The loop over the columns: the layout shows those read so far, and whatever the rest gives, the whole gives.
 use Prim.Native.Nat.{ℕ, zero, suc, _+_, _-_, _≤_, _<_}
-use mathlib.Core.Bool.{cond}
 use native.Mathlib.Omega.{arith}
-use mathlib.Core.Path.{_≡_, refl, ap, _∙_}
+use mathlib.Core.Path.{_≡_, refl, sym, ap, _∙_}
 use mathlib.Core.List.{List, [], _∷_, _++_, append-assoc, append-nil}
 use lib.ListN.{length, getD, set, length-append, length-set}
 use lib.Seq.{getD-set-same, getD-set-other}
-use lib.Dec.{eqb}
 use borrow.Author.Tests.{eq-eqb, ne-eqb}
-use Rattle.fields.specs.Decoded.{Decoded, refused, accepted}
+use Rattle.fields.specs.Decoded.{Decoded, refused, accepted, mapped, andThen}
 use Rattle.fields.specs.Header.{headerAt}
 use Rattle.catalogue.specs.declared.column.ColumnField.{ColumnField}
 use Rattle.catalogue.specs.declared.column.ColumnField.the-variants.{Refused, Numbers, Texts}
 use Rattle.catalogue.specs.declared.first.First.{First}
 use Rattle.catalogue.specs.declared.first.First.the-variants as first
+use Rattle.catalogue.specs.declared.layout.ColumnsLayout.{ColumnsLayout}
 use Rattle.catalogue.specs.declared.layout.Layout.{Layout}
 use Rattle.catalogue.specs.Format.{numberTag, textTag, rowLimit, columnLimit, bytesAfterColumns}
 use Rattle.catalogue.specs.Catalogue.{Column, numbers, texts, Catalogue}
 use Rattle.catalogue.specs.Slots.{textsAt}
-use Rattle.catalogue.specs.Decode.{numbersAt, putBefore, columnThen, columnOf, columnsAt, withRows, firstOf, decodeCatalogue}
+use Rattle.catalogue.specs.Decode.{numbersAt, Columns, columnBefore, columnThen, columnOf, columnsAt, catalogueOf, firstFieldOf, decodeCatalogue}
 use Rattle.catalogue.specs.Sound.{IsRefusal, SoundColumn}
-use Rattle.catalogue.specs.Layout.{Shows, ShowsAll, Laid, LaidOut}
+use Rattle.catalogue.specs.Layout.{Shows, ShowsAll, ColumnsLaid, ColumnsLaidOut, Laid, LaidOut}
 
 -- what the field at a place is
 abbrev fieldAt : List ℕ → (rows at : ℕ) → ColumnField
 fieldAt b rows at = columnOf b rows (headerAt b at (length b))
 
 -- columns before what the rest gives
-abbrev putAllBefore : List Column → Decoded (List Column) → Decoded (List Column)
-putAllBefore cs (refused e) = refused e
-putAllBefore cs (accepted ds) = accepted (cs ++ ds)
+abbrev allBefore : List Column → Decoded Columns → Decoded Columns
+allBefore cs (refused e) = refused e
+allBefore cs (accepted d) = accepted (record { columns = cs ++ d .columns; end = d .end })
 
-put-one-more : (cs : List Column) (c : Column) (d : Decoded (List Column)) → putAllBefore cs (putBefore c d) ≡ putAllBefore (cs ++ (c ∷ [])) d
-put-one-more cs c (refused e) = refl
-put-one-more cs c (accepted ds) = rw (append-assoc cs (c ∷ []) ds)
+before-one-more : (cs : List Column) (c : Column) (d : Decoded Columns) → allBefore cs (mapped (columnBefore c) d) ≡ allBefore (cs ++ (c ∷ [])) d
+before-one-more cs c (refused e) = refl
+before-one-more cs c (accepted d) = rw (append-assoc cs (c ∷ []) (d .columns))
 
-put-none : (d : Decoded (List Column)) → d ≡ putAllBefore [] d
-put-none (refused e) = refl
-put-none (accepted ds) = refl
+before-none : (d : Decoded Columns) → d ≡ allBefore [] d
+before-none (refused e) = refl
+before-none (accepted d) = refl
 
 columns-step : (b : List ℕ) (rows n at : ℕ) → 0 < n → columnsAt b rows n at ≡ columnThen b rows (fieldAt b rows at) (λ next. columnsAt b rows (n - 1) next)
 unfolding columnsAt
 columns-step b rows zero at h = absurd (omega arith)
 columns-step b rows (suc n) at h = let z : suc n - 1 ≡ n = omega arith in rw z
 
-columns-none : (b : List ℕ) (rows n at : ℕ) → n ≡ 0 → columnsAt b rows n at ≡ cond (eqb at (length b)) (accepted []) (refused bytesAfterColumns)
+columns-none : (b : List ℕ) (rows n at : ℕ) → n ≡ 0 → columnsAt b rows n at ≡ accepted (record { columns = []; end = at })
 unfolding columnsAt
 columns-none b rows n at e = rw e
 
@@ -71,7 +70,6 @@ module _ (b : List ℕ) (rows : ℕ) where
 -- where the loop stands: i columns are read from `from` on, the next begins at `at`
 pub record Reading (b : List ℕ) (rows columns from : ℕ) (tags starts : List ℕ) (at i : ℕ) : Type 0 where
   pub few : columns ≤ columnLimit
-  pub short : rows ≤ rowLimit
   pub count : i ≤ columns
   pub inside : at ≤ length b
   pub tags-size : length tags ≡ columnLimit
@@ -79,28 +77,27 @@ pub record Reading (b : List ℕ) (rows columns from : ℕ) (tags starts : List 
   pub done : List Column
   pub done-count : length done ≡ i
   pub shown : ShowsAll b rows tags starts 0 done
-  pub whole : columnsAt b rows columns from ≡ putAllBefore done (columnsAt b rows (columns - i) at)
+  pub whole : columnsAt b rows columns from ≡ allBefore done (columnsAt b rows (columns - i) at)
 
-pub reading-none : (b : List ℕ) (rows columns from : ℕ) (tags starts : List ℕ) → length tags ≡ columnLimit → length starts ≡ columnLimit → from ≤ length b → columns ≤ columnLimit → rows ≤ rowLimit
+pub reading-none : (b : List ℕ) (rows columns from : ℕ) (tags starts : List ℕ) → length tags ≡ columnLimit → length starts ≡ columnLimit → from ≤ length b → columns ≤ columnLimit
     → Reading b rows columns from tags starts from 0
-reading-none b rows columns from tags starts t s l c r =
+reading-none b rows columns from tags starts t s l c =
     let z : columns - 0 ≡ columns = omega arith in
-    record { few = c; short = r; count = omega arith; inside = l; tags-size = t; starts-size = s; done = []; done-count = refl; shown = tt; whole = rw z (put-none (columnsAt b rows columns from)) }
+    record { few = c; count = omega arith; inside = l; tags-size = t; starts-size = s; done = []; done-count = refl; shown = tt; whole = rw z (before-none (columnsAt b rows columns from)) }
 
 module _ (b : List ℕ) (rows columns from : ℕ) (tags starts : List ℕ) (at i : ℕ) (g : Reading b rows columns from tags starts at i) where
   -- one column more, of whatever tag
   reading-one : (tag start next : ℕ) (c : Column) → i < columns → next ≤ length b → Shows b rows tag start c
-      → columnThen b rows (fieldAt b rows at) (λ n. columnsAt b rows (columns - i - 1) n) ≡ putBefore c (columnsAt b rows (columns - i - 1) next)
+      → columnThen b rows (fieldAt b rows at) (λ n. columnsAt b rows (columns - i - 1) n) ≡ mapped (columnBefore c) (columnsAt b rows (columns - i - 1) next)
       → Reading b rows columns from (set tags i tag) (set starts i start) next (i + 1)
   reading-one tag start next c l n s e =
       let t : getD (set tags i tag) i 0 ≡ tag = getD-set-same tags i tag 0 (omega (arith, g .few, g .tags-size)) in
       let p : getD (set starts i start) i 0 ≡ start = getD-set-same starts i start 0 (omega (arith, g .few, g .starts-size)) in
       let z : columns - i - 1 ≡ columns - (i + 1) = omega arith in
-      let w : columnsAt b rows columns from ≡ putAllBefore (g .done ++ (c ∷ [])) (columnsAt b rows (columns - (i + 1)) next) =
-      rw (← z) (g .whole ∙ ap (putAllBefore (g .done)) (columns-step b rows (columns - i) at (omega arith) ∙ e) ∙ put-one-more (g .done) c (columnsAt b rows (columns - i - 1) next)) in
+      let w : columnsAt b rows columns from ≡ allBefore (g .done ++ (c ∷ [])) (columnsAt b rows (columns - (i + 1)) next) =
+      rw (← z) (g .whole ∙ ap (allBefore (g .done)) (columns-step b rows (columns - i) at (omega arith) ∙ e) ∙ before-one-more (g .done) c (columnsAt b rows (columns - i - 1) next)) in
       record {
         few = g .few;
-        short = g .short;
         count = omega arith;
         inside = n;
         tags-size = length-set tags i tag ∙ g .tags-size;
@@ -123,38 +120,70 @@ module _ (b : List ℕ) (rows columns from : ℕ) (tags starts : List ℕ) (at i
         let o : SoundColumn b rows (Texts start end) = rw e at s in
         rw (t, p, a) (reading-one textTag start end (texts (textsAt b start rows)) l (o .1) (refl, omega (arith, o), refl, o .2) (rw (← q, e)))
 
-    pub reading-refused : (e : ℕ) (r : Layout) → f ≡ Refused e → r .refusal ≡ e → r .rows ≡ 0 → r .columns ≡ 0 → LaidOut b r (withRows rows (columnsAt b rows columns from))
-    reading-refused e r i' c u v =
+    pub reading-refused : (e : ℕ) (r : ColumnsLayout) → f ≡ Refused e → r .refusal ≡ e → ColumnsLaidOut b rows columns r (columnsAt b rows columns from)
+    reading-refused e r i' c =
         let o : IsRefusal e = rw i' at s in
-        rw (g .whole, columns-step b rows (columns - i) at (omega arith), ← q, i') (c, o .0, o .1, u, v)
+        rw (g .whole, columns-step b rows (columns - i) at (omega arith), ← q, i') (c, o)
 
-  pub reading-left : (r : Layout) → columns ≤ i → (at ≡ length b → ⊥) → r .refusal ≡ bytesAfterColumns → r .rows ≡ 0 → r .columns ≡ 0 → LaidOut b r (withRows rows (columnsAt b rows columns from))
-  reading-left r l ne c u v = rw (g .whole, columns-none b rows (columns - i) at (omega arith), ne-eqb _ _ ne) (c, omega arith, omega arith, u, v)
-
-  pub reading-all : (r : Layout) → columns ≤ i → at ≡ length b → r ≡ record { refusal = 0; rows = rows; columns = columns; tags = tags; starts = starts }
-      → LaidOut b r (withRows rows (columnsAt b rows columns from))
-  reading-all r l e q =
-      rw (g .whole, columns-none b rows (columns - i) at (omega arith), eq-eqb _ _ e, append-nil, q)
+  pub reading-all : (r : ColumnsLayout) → columns ≤ i → r ≡ record { refusal = 0; end = at; tags = tags; starts = starts } → ColumnsLaidOut b rows columns r (columnsAt b rows columns from)
+  reading-all r l q =
+      rw (g .whole, columns-none b rows (columns - i) at (omega arith), append-nil, q)
       (record {
         accepts = refl;
-        rows = refl;
-        columns = omega (arith, g .done-count, g .count);
-        short = omega (arith, g .short);
-        few = omega (arith, g .few);
+        end = refl;
+        inside = g .inside;
+        count = omega (arith, g .done-count, g .count);
         shown = g .shown;
         tags-size = g .tags-size;
         starts-size = g .starts-size;
       })
 
+-- what the columns' layout tells of the columns
+module _ (b : List ℕ) (rows n : ℕ) (l : ColumnsLayout) where
+  columns-refused : (d : Decoded Columns) → ColumnsLaidOut b rows n l d → (l .refusal ≡ 0 → ⊥) → (d ≡ refused (l .refusal)) × IsRefusal (l .refusal)
+  columns-refused (refused e) k ne = rw (k .0) (refl, k .1)
+  columns-refused (accepted C) k ne = absurd (ne (k .accepts))
+
+  columns-accepted : (d : Decoded Columns) → ColumnsLaidOut b rows n l d → l .refusal ≡ 0 → (C : Columns) × (d ≡ accepted C) × ColumnsLaid b rows n l C
+  columns-accepted (refused e) k z = absurd (omega arith)
+  columns-accepted (accepted C) k z = (C, refl, k)
+
+module _ (b : List ℕ) (rows columns from : ℕ) (l : ColumnsLayout) (o : ColumnsLaidOut b rows columns l (columnsAt b rows columns from)) where
+  -- a column is refused
+  pub laid-refusal : (r : Layout) → (l .refusal ≡ 0 → ⊥) → r .refusal ≡ l .refusal → r .rows ≡ 0 → r .columns ≡ 0 → LaidOut b r (andThen (columnsAt b rows columns from) (catalogueOf b rows))
+  laid-refusal r ne c u v = let (d, k) = columns-refused b rows columns l (columnsAt b rows columns from) o ne in rw d (c, k .0, k .1, u, v)
+
+  -- the columns are all there: their end decides
+  pub laid-left : (r : Layout) → l .refusal ≡ 0 → (l .end ≡ length b → ⊥) → r .refusal ≡ bytesAfterColumns → r .rows ≡ 0 → r .columns ≡ 0
+      → LaidOut b r (andThen (columnsAt b rows columns from) (catalogueOf b rows))
+  laid-left r z ne c u v =
+      let (C, d, k) = columns-accepted b rows columns l (columnsAt b rows columns from) o z in rw (d, ← (k .end), ne-eqb _ _ ne) (c, omega arith, omega arith, u, v)
+
+  pub laid-all : rows ≤ rowLimit → columns ≤ columnLimit → l .refusal ≡ 0 → l .end ≡ length b
+      → LaidOut b (record { refusal = 0; rows = rows; columns = columns; tags = l .tags; starts = l .starts }) (andThen (columnsAt b rows columns from) (catalogueOf b rows))
+  laid-all short few z e =
+      let (C, d, k) = columns-accepted b rows columns l (columnsAt b rows columns from) o z in
+      rw (d, ← (k .end), eq-eqb _ _ e)
+      (record {
+        accepts = refl;
+        rows = refl;
+        columns = sym (k .count);
+        short = short;
+        few = few;
+        shown = k .shown;
+        tags-size = k .tags-size;
+        starts-size = k .starts-size;
+      })
+
 -- the whole catalogue, from its first field
-pub laid-refused : (b : List ℕ) (f : First) (e : ℕ) (r : Layout) → f ≡ firstOf b (headerAt b 0 (length b)) → f ≡ first.Refused e → IsRefusal e → r .refusal ≡ e → r .rows ≡ 0 → r .columns ≡ 0 → LaidOut b r (decodeCatalogue b)
+pub laid-refused : (b : List ℕ) (f : First) (e : ℕ) (r : Layout) → f ≡ firstFieldOf b (headerAt b 0 (length b)) → f ≡ first.Refused e → IsRefusal e → r .refusal ≡ e → r .rows ≡ 0 → r .columns ≡ 0 → LaidOut b r (decodeCatalogue b)
 unfolding decodeCatalogue
 laid-refused b f e r q i o c u v = rw (← q, i) (c, o .0, o .1, u, v)
 
-pub laid-columns : (b : List ℕ) (f : First) (rows columns next : ℕ) (r : Layout) → f ≡ firstOf b (headerAt b 0 (length b)) → f ≡ first.Counts rows columns next
-    → LaidOut b r (withRows rows (columnsAt b rows columns next)) → LaidOut b r (decodeCatalogue b)
+pub laid-from : (b : List ℕ) (f : First) (rows columns next : ℕ) (r : Layout) → f ≡ firstFieldOf b (headerAt b 0 (length b)) → f ≡ first.Counts rows columns next
+    → LaidOut b r (andThen (columnsAt b rows columns next) (catalogueOf b rows)) → LaidOut b r (decodeCatalogue b)
 unfolding decodeCatalogue
-laid-columns b f rows columns next r q i l = rw (← q, i) l
+laid-from b f rows columns next r q i l = rw (← q, i) l
 
 -- column i of an accepted catalogue, as the layout shows it
 pub column-shown : {b : List ℕ} {l : Layout} {C : Catalogue} (i : ℕ) → Laid b l C → i < l .columns

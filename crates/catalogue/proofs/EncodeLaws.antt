@@ -4,14 +4,14 @@ use Prim.Native.Nat.{ℕ, zero, suc, _+_, _-_, _*_, _≤_}
 use native.Mathlib.Omega.{arith}
 use mathlib.Core.Path.{_≡_, refl, sym, ap, _∙_}
 use mathlib.Core.Bool.{Bool, true, false, _&&_, cond}
-use mathlib.Core.List.{List, [], _∷_, _++_, append-assoc}
+use mathlib.Core.List.{List, [], _∷_, _++_, append-assoc, append-nil}
 use lib.ListN.{length, getD, take, drop, replicate, length-drop, take-append-drop, drop-of-length-le}
 use lib.Seq.{drop-cons, drop-drop, length-take-le}
 use lib.Dec.{leb, eqb}
 use borrow.Author.Tests.{eqb-true, leb-true}
 use Rattle.fields.specs.declared.header.Header.{Header}
 use Rattle.fields.specs.declared.header.Header.the-variants.{Cut, Field}
-use Rattle.fields.specs.Decoded.{Decoded, refused, accepted}
+use Rattle.fields.specs.Decoded.{Decoded, refused, accepted, mapped, andThen}
 use Rattle.fields.specs.Numbers.{numberAt, bytesOf, Bytes}
 use Rattle.fields.specs.Header.{headerAt, fieldOf}
 use Rattle.fields.proofs.Conjunctions.{and-left, and-right}
@@ -25,7 +25,7 @@ use Rattle.catalogue.specs.declared.first.First.the-variants as first
 use Rattle.catalogue.specs.Format.{firstTag, firstSize, numberTag, numberSize, textTag, slotSize, textLimit, rowLimit, columnLimit, notCatalogue, countsOutOfRange, notColumn, badSlot, bytesAfterColumns}
 use Rattle.catalogue.specs.Catalogue.{Column, numbers, texts, Catalogue}
 use Rattle.catalogue.specs.Slots.{textAt, textsAt, zerosAt, validSlot, validSlots}
-use Rattle.catalogue.specs.Decode.{numbersAt, countsAt, firstOf, columnOf, putBefore, columnThen, columnsAt, withRows, firstThen, decodeCatalogue}
+use Rattle.catalogue.specs.Decode.{numbersAt, countsAt, firstFieldOf, columnOf, Columns, columnBefore, columnThen, columnsAt, catalogueOf, firstThen, decodeCatalogue}
 use Rattle.catalogue.specs.Encode.{encodeNumbers, encodeText, encodeTexts, encodeColumn, encodeColumns, encodeCounts, encodeCatalogue}
 use Rattle.catalogue.specs.Formed.{AreNumbers, AreTexts, FormedColumn, FormedColumns, Formed}
 
@@ -39,18 +39,22 @@ module _ (b : List ℕ) (rows at : ℕ) where
   column-at : (h : Header) → HeaderIs b at (length b) h → ColumnIs b rows at (columnOf b rows h)
   unfolding columnOf
   column-at Cut s = tt
-  column-at (Field tag start stop) s = go (eqb tag numberTag) refl (eqb (stop - start) (numberSize * rows)) refl (eqb tag textTag) refl (eqb (stop - start) (slotSize * rows)) refl (validSlots b start rows) refl
+  column-at (Field tag start stop) s =
+      go (eqb tag numberTag) refl (eqb (stop - start) (numberSize * rows)) refl (eqb tag textTag) refl (eqb (stop - start) (slotSize * rows)) refl (validSlots b start rows) refl
     where
+      texts-at : (z : Bool) → eqb tag textTag ≡ z → (w : Bool) → eqb (stop - start) (slotSize * rows) ≡ w → (v : Bool) → validSlots b start rows ≡ v
+          → ColumnIs b rows at (cond (z && w) (cond v (field.Texts start stop) (field.Refused badSlot)) (field.Refused notColumn))
+      texts-at true g true h true k = let t : tag ≡ textTag = eqb-true _ _ g in (rw t at s, eqb-true _ _ h, k)
+      texts-at true g true h false k = tt
+      texts-at true g false h v k = tt
+      texts-at false g w h v k = tt
+
       go : (x : Bool) → eqb tag numberTag ≡ x → (y : Bool) → eqb (stop - start) (numberSize * rows) ≡ y → (z : Bool) → eqb tag textTag ≡ z
           → (w : Bool) → eqb (stop - start) (slotSize * rows) ≡ w → (v : Bool) → validSlots b start rows ≡ v
-          → ColumnIs b rows at
-          (cond x (cond y (field.Numbers start stop) (field.Refused notColumn)) (cond z (cond w (cond v (field.Texts start stop) (field.Refused badSlot)) (field.Refused notColumn)) (field.Refused notColumn)))
+          → ColumnIs b rows at (cond (x && y) (field.Numbers start stop) (cond (z && w) (cond v (field.Texts start stop) (field.Refused badSlot)) (field.Refused notColumn)))
       go true e true f z g w h v k = let t : tag ≡ numberTag = eqb-true _ _ e in (rw t at s, eqb-true _ _ f)
-      go true e false f z g w h v k = tt
-      go false e y f true g true h true k = let t : tag ≡ textTag = eqb-true _ _ g in (rw t at s, eqb-true _ _ h, k)
-      go false e y f true g true h false k = tt
-      go false e y f true g false h v k = tt
-      go false e y f false g w h v k = tt
+      go true e false f z g w h v k = texts-at z g w h v k
+      go false e y f z g w h v k = texts-at z g w h v k
 
   column-is : ColumnIs b rows at (columnOf b rows (headerAt b at (length b)))
   column-is = column-at (headerAt b at (length b)) (header-is b at (length b))
@@ -157,17 +161,18 @@ module _ (b : List ℕ) (bytes : Bytes b) where
 
   -- columns
   module _ (rows : ℕ) where
-    abbrev Written : (n at : ℕ) → Decoded (List Column) → Type 0
+    abbrev Written : (n at : ℕ) → Decoded Columns → Type 0
     Written n at (refused e) = Unit {0}
-    Written n at (accepted cs) = (drop at b ≡ encodeColumns cs) × (length cs ≡ n) × FormedColumns rows cs
+    Written n at (accepted C) = (drop at b ≡ encodeColumns (C .columns) ++ drop (C .end) b) × (length (C .columns) ≡ n) × FormedColumns rows (C .columns)
 
-    put-written : (n at stop : ℕ) (c : Column) (d : Decoded (List Column)) → drop at b ≡ encodeColumn c ++ drop stop b → FormedColumn rows c
-        → Written n stop d → Written (suc n) at (putBefore c d)
+    before-written : (n at stop : ℕ) (c : Column) (d : Decoded Columns) → drop at b ≡ encodeColumn c ++ drop stop b → FormedColumn rows c
+        → Written n stop d → Written (suc n) at (mapped (columnBefore c) d)
     unfolding encodeColumns
-    put-written n at stop c (refused e) h f w = tt
-    put-written n at stop c (accepted cs) h f w = (h ∙ rw (w .0), ap suc (w .1), formed-cons rows c cs f (w .2))
+    before-written n at stop c (refused e) h f w = tt
+    before-written n at stop c (accepted C) h f w =
+        (h ∙ rw (w .0) (sym (append-assoc (encodeColumn c) (encodeColumns (C .columns)) (drop (C .end) b))), ap suc (w .1), formed-cons rows c (C .columns) f (w .2))
 
-    column-written : (n at : ℕ) (f : ColumnField) (rest : ℕ → Decoded (List Column)) → ColumnIs b rows at f → ((next : ℕ) → Written n next (rest next))
+    column-written : (n at : ℕ) (f : ColumnField) (rest : ℕ → Decoded Columns) → ColumnIs b rows at f → ((next : ℕ) → Written n next (rest next))
         → Written (suc n) at (columnThen b rows f rest)
     unfolding encodeColumn
     column-written n at (field.Refused e) rest i r = tt
@@ -175,7 +180,7 @@ module _ (b : List ℕ) (bytes : Bytes b) where
         let w = s .sized in
         let v = s .within in
         let z : start + numberSize * rows ≡ stop = omega arith in
-        put-written n at stop (numbers (numbersAt b start rows)) (rest stop)
+        before-written n at stop (numbers (numbersAt b start rows)) (rest stop)
         (field-written b bytes at (length b) numberTag start stop s (omega arith) (encodeNumbers (numbersAt b start rows)) (rw z at (numbers-written rows start (omega arith))))
         (numbers-count rows start, numbers-small rows start) (r stop)
     column-written n at (field.Texts start stop) rest (s, e, valid) r =
@@ -183,18 +188,13 @@ module _ (b : List ℕ) (bytes : Bytes b) where
         let v = s .within in
         let z : start + slotSize * rows ≡ stop = omega arith in
         let t = texts-written rows start (omega arith) valid in
-        put-written n at stop (texts (textsAt b start rows)) (rest stop)
+        before-written n at stop (texts (textsAt b start rows)) (rest stop)
         (field-written b bytes at (length b) textTag start stop s (omega arith) (encodeTexts (textsAt b start rows)) (rw z at (t .written)))
         (t .count, t .are-texts) (r stop)
 
-    end-written : (at : ℕ) (x : Bool) → eqb at (length b) ≡ x → Written 0 at (cond x (accepted []) (refused bytesAfterColumns))
-    unfolding encodeColumns
-    end-written at true e = let z : at ≡ length b = eqb-true _ _ e in (drop-of-length-le b {i = at} (omega arith), refl, λ i l. absurd (omega arith))
-    end-written at false e = tt
-
     columns-written : (n at : ℕ) → Written n at (columnsAt b rows n at)
-    unfolding columnsAt
-    columns-written zero at = end-written at (eqb at (length b)) refl
+    unfolding columnsAt encodeColumns
+    columns-written zero at = (refl, refl, λ i l. absurd (omega arith))
     columns-written (suc n) at =
         column-written n at (columnOf b rows (headerAt b at (length b))) (λ next. columnsAt b rows n next) (column-is b rows at) (λ next. columns-written n next)
 
@@ -230,8 +230,8 @@ module _ (b : List ℕ) (bytes : Bytes b) where
             leb-true _ _ h,
           )
 
-  first-at : (h : Header) → HeaderIs b 0 (length b) h → Counts (firstOf b h)
-  unfolding firstOf
+  first-at : (h : Header) → HeaderIs b 0 (length b) h → Counts (firstFieldOf b h)
+  unfolding firstFieldOf
   first-at Cut s = tt
   first-at (Field tag start stop) s = go (eqb tag firstTag) refl (eqb (stop - start) firstSize) refl
     where
@@ -245,17 +245,24 @@ module _ (b : List ℕ) (bytes : Bytes b) where
   abbrev Whole : Catalogue → Type 0
   Whole c = Formed c × (b ≡ encodeCatalogue c)
 
-  with-rows : (rows columns next : ℕ) (c : Catalogue) (d : Decoded (List Column)) → Counts (first.Counts rows columns next) → Written rows columns next d → withRows rows d ≡ accepted c → Whole c
+  columns-whole : (rows columns next : ℕ) (c : Catalogue) (d : Decoded Columns) → Counts (first.Counts rows columns next) → Written rows columns next d
+      → andThen d (catalogueOf b rows) ≡ accepted c → Whole c
   unfolding encodeCatalogue
-  with-rows rows columns next c (refused e) k w h = let z : _≡_ {A = ℕ} 0 1 = cc in absurd (omega arith)
-  with-rows rows columns next c (accepted cs) (written, few, some, narrow) (rest, count, each) h =
-      let z : record { rows = rows; columns = cs } ≡ c = cc in
-      rw (← z) (record { rows-few = few; some = omega arith; few = omega arith; each = each }, written ∙ rw (rest, count))
+  columns-whole rows columns next c (refused e) k w h = let z : _≡_ {A = ℕ} 0 1 = cc in absurd (omega arith)
+  columns-whole rows columns next c (accepted C) (written, few, some, narrow) (rest, count, each) h = go (eqb (C .end) (length b)) refl h
+    where
+      go : (x : Bool) → eqb (C .end) (length b) ≡ x → cond x (accepted (record { rows = rows; columns = C .columns })) (refused bytesAfterColumns) ≡ accepted c → Whole c
+      go false e h = let z : _≡_ {A = ℕ} 0 1 = cc in absurd (omega arith)
+      go true e h =
+          let z : record { rows = rows; columns = C .columns } ≡ c = cc in
+          let l : C .end ≡ length b = eqb-true _ _ e in
+          let n : drop (C .end) b ≡ [] = drop-of-length-le b {i = C .end} (omega arith) in
+          rw (← z) (record { rows-few = few; some = omega arith; few = omega arith; each = each }, written ∙ rw (rest, count, n, append-nil))
 
   pub catalogue-written : (c : Catalogue) → decodeCatalogue b ≡ accepted c → Formed c × (b ≡ encodeCatalogue c)
   unfolding decodeCatalogue
-  catalogue-written c h = go (firstOf b (headerAt b 0 (length b))) (first-at (headerAt b 0 (length b)) (header-is b 0 (length b))) h
+  catalogue-written c h = go (firstFieldOf b (headerAt b 0 (length b))) (first-at (headerAt b 0 (length b)) (header-is b 0 (length b))) h
     where
       go : (f : First) → Counts f → firstThen b f ≡ accepted c → Formed c × (b ≡ encodeCatalogue c)
       go (first.Refused e) k g = let z : _≡_ {A = ℕ} 0 1 = cc in absurd (omega arith)
-      go (first.Counts rows columns next) k g = with-rows rows columns next c (columnsAt b rows columns next) k (columns-written rows columns next) g
+      go (first.Counts rows columns next) k g = columns-whole rows columns next c (columnsAt b rows columns next) k (columns-written rows columns next) g

@@ -3,22 +3,22 @@ use Prim.Native.Nat.{ℕ, zero, suc, _+_, _-_, _*_, _≤_}
 use native.Mathlib.Omega.{arith}
 use mathlib.Core.Path.{_≡_}
 use mathlib.Core.Bool.{Bool, true, false, _&&_, cond}
-use mathlib.Core.List.{List, []}
+use mathlib.Core.List.{List}
 use lib.ListN.{length, getD}
 use lib.Dec.{eqb, leb}
 use Rattle.fields.specs.declared.header.Header.{Header}
 use Rattle.fields.specs.declared.header.Header.the-variants.{Cut, Field}
-use Rattle.fields.specs.Decoded.{Decoded, refused, accepted}
+use Rattle.fields.specs.Decoded.{Decoded, refused, accepted, mapped, andThen}
 use Rattle.fields.specs.Numbers.{numberAt}
 use Rattle.fields.specs.Header.{headerAt}
 use Rattle.catalogue.specs.declared.column.ColumnField.{ColumnField}
 use Rattle.catalogue.specs.declared.column.ColumnField.the-variants as column
 use Rattle.catalogue.specs.declared.first.First.{First}
 use Rattle.catalogue.specs.declared.first.First.the-variants as first
-use Rattle.catalogue.specs.Catalogue.{Column}
+use Rattle.catalogue.specs.Catalogue.{Column, Catalogue}
 use Rattle.catalogue.specs.Format.{firstTag, firstSize, numberTag, numberSize, textTag, slotSize, rowLimit, columnLimit, notCatalogue, countsOutOfRange, notColumn, badSlot, bytesAfterColumns}
 use Rattle.catalogue.specs.Slots.{validSlots}
-use Rattle.catalogue.specs.Decode.{countsAt, firstOf, columnOf, putBefore, columnThen, columnsAt, withRows, firstThen, decodeCatalogue}
+use Rattle.catalogue.specs.Decode.{countsAt, firstFieldOf, columnOf, Columns, columnBefore, columnThen, columnsAt, catalogueOf, firstThen, decodeCatalogue}
 
 abbrev Refusing : {A : Type 0} → Decoded A → Type 0
 Refusing (refused e) = (1 ≤ e) × (e ≤ 6)
@@ -33,28 +33,21 @@ column-sound : (b : List ℕ) (rows : ℕ) (h : Header) → ColumnSound (columnO
 unfolding columnOf
 column-sound b rows Cut = omega arith
 column-sound b rows (Field tag start end) =
-    go (eqb tag numberTag) (eqb (end - start) (numberSize * rows)) (eqb tag textTag) (eqb (end - start) (slotSize * rows)) (validSlots b start rows)
+    go (eqb tag numberTag && eqb (end - start) (numberSize * rows)) (eqb tag textTag && eqb (end - start) (slotSize * rows)) (validSlots b start rows)
   where
-    go : (x y z w v : Bool) → ColumnSound (cond x (cond y (column.Numbers start end) (column.Refused notColumn))
-        (cond z (cond w (cond v (column.Texts start end) (column.Refused badSlot)) (column.Refused notColumn)) (column.Refused notColumn)))
-    go true true z w v = tt
-    go true false z w v = omega arith
-    go false y true true true = tt
-    go false y true true false = omega arith
-    go false y true false v = omega arith
-    go false y false w v = omega arith
+    go : (x y z : Bool) → ColumnSound (cond x (column.Numbers start end) (cond y (cond z (column.Texts start end) (column.Refused badSlot)) (column.Refused notColumn)))
+    go true y z = tt
+    go false true true = tt
+    go false true false = omega arith
+    go false false z = omega arith
 
 columns-refusing : (b : List ℕ) (rows n at : ℕ) → Refusing (columnsAt b rows n at)
 unfolding columnsAt
-columns-refusing b rows zero at = go (eqb at (length b))
-  where
-    go : (x : Bool) → Refusing {A = List Column} (cond x (accepted []) (refused bytesAfterColumns))
-    go true = tt
-    go false = omega arith
+columns-refusing b rows zero at = tt
 columns-refusing b rows (suc n) at =
     go (columnOf b rows (headerAt b at (length b))) (column-sound b rows (headerAt b at (length b))) (λ next. columns-refusing b rows n next)
   where
-    before : (c : Column) (d : Decoded (List Column)) → Refusing d → Refusing (putBefore c d)
+    before : (c : Column) (d : Decoded Columns) → Refusing d → Refusing (mapped (columnBefore c) d)
     before c (refused e) s = s
     before c (accepted cs) s = tt
 
@@ -64,22 +57,26 @@ columns-refusing b rows (suc n) at =
     go (column.Texts start end) s ih = before _ (columnsAt b rows n end) (ih end)
 
 catalogue-refusing : (b : List ℕ) → Refusing (decodeCatalogue b)
-unfolding decodeCatalogue firstOf countsAt
+unfolding decodeCatalogue firstFieldOf countsAt
 catalogue-refusing b = go (headerAt b 0 (length b))
   where
-    rows-refusing : (rows : ℕ) (d : Decoded (List Column)) → Refusing d → Refusing (withRows rows d)
-    rows-refusing rows (refused e) s = s
-    rows-refusing rows (accepted cs) s = tt
+    end-refusing : (x : Bool) (c : Catalogue) → Refusing (cond x (accepted c) (refused bytesAfterColumns))
+    end-refusing true c = tt
+    end-refusing false c = omega arith
+
+    columns-then : (rows : ℕ) (d : Decoded Columns) → Refusing d → Refusing (andThen d (catalogueOf b rows))
+    columns-then rows (refused e) s = s
+    columns-then rows (accepted c) s = end-refusing (eqb (c .end) (length b)) _
 
     counts : (rows n next : ℕ) (x : Bool) → Refusing (firstThen b (cond x (first.Counts rows n next) (first.Refused countsOutOfRange)))
-    counts rows n next true = rows-refusing rows (columnsAt b rows n next) (columns-refusing b rows n next)
+    counts rows n next true = columns-then rows (columnsAt b rows n next) (columns-refusing b rows n next)
     counts rows n next false = omega arith
 
     tagged : (x : Bool) (f : First) → Refusing (firstThen b f) → Refusing (firstThen b (cond x f (first.Refused notCatalogue)))
     tagged true f s = s
     tagged false f s = omega arith
 
-    go : (h : Header) → Refusing (firstThen b (firstOf b h))
+    go : (h : Header) → Refusing (firstThen b (firstFieldOf b h))
     go Cut = omega arith
     go (Field tag start end) =
         let rows = numberAt b start 2 in

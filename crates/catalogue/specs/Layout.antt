@@ -5,11 +5,13 @@ use mathlib.Core.Bool.{true}
 use mathlib.Core.List.{List, [], _∷_}
 use lib.ListN.{length, getD}
 use Rattle.fields.specs.Decoded.{Decoded, refused, accepted}
+use Rattle.catalogue.specs.declared.layout.ColumnsLayout.{ColumnsLayout}
 use Rattle.catalogue.specs.declared.layout.Layout.{Layout}
 use Rattle.catalogue.specs.Format.{numberTag, numberSize, textTag, slotSize, rowLimit, columnLimit, bytesAfterColumns}
 use Rattle.catalogue.specs.Catalogue.{Column, numbers, texts, Catalogue}
 use Rattle.catalogue.specs.Slots.{textsAt, validSlots}
-use Rattle.catalogue.specs.Decode.{numbersAt}
+use Rattle.catalogue.specs.Decode.{numbersAt, Columns}
+use Rattle.catalogue.specs.Sound.{IsRefusal}
 
 -- the bytes from `start` on are a checked payload of this tag, and show the column's values
 abbrev pub Shows : List ℕ → (rows tag start : ℕ) → Column → Type 0
@@ -21,6 +23,20 @@ Shows b rows tag start (texts ts) =
 abbrev pub ShowsAll : List ℕ → (rows : ℕ) → (tags starts : List ℕ) → (i : ℕ) → List Column → Type 0
 ShowsAll b rows tags starts i [] = Unit {0}
 ShowsAll b rows tags starts i (c ∷ cs) = Shows b rows (getD tags i 0) (getD starts i 0) c × ShowsAll b rows tags starts (i + 1) cs
+
+-- a layout of so many columns shows these
+pub record ColumnsLaid (b : List ℕ) (rows n : ℕ) (l : ColumnsLayout) (C : Columns) : Type 0 where
+  pub accepts : l .refusal ≡ 0
+  pub end : l .end ≡ C .end
+  pub inside : l .end ≤ length b
+  pub count : length (C .columns) ≡ n
+  pub shown : ShowsAll b rows (l .tags) (l .starts) 0 (C .columns)
+  pub tags-size : length (l .tags) ≡ columnLimit
+  pub starts-size : length (l .starts) ≡ columnLimit
+
+abbrev pub ColumnsLaidOut : List ℕ → (rows n : ℕ) → ColumnsLayout → Decoded Columns → Type 0
+ColumnsLaidOut b rows n l (refused e) = (l .refusal ≡ e) × IsRefusal e
+ColumnsLaidOut b rows n l (accepted C) = ColumnsLaid b rows n l C
 
 -- a layout shows this catalogue
 pub record Laid (b : List ℕ) (l : Layout) (C : Catalogue) : Type 0 where

@@ -7,7 +7,7 @@ use fields::header::Header;
 ghost use mathlib.Core.Path.{_≡_};
 ghost use lib.ListN.{length};
 ghost use Rattle.fields.specs.Header.{headerAt};
-ghost use Rattle.catalogue.specs.Decode.{firstOf};
+ghost use Rattle.catalogue.specs.Decode.{firstFieldOf};
 ghost use Rattle.catalogue.specs.Sound.{SoundFirst};
 
 pub enum First {
@@ -21,7 +21,7 @@ pub enum First {
 }
 
 pub fn read_first(b: &[u8]) -> First
-    ensures { λ r. ⌜ (r ≡ firstOf (now (b .entry)) (headerAt (now (b .entry)) 0 (length (now (b .entry))))) × SoundFirst (now (b .entry)) r ⌝ }
+    ensures { λ r. ⌜ (r ≡ firstFieldOf (now (b .entry)) (headerAt (now (b .entry)) 0 (length (now (b .entry))))) × SoundFirst (now (b .entry)) r ⌝ }
 {
     match fields::header::read_header(b, 0, b.len()) {
         Header::Cut => First::Refused(Refusal::FIELD_CUT),

@@ -6,9 +6,10 @@ use crate::format::Refusal;
 ghost use mathlib.Core.Path.{_≡_};
 ghost use Prim.Native.Nat.{_≤_};
 ghost use lib.ListN.{length};
+ghost use Rattle.fields.specs.Decoded.{andThen};
 ghost use Rattle.catalogue.specs.Format.{rowLimit, columnLimit};
-ghost use Rattle.catalogue.specs.Decode.{columnsAt, withRows, decodeCatalogue};
-ghost use Rattle.catalogue.specs.Layout.{LaidOut};
+ghost use Rattle.catalogue.specs.Decode.{columnsAt, catalogueOf, decodeCatalogue};
+ghost use Rattle.catalogue.specs.Layout.{ColumnsLaidOut, LaidOut};
 
 // A refusal, or 0 and the layout: of each column its tag and where its payload starts.
 pub struct Layout {
@@ -31,10 +32,18 @@ fn refuse(refusal: u8) -> Layout
     }
 }
 
-// The columns from a place on to the end of the catalogue.
-fn lay_out_columns(b: &[u8], rows: usize, columns: usize, first: usize) -> Layout
+// The columns alone: a refusal, or 0, where the last ends, and the same tables.
+struct ColumnsLayout {
+    refusal: u8,
+    end: usize,
+    tags: [u8; Column::LIMIT],
+    starts: [usize; Column::LIMIT],
+}
+
+// So many columns from a place on.
+fn lay_out_columns(b: &[u8], rows: usize, columns: usize, first: usize) -> ColumnsLayout
     requires { ⌜ (rows ≤ rowLimit) × (columns ≤ columnLimit) × (first ≤ length (now b)) ⌝ }
-    ensures { λ r. ⌜ LaidOut (now (b .entry)) r (withRows rows (columnsAt (now (b .entry)) rows columns first)) ⌝ }
+    ensures { λ r. ⌜ ColumnsLaidOut (now (b .entry)) rows columns r (columnsAt (now (b .entry)) rows columns first) ⌝ }
 {
     let mut tags = [0u8; Column::LIMIT];
     let mut starts = [0usize; Column::LIMIT];
@@ -43,7 +52,12 @@ fn lay_out_columns(b: &[u8], rows: usize, columns: usize, first: usize) -> Layou
     while i < columns {
         match crate::column::read_column(b, rows, at) {
             ColumnField::Refused(e) => {
-                return refuse(e);
+                return ColumnsLayout {
+                    refusal: e,
+                    end: at,
+                    tags,
+                    starts,
+                };
             }
             ColumnField::Numbers { start, end } => {
                 tags[i] = Column::NUMBER_TAG;
@@ -58,9 +72,28 @@ fn lay_out_columns(b: &[u8], rows: usize, columns: usize, first: usize) -> Layou
         }
         i += 1;
     }
-    if at != b.len() {
+    ColumnsLayout {
+        refusal: 0,
+        end: at,
+        tags,
+        starts,
+    }
+}
+
+// The columns from a place on, and nothing after them.
+fn lay_out_from(b: &[u8], rows: usize, columns: usize, first: usize) -> Layout
+    requires { ⌜ (rows ≤ rowLimit) × (columns ≤ columnLimit) × (first ≤ length (now b)) ⌝ }
+    ensures { λ r. ⌜ LaidOut (now (b .entry)) r (andThen (columnsAt (now (b .entry)) rows columns first) (catalogueOf (now (b .entry)) rows)) ⌝ }
+{
+    let laid = lay_out_columns(b, rows, columns, first);
+    if laid.refusal != 0 {
+        return refuse(laid.refusal);
+    }
+    if laid.end != b.len() {
         return refuse(Refusal::BYTES_AFTER_COLUMNS);
     }
+    let tags = laid.tags;
+    let starts = laid.starts;
     Layout {
         refusal: 0,
         rows,
@@ -80,6 +113,6 @@ pub fn lay_out(b: &[u8]) -> Layout
             rows,
             columns,
             next,
-        } => lay_out_columns(b, rows, columns, next),
+        } => lay_out_from(b, rows, columns, next),
     }
 }

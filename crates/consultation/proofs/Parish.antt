@@ -6,7 +6,7 @@ use lib.Count.{ones, onesIn as digitOnes}
 use Rattle.fields.specs.Numbers.{numberAt, bytesOf}
 use Rattle.fields.specs.Header.{headerAt}
 use Rattle.catalogue.specs.Slots.{textAt, textsAt, zerosAt, validSlot, validSlots}
-use Rattle.catalogue.specs.Decode.{numbersAt, countsAt, firstOf, columnOf, columnsAt, decodeCatalogue}
+use Rattle.catalogue.specs.Decode.{numbersAt, countsAt, firstFieldOf, columnOf, columnsAt, decodeCatalogue}
 use Rattle.predicate.specs.Kinds.{plainKind}
 use Rattle.predicate.specs.Meaning.{folded, same, begins, occurs, numberTest, textTest, outcomeOf}
 use Rattle.predicate.specs.Payload.{tagsIn, kindFits, rangeFits, operandFits, validPayload}
@@ -39,5 +39,5 @@ parish-register : consultationOf parish question (0 ∷ 1 ∷ 2 ∷ [])
     ++ (99 ∷ 111 ∷ 110 ∷ 100 ∷ 105 ∷ 116 ∷ 105 ∷ 111 ∷ 110 ∷ 32 ∷ 48 ∷ 32 ∷ 51 ∷ 10 ∷ [])
     ++ (99 ∷ 111 ∷ 110 ∷ 100 ∷ 105 ∷ 116 ∷ 105 ∷ 111 ∷ 110 ∷ 32 ∷ 49 ∷ 32 ∷ 49 ∷ 10 ∷ [])
     ++ (99 ∷ 111 ∷ 110 ∷ 100 ∷ 105 ∷ 116 ∷ 105 ∷ 111 ∷ 110 ∷ 32 ∷ 50 ∷ 32 ∷ 50 ∷ 10 ∷ [])
-unfolding numberAt bytesOf headerAt textAt textsAt zerosAt validSlot validSlots numbersAt countsAt firstOf columnOf columnsAt decodeCatalogue folded same begins occurs plainKind numberTest textTest outcomeOf tagsIn kindFits rangeFits operandFits validPayload payloadAt isRepeated predicateField groupField memberField decodeTagged decodeQuery member update elem predicates decides someOutcomes due trace eval occurrences allBelow isOrder sumOf joined bitmap bitmaps onesIn isSelected traceAt decodeInput selection probes checked runOn runOf ones digitOnes xor bit sets.member digits decimal line entries conditionLine conditions accepted
+unfolding numberAt bytesOf headerAt textAt textsAt zerosAt validSlot validSlots numbersAt countsAt firstFieldOf columnOf columnsAt decodeCatalogue folded same begins occurs plainKind numberTest textTest outcomeOf tagsIn kindFits rangeFits operandFits validPayload payloadAt isRepeated predicateField groupField memberField decodeTagged decodeQuery member update elem predicates decides someOutcomes due trace eval occurrences allBelow isOrder sumOf joined bitmap bitmaps onesIn isSelected traceAt decodeInput selection probes checked runOn runOf ones digitOnes xor bit sets.member digits decimal line entries conditionLine conditions accepted
 parish-register = refl

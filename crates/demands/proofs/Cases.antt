@@ -14,7 +14,7 @@ use Rattle.fields.proofs.Written.{number-written, number-small}
 use Rattle.fields.specs.Header.{headerAt}
 use Rattle.catalogue.specs.Catalogue.{Catalogue}
 use Rattle.catalogue.specs.Slots.{textAt, textsAt, zerosAt, validSlot, validSlots}
-use Rattle.catalogue.specs.Decode.{numbersAt, countsAt, firstOf, columnOf, columnsAt, decodeCatalogue}
+use Rattle.catalogue.specs.Decode.{numbersAt, countsAt, firstFieldOf, columnOf, columnsAt, decodeCatalogue}
 use Rattle.predicate.specs.Kinds.{plainKind}
 use Rattle.predicate.specs.Meaning.{folded, same, begins, occurs, numberTest, textTest, outcomeOf}
 use Rattle.predicate.specs.Payload.{tagsIn, kindFits, rangeFits, operandFits, validPayload}
@@ -86,11 +86,11 @@ module _ (i : Input) (b q order listed looks tally : List ℕ) (z : rowCount i �
       rw (o, tables-fit, no-selection, no-probes, t .0, t .1)
 
 finds-nothing : Holds (findsNothing noRows)
-unfolding numberAt headerAt numbersAt countsAt firstOf columnOf columnsAt decodeCatalogue decodeInput runOf
+unfolding numberAt headerAt numbersAt countsAt firstFieldOf columnOf columnsAt decodeCatalogue decodeInput runOf
 finds-nothing q order listed looks tally i e o bytes n =
     let z : rowCount i ≡ 0 = ap (λ (C : Catalogue). C .rows) (its-catalogue _ (decodeQuery _ q) i e) in
     rw e (no-rows-run i noRows q order listed looks tally z o bytes n)
 
 pub cases-hold : AllHold cases
-unfolding numberAt bytesOf headerAt textAt textsAt zerosAt validSlot validSlots numbersAt countsAt firstOf columnOf columnsAt decodeCatalogue folded same begins occurs plainKind numberTest textTest outcomeOf tagsIn kindFits rangeFits operandFits validPayload payloadAt isRepeated predicateField groupField memberField decodeTagged decodeQuery member update elem predicates decides someOutcomes due trace eval occurrences allBelow isOrder sumOf joined bitmap bitmaps onesIn isSelected traceAt decodeInput selection probes checked runOn runOf nested ones digitOnes xor
+unfolding numberAt bytesOf headerAt textAt textsAt zerosAt validSlot validSlots numbersAt countsAt firstFieldOf columnOf columnsAt decodeCatalogue folded same begins occurs plainKind numberTest textTest outcomeOf tagsIn kindFits rangeFits operandFits validPayload payloadAt isRepeated predicateField groupField memberField decodeTagged decodeQuery member update elem predicates decides someOutcomes due trace eval occurrences allBelow isOrder sumOf joined bitmap bitmaps onesIn isSelected traceAt decodeInput selection probes checked runOn runOf nested ones digitOnes xor
 cases-hold = (refl, (refl, (refl, (refl, (refl, (refl, (refl, (refl, (refl, (refl, (refl, (refl, (refl, (refl, (refl, (refl, (finds-nothing, (refl, (refl, (refl, (refl, tt)))))))))))))))))))))

@@ -1,7 +1,9 @@
 -- `read_column` meets its contract: each return is the case of `columnOf` that its tests choose.
 use native.Mathlib.Omega.{arith}
 use mathlib.Core.Path.{sym, _∙_}
+use borrow.Author.Tests.{ne-eqb}
 use Rattle.fields.proofs.Tests.{tests}
+use Rattle.catalogue.specs.Format.{textTag}
 use Rattle.catalogue.specs.Decode.{columnOf}
 use borrow.Author.Needs.{needs}
 use Rattle.catalogue.proofs.column.read_column.Statement.{statement}
@@ -28,7 +30,10 @@ returns c = let o = rw (c .before .before .before .tag .given .1) at (c .before 
 
 returns-2 : tie.Need-returns-2
 unfolding columnOf
-returns-2 c = (search (tests, ← c .before .before .before .before .before .read-header .ensures .0, c .before .before .before .tag .given .1), omega arith)
+returns-2 c =
+    let k = c .before .before .before in
+    let other = ne-eqb (k .tag .given .0 .0) textTag (λ e. omega arith) in
+    (search (tests, ← k .before .before .read-header .ensures .0, k .tag .given .1, other), omega arith)
 
 sub-if4 : tie.Need-sub-if4
 sub-if4 c = let o = rw (c .before .before .before .tag .given .1) at (c .before .before .before .before .before .read-header .ensures .1) in omega (arith, o)

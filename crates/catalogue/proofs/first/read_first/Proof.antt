@@ -1,7 +1,7 @@
--- `read_first` meets its contract: each return is the case of `firstOf` that its tests choose.
+-- `read_first` meets its contract: each return is the case of `firstFieldOf` that its tests choose.
 use native.Mathlib.Omega.{arith}
 use Rattle.fields.proofs.Tests.{tests}
-use Rattle.catalogue.specs.Decode.{firstOf, countsAt}
+use Rattle.catalogue.specs.Decode.{firstFieldOf, countsAt}
 use Rattle.catalogue.proofs.Counts.{first-counts}
 use borrow.Author.Needs.{needs}
 use Rattle.catalogue.proofs.first.read_first.Statement.{statement}
@@ -17,14 +17,14 @@ enum-known-tag : tie.Need-enum-known-tag
 enum-known-tag c = search needs
 
 returns : tie.Need-returns
-unfolding firstOf
+unfolding firstFieldOf
 returns c = (search (tests, ← c .before .before .before .before .read-header .ensures .0, c .before .before .tag .given .1), omega arith)
 
 sub-if2 : tie.Need-sub-if2
 sub-if2 c = let o = rw (c .before .before .tag .given .1) at (c .before .before .before .before .read-header .ensures .1) in omega (arith, o)
 
 returns-2 : tie.Need-returns-2
-unfolding firstOf
+unfolding firstFieldOf
 returns-2 c = (search (tests, ← c .before .before .before .before .before .read-header .ensures .0, c .before .before .before .tag .given .1), omega arith)
 
 two-bytes-requires : tie.Need-two-bytes-requires
@@ -40,19 +40,19 @@ widen-requires : tie.Need-widen-requires
 widen-requires c κs = search needs
 
 returns-3 : tie.Need-returns-3
-unfolding firstOf countsAt
+unfolding firstFieldOf countsAt
 returns-3 c = (search (tests, ← c .before .before .before .before .before .before .before .before .before .read-header .ensures .0, c .before .before .before .before .before .before .before .tag .given .1, ← c .before .before .before .two-bytes .ensures .0, ← c .before .widen .ensures .0), omega arith)
 
 returns-4 : tie.Need-returns-4
-unfolding firstOf countsAt
+unfolding firstFieldOf countsAt
 returns-4 c = (search (tests, ← c .before .before .before .before .before .before .before .before .before .before .read-header .ensures .0, c .before .before .before .before .before .before .before .before .tag .given .1, ← c .before .before .before .before .two-bytes .ensures .0, ← c .before .before .widen .ensures .0), omega arith)
 
 returns-5 : tie.Need-returns-5
-unfolding firstOf countsAt
+unfolding firstFieldOf countsAt
 returns-5 c = (search (tests, ← c .before .before .before .before .before .before .before .before .before .before .before .read-header .ensures .0, c .before .before .before .before .before .before .before .before .before .tag .given .1, ← c .before .before .before .before .before .two-bytes .ensures .0, ← c .before .before .before .widen .ensures .0), omega arith)
 
 returns-6 : tie.Need-returns-6
-unfolding firstOf
+unfolding firstFieldOf
 returns-6 c = (search (tests, ← c .before .before .read-header .ensures .0, c .enum-told .given .1), omega arith)
 
 returns-7 : tie.Need-returns-7

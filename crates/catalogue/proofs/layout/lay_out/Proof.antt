@@ -1,6 +1,6 @@
--- `lay_out` meets its contract: by the first field, refused or the columns laid out.
+-- `lay_out` meets its contract: by the first field, refused or laid out from the columns on.
 use native.Mathlib.Omega.{arith}
-use Rattle.catalogue.proofs.Columns.{laid-refused, laid-columns}
+use Rattle.catalogue.proofs.Columns.{laid-refused, laid-from}
 use borrow.Author.Needs.{needs}
 use Rattle.catalogue.proofs.layout.lay_out.Statement.{statement}
 use Rattle.catalogue.proofs.layout.lay_out.Tie as tie
@@ -17,14 +17,14 @@ refuse-requires c κs = search needs
 enum-known-rows : tie.Need-enum-known-rows
 enum-known-rows c = search needs
 
-lay-out-columns-requires : tie.Need-lay-out-columns-requires
-lay-out-columns-requires c κs = let o = rw (c .before .rows .given .1) at (c .before .before .before .read-first .ensures .1) in omega (arith, o)
+lay-out-from-requires : tie.Need-lay-out-from-requires
+lay-out-from-requires c κs = let o = rw (c .before .rows .given .1) at (c .before .before .before .read-first .ensures .1) in omega (arith, o)
 
 returns : tie.Need-returns
 returns c = laid-refused _ _ _ _ (c .before .before .before .before .read-first .ensures .0) (c .before .before .e .given .1) (rw (c .before .before .e .given .1) at (c .before .before .before .before .read-first .ensures .1)) (c .refuse .ensures .0) (c .refuse .ensures .1) (c .refuse .ensures .2)
 
 returns-2 : tie.Need-returns-2
-returns-2 c = laid-columns _ _ _ _ _ _ (c .before .before .before .before .read-first .ensures .0) (c .before .before .rows .given .1) (c .lay-out-columns .ensures)
+returns-2 c = laid-from _ _ _ _ _ _ (c .before .before .before .before .read-first .ensures .0) (c .before .before .rows .given .1) (c .lay-out-from .ensures)
 
 pub lay-out-spec : {M : Type 1} → statement M
 lay-out-spec =
@@ -34,6 +34,6 @@ lay-out-spec =
     enum-known-e
     refuse-requires
     enum-known-rows
-    lay-out-columns-requires
+    lay-out-from-requires
     returns
     returns-2)

@@ -4,7 +4,7 @@ use Prim.Native.Nat.{_-_}
 use mathlib.Core.Path.{refl}
 use mathlib.Core.Logic.{⊎-elim}
 use borrow.Author.Needs.{needs}
-use Rattle.catalogue.proofs.Columns.{Reading, reading-none, reading-numbers, reading-texts, reading-refused, reading-left, reading-all}
+use Rattle.catalogue.proofs.Columns.{Reading, reading-none, reading-numbers, reading-texts, reading-refused, reading-all}
 use Rattle.catalogue.proofs.layout.lay_out_columns.Statement.{statement}
 use Rattle.catalogue.proofs.layout.lay_out_columns.Tie as tie
 
@@ -15,7 +15,7 @@ abbrev μ-loop : tie.MeasureT-loop
 μ-loop b rows columns first tags₀ starts₀ at₀ i₀ tags starts at i = columns - i
 
 loop-holds : tie.Need-loop-holds Inv-loop μ-loop
-loop-holds c = reading-none _ _ _ _ _ _ refl refl (omega arith) (omega arith) (omega arith)
+loop-holds c = reading-none _ _ _ _ _ _ refl refl (omega arith) (omega arith)
 
 read-column-requires : tie.Need-read-column-requires Inv-loop μ-loop
 read-column-requires c κs = search needs
@@ -23,11 +23,10 @@ read-column-requires c κs = search needs
 enum-known-e : tie.Need-enum-known-e Inv-loop μ-loop
 enum-known-e c = search needs
 
-refuse-requires : tie.Need-refuse-requires Inv-loop μ-loop
-refuse-requires c κs = search needs
-
 returns : tie.Need-returns Inv-loop μ-loop
-returns c = reading-refused _ _ _ _ _ _ _ _ (c .before .before .before .before .before .before .loop .inv) _ (c .before .before .before .before .read-column .ensures .0) (c .before .before .before .before .read-column .ensures .1) (omega arith) _ _ (c .before .before .e .given .1) (c .refuse .ensures .0) (c .refuse .ensures .1) (c .refuse .ensures .2)
+returns c =
+    let read = c .before .before .before .read-column .ensures in
+    reading-refused _ _ _ _ _ _ _ _ (c .before .before .before .before .before .loop .inv) _ (read .0) (read .1) (omega arith) _ _ (c .before .e .given .1) refl
 
 enum-known-start : tie.Need-enum-known-start Inv-loop μ-loop
 enum-known-start c = search needs
@@ -68,14 +67,8 @@ loop-again c =
     (λ w. reading-texts _ _ _ _ _ _ _ _ inv _ (read .0) (read .1) (omega arith) _ _ _ _ _ (w .1 .given .1) (w .3) (w .4) (w .5))
     (c .match .came)
 
-refuse-requires-2 : tie.Need-refuse-requires-2 Inv-loop μ-loop
-refuse-requires-2 c κs = search needs
-
 returns-2 : tie.Need-returns-2 Inv-loop μ-loop
-returns-2 c = reading-left _ _ _ _ _ _ _ _ (c .before .before .before .loop .inv) _ (omega arith) (c .before .if1 .taken) (c .refuse2 .ensures .0) (c .refuse2 .ensures .1) (c .refuse2 .ensures .2)
-
-returns-3 : tie.Need-returns-3 Inv-loop μ-loop
-returns-3 c = reading-all _ _ _ _ _ _ _ _ (c .before .before .loop .inv) _ (omega arith) (c .if1 .left) refl
+returns-2 c = reading-all _ _ _ _ _ _ _ _ (c .before .loop .inv) _ (omega arith) refl
 
 pub lay-out-columns-spec : {M : Type 1} → statement M
 lay-out-columns-spec =
@@ -86,7 +79,6 @@ lay-out-columns-spec =
     loop-holds
     read-column-requires
     enum-known-e
-    refuse-requires
     returns
     enum-known-start
     array-write-tags
@@ -99,6 +91,4 @@ lay-out-columns-spec =
     add-i
     loop-less
     loop-again
-    refuse-requires-2
-    returns-2
-    returns-3)
+    returns-2)
