@@ -7,8 +7,8 @@ use mathlib.Core.List.{List}
 use lib.ListN.{length, getD}
 use borrow.Author.Tests.{le-leb}
 use Rattle.strategy.specs.Bools.{both}
-use Rattle.catalogue.specs.Format.{textTag, slotSize, textLimit}
-use Rattle.catalogue.specs.Slots.{textAt}
+use Rattle.catalogue.specs.Format.{textTag}
+use Rattle.slots.specs.Slots.{slotSize, textLimit, textAt}
 use Rattle.catalogue.proofs.Rows.{has-text}
 use Rattle.predicate.specs.Kinds.{equalsKind, beginsKind, containsKind}
 use Rattle.predicate.specs.Meaning.{equals, beginsWith, contains, textTest}

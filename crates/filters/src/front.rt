@@ -1,10 +1,11 @@
 // The filter of equals and begins: the text's length, and the pair where the operand would stand, at the text's front.
 use crate::pair::Pair;
-use catalogue::format::Text;
+use slots::slot::Text;
 ghost use mathlib.Core.Path.{_≡_};
 ghost use Prim.Native.Nat.{_+_, _≤_};
 ghost use lib.ListN.{length};
-ghost use Rattle.catalogue.specs.Format.{textTag, slotSize};
+ghost use Rattle.catalogue.specs.Format.{textTag};
+ghost use Rattle.slots.specs.Slots.{slotSize};
 ghost use Rattle.sets.specs.Kept.{KeptBy};
 ghost use Rattle.filters.specs.Block.{DueRows, slotOf};
 ghost use Rattle.filters.specs.Filter.{frontPasses};
