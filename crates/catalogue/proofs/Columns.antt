@@ -16,7 +16,7 @@ use Rattle.catalogue.specs.declared.layout.ColumnsLayout.{ColumnsLayout}
 use Rattle.catalogue.specs.declared.layout.Layout.{Layout}
 use Rattle.catalogue.specs.Format.{numberTag, textTag, rowLimit, columnLimit, bytesAfterColumns}
 use Rattle.catalogue.specs.Catalogue.{Column, numbers, texts, Catalogue}
-use Rattle.catalogue.specs.Slots.{textsAt}
+use Rattle.slots.specs.Slots.{textsAt}
 use Rattle.catalogue.specs.Decode.{numbersAt, Columns, columnBefore, columnThen, columnOf, columnsAt, catalogueOf, firstFieldOf, decodeCatalogue}
 use Rattle.catalogue.specs.Sound.{IsRefusal, SoundColumn}
 use Rattle.catalogue.specs.Layout.{Shows, ShowsAll, ColumnsLaid, ColumnsLaidOut, Laid, LaidOut}

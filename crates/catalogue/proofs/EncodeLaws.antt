@@ -22,9 +22,9 @@ use Rattle.catalogue.specs.declared.column.ColumnField.{ColumnField}
 use Rattle.catalogue.specs.declared.column.ColumnField.the-variants as field
 use Rattle.catalogue.specs.declared.first.First.{First}
 use Rattle.catalogue.specs.declared.first.First.the-variants as first
-use Rattle.catalogue.specs.Format.{firstTag, firstSize, numberTag, numberSize, textTag, slotSize, textLimit, rowLimit, columnLimit, notCatalogue, countsOutOfRange, notColumn, badSlot, bytesAfterColumns}
+use Rattle.catalogue.specs.Format.{firstTag, firstSize, numberTag, numberSize, textTag, rowLimit, columnLimit, notCatalogue, countsOutOfRange, notColumn, badSlot, bytesAfterColumns}
 use Rattle.catalogue.specs.Catalogue.{Column, numbers, texts, Catalogue}
-use Rattle.catalogue.specs.Slots.{textAt, textsAt, zerosAt, validSlot, validSlots}
+use Rattle.slots.specs.Slots.{slotSize, textLimit, textAt, textsAt, zerosAt, validSlot, validSlots}
 use Rattle.catalogue.specs.Decode.{numbersAt, countsAt, firstFieldOf, columnOf, Columns, columnBefore, columnThen, columnsAt, catalogueOf, firstThen, decodeCatalogue}
 use Rattle.catalogue.specs.Encode.{encodeNumbers, encodeText, encodeTexts, encodeColumn, encodeColumns, encodeCounts, encodeCatalogue}
 use Rattle.catalogue.specs.Formed.{AreNumbers, AreTexts, FormedColumn, FormedColumns, Formed}

@@ -16,8 +16,8 @@ use Rattle.catalogue.specs.declared.column.ColumnField.the-variants as c
 use Rattle.catalogue.specs.declared.first.First.{First}
 use Rattle.catalogue.specs.declared.first.First.the-variants as first
 use Rattle.catalogue.specs.Catalogue.{Column, Catalogue}
-use Rattle.catalogue.specs.Format.{firstTag, firstSize, numberTag, numberSize, textTag, slotSize, rowLimit, columnLimit, notCatalogue, countsOutOfRange, notColumn, badSlot, bytesAfterColumns}
-use Rattle.catalogue.specs.Slots.{validSlots}
+use Rattle.catalogue.specs.Format.{firstTag, firstSize, numberTag, numberSize, textTag, rowLimit, columnLimit, notCatalogue, countsOutOfRange, notColumn, badSlot, bytesAfterColumns}
+use Rattle.slots.specs.Slots.{slotSize, validSlots}
 use Rattle.catalogue.specs.Decode.{countsAt, firstFieldOf, columnOf, Columns, columnBefore, columnThen, columnsAt, catalogueOf, firstThen, decodeCatalogue}
 
 abbrev Refusing : {A : Type 0} → Decoded A → Type 0

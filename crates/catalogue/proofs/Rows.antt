@@ -9,9 +9,9 @@ use lib.Dec.{leb}
 use borrow.Author.Tests.{leb-true}
 use Rattle.fields.proofs.Conjunctions.{and-left, and-right}
 use Rattle.fields.specs.Numbers.{numberAt}
-use Rattle.catalogue.specs.Format.{numberTag, numberSize, textTag, slotSize, textLimit}
+use Rattle.catalogue.specs.Format.{numberTag, numberSize, textTag}
 use Rattle.catalogue.specs.Catalogue.{numbers, texts}
-use Rattle.catalogue.specs.Slots.{textAt, textsAt, zerosAt, validSlot, validSlots}
+use Rattle.slots.specs.Slots.{slotSize, textLimit, textAt, textsAt, zerosAt, validSlot, validSlots}
 use Rattle.catalogue.specs.Decode.{numbersAt}
 use Rattle.catalogue.specs.Layout.{HasRow, NumberIs, TextIs}
 

@@ -13,9 +13,9 @@ use Rattle.catalogue.specs.declared.column.ColumnField.{ColumnField}
 use Rattle.catalogue.specs.declared.column.ColumnField.the-variants as field
 use Rattle.catalogue.specs.declared.first.First.{First}
 use Rattle.catalogue.specs.declared.first.First.the-variants as first
-use Rattle.catalogue.specs.Format.{firstTag, firstSize, numberTag, numberSize, textTag, slotSize, rowLimit, columnLimit, fieldCut, notCatalogue, countsOutOfRange, notColumn, badSlot, bytesAfterColumns}
+use Rattle.catalogue.specs.Format.{firstTag, firstSize, numberTag, numberSize, textTag, rowLimit, columnLimit, fieldCut, notCatalogue, countsOutOfRange, notColumn, badSlot, bytesAfterColumns}
 use Rattle.catalogue.specs.Catalogue.{Column, numbers, texts, Catalogue}
-use Rattle.catalogue.specs.Slots.{textsAt, validSlots}
+use Rattle.slots.specs.Slots.{slotSize, textsAt, validSlots}
 
 -- so many numbers of four bytes from a place on
 unfoldable pub numbersAt : List ℕ → (at n : ℕ) → List ℕ

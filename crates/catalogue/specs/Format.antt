@@ -20,13 +20,6 @@ numberSize = 4
 abbrev pub blankNumber : ℕ
 blankNumber = 4294967295
 
--- bytes of a text's slot, and of its text at most
-abbrev pub slotSize : ℕ
-slotSize = 24
-
-abbrev pub textLimit : ℕ
-textLimit = 23
-
 abbrev pub rowLimit : ℕ
 rowLimit = 2048
 

@@ -7,9 +7,9 @@ use lib.ListN.{length, getD}
 use Rattle.fields.specs.Decoded.{Decoded, refused, accepted}
 use Rattle.catalogue.specs.declared.layout.ColumnsLayout.{ColumnsLayout}
 use Rattle.catalogue.specs.declared.layout.Layout.{Layout}
-use Rattle.catalogue.specs.Format.{numberTag, numberSize, textTag, slotSize, rowLimit, columnLimit, bytesAfterColumns}
+use Rattle.catalogue.specs.Format.{numberTag, numberSize, textTag, rowLimit, columnLimit, bytesAfterColumns}
 use Rattle.catalogue.specs.Catalogue.{Column, numbers, texts, Catalogue}
-use Rattle.catalogue.specs.Slots.{textsAt, validSlots}
+use Rattle.slots.specs.Slots.{slotSize, textsAt, validSlots}
 use Rattle.catalogue.specs.Decode.{numbersAt, Columns}
 use Rattle.catalogue.specs.Sound.{IsRefusal}
 

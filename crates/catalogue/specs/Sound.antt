@@ -8,8 +8,8 @@ use Rattle.catalogue.specs.declared.column.ColumnField.{ColumnField}
 use Rattle.catalogue.specs.declared.column.ColumnField.the-variants.{Refused, Numbers, Texts}
 use Rattle.catalogue.specs.declared.first.First.{First}
 use Rattle.catalogue.specs.declared.first.First.the-variants as first
-use Rattle.catalogue.specs.Format.{numberSize, slotSize, rowLimit, columnLimit, bytesAfterColumns}
-use Rattle.catalogue.specs.Slots.{validSlots}
+use Rattle.catalogue.specs.Format.{numberSize, rowLimit, columnLimit, bytesAfterColumns}
+use Rattle.slots.specs.Slots.{slotSize, validSlots}
 
 abbrev pub IsRefusal : ℕ → Type 0
 IsRefusal e = (0 < e) × (e ≤ bytesAfterColumns)

@@ -2,8 +2,8 @@
 use crate::format::Column;
 use crate::format::Number;
 use crate::format::Refusal;
-use crate::format::Text;
 use fields::header::Header;
+use slots::slot::Text;
 ghost use mathlib.Core.Path.{_≡_};
 ghost use Prim.Native.Nat.{_≤_};
 ghost use lib.ListN.{length};
@@ -35,7 +35,7 @@ pub fn read_column(b: &[u8], rows: usize, at: usize) -> ColumnField
             }
             if tag == Column::TEXT_TAG {
                 if end - start == Text::SLOT_SIZE * rows {
-                    if crate::slot::slots_are_valid(b, start, rows) {
+                    if slots::slot::slots_are_valid(b, start, rows) {
                         return ColumnField::Texts { start, end };
                     }
                     return ColumnField::Refused(Refusal::BAD_SLOT);

@@ -25,14 +25,6 @@ impl Number {
     pub const BLANK: u32 = 4294967295;
 }
 
-pub struct Text;
-
-impl Text {
-    pub const LIMIT: usize = 23;
-
-    pub const SLOT_SIZE: usize = 24;
-}
-
 // The first field.
 pub struct Opening;
 

@@ -13,7 +13,7 @@ use Rattle.fields.specs.Numbers.{numberAt, bytesOf, Bytes}
 use Rattle.fields.proofs.Written.{number-written, number-small}
 use Rattle.fields.specs.Header.{headerAt}
 use Rattle.catalogue.specs.Catalogue.{Catalogue}
-use Rattle.catalogue.specs.Slots.{textAt, textsAt, zerosAt, validSlot, validSlots}
+use Rattle.slots.specs.Slots.{textAt, textsAt, zerosAt, validSlot, validSlots}
 use Rattle.catalogue.specs.Decode.{numbersAt, countsAt, firstFieldOf, columnOf, columnsAt, decodeCatalogue}
 use Rattle.predicate.specs.Kinds.{plainKind}
 use Rattle.predicate.specs.Meaning.{folded, same, begins, occurs, numberTest, textTest, outcomeOf}

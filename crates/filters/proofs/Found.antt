@@ -9,8 +9,7 @@ use lib.ListN.{length, getD, drop, length-drop}
 use lib.Seq.{getD-drop, getD-take, length-take-le}
 use lib.Dec.{eqb}
 use Rattle.strategy.specs.Bools.{both, and-parts, or-cases, same?, clash, eqb-eq}
-use Rattle.catalogue.specs.Format.{slotSize, textLimit}
-use Rattle.catalogue.specs.Slots.{textAt}
+use Rattle.slots.specs.Slots.{slotSize, textLimit, textAt}
 use Rattle.predicate.specs.Meaning.{fold, folded, begins, occurs, equals, beginsWith, contains}
 use Rattle.predicate.proofs.TextLaws.{equals-begins, equals-other}
 use Rattle.filters.specs.declared.pair.Pair.{Pair}

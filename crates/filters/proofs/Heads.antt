@@ -11,7 +11,7 @@ use lib.Bits.{bitAnd, bitOr, or-zero-r, or-add-and, and-mask, or-block}
 use borrow.Author.Tests.{eq-eqb}
 use Rattle.strategy.specs.Bools.{eqb-eq, iff-eq}
 use Rattle.fields.specs.Numbers.{numberAt}
-use Rattle.catalogue.specs.Format.{textLimit}
+use Rattle.slots.specs.Slots.{textLimit}
 use Rattle.predicate.specs.Kinds.{equalsKind}
 use Rattle.predicate.specs.Meaning.{fold}
 use Rattle.filters.specs.declared.look.Look.{Look}

@@ -8,7 +8,7 @@ use mathlib.Core.List.{List}
 use lib.Dec.{eqb, ltb}
 use lib.Bits.{bitOr}
 use Rattle.strategy.specs.Bools.{which, or-left, or-right, ltb-lt, ltb-le}
-use Rattle.catalogue.specs.Format.{textLimit}
+use Rattle.slots.specs.Slots.{textLimit}
 use Rattle.filters.specs.declared.pair.Pair.{Pair}
 use Rattle.filters.specs.Filter.{pairAt, pairIn, windowsPass}
 use Rattle.filters.proofs.Looks.{either-flag, flag-set}

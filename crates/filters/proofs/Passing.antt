@@ -7,8 +7,9 @@ use mathlib.Core.Logic.{_⊎_, inl, inr}
 use mathlib.Core.List.{List}
 use lib.ListN.{length, getD}
 use Rattle.strategy.specs.Bools.{same?}
-use Rattle.catalogue.specs.Format.{textTag, slotSize, textLimit}
-use Rattle.catalogue.specs.Slots.{textAt}
+use Rattle.catalogue.specs.Format.{textTag}
+use Rattle.slots.specs.Slots.{slotSize, textLimit}
+use Rattle.slots.specs.Slots.{textAt}
 use Rattle.catalogue.proofs.Rows.{has-text}
 use Rattle.fields.specs.Numbers.{Bytes}
 use Rattle.predicate.specs.Kinds.{equalsKind, beginsKind, containsKind}

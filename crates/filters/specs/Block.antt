@@ -3,8 +3,7 @@ use Prim.Native.Nat.{ℕ, _+_, _*_}
 use mathlib.Core.Path.{_≡_}
 use mathlib.Core.Bool.{true}
 use mathlib.Core.List.{List}
-use Rattle.catalogue.specs.Format.{slotSize}
-use Rattle.catalogue.specs.Slots.{textAt}
+use Rattle.slots.specs.Slots.{slotSize, textAt}
 use Rattle.catalogue.specs.Layout.{HasRow}
 use Rattle.sets.specs.Set.{member}
 

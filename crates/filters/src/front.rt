@@ -1,6 +1,6 @@
 // The filter of equals and begins: the due rows whose slots have a head that passes.
 use crate::head::Head;
-use catalogue::format::Text;
+use slots::slot::Text;
 ghost use Prim.Native.Nat.{_+_};
 ghost use Rattle.catalogue.specs.Format.{textTag};
 ghost use Rattle.sets.specs.Set.{belowSet};

@@ -4,7 +4,7 @@ use predicate::kind::Kind;
 ghost use mathlib.Core.Path.{_≡_};
 ghost use Prim.Native.Nat.{_+_, _≤_, _<_};
 ghost use lib.ListN.{length};
-ghost use Rattle.catalogue.specs.Format.{textLimit};
+ghost use Rattle.slots.specs.Slots.{textLimit};
 ghost use Rattle.predicate.specs.Outcome.{Folds};
 ghost use Rattle.filters.specs.Head.{headSize, headPasses, CoverAt, HeadFor, BlankHead};
 

@@ -2,7 +2,8 @@
 use predicate::kind::Kind;
 ghost use Prim.Native.Nat.{_+_, _≤_, _<_};
 ghost use lib.ListN.{length};
-ghost use Rattle.catalogue.specs.Format.{textTag, textLimit};
+ghost use Rattle.catalogue.specs.Format.{textTag};
+ghost use Rattle.slots.specs.Slots.{textLimit};
 ghost use Rattle.predicate.specs.Kinds.{equalsKind, containsKind};
 ghost use Rattle.predicate.specs.Meaning.{textTest};
 ghost use Rattle.predicate.specs.Outcome.{Folds};

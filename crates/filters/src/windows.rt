@@ -1,11 +1,12 @@
 // The filter of contains: the pair anywhere in the slot, in two windows of 16 bytes that cover it. Both windows are tested
 // by one loop of constant length, which becomes vector code.
 use crate::pair::Pair;
-use catalogue::format::Text;
+use slots::slot::Text;
 ghost use mathlib.Core.Path.{_≡_};
 ghost use Prim.Native.Nat.{_+_, _≤_};
 ghost use lib.ListN.{length};
-ghost use Rattle.catalogue.specs.Format.{textTag, slotSize};
+ghost use Rattle.catalogue.specs.Format.{textTag};
+ghost use Rattle.slots.specs.Slots.{slotSize};
 ghost use Rattle.sets.specs.Set.{belowSet};
 ghost use Rattle.sets.specs.Kept.{KeptBy};
 ghost use Rattle.filters.specs.Block.{DueRows, slotOf};

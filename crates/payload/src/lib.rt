@@ -1,8 +1,8 @@
 // The check of one condition's payload: column byte, kind byte, operand.
 use catalogue::format::Column;
 use catalogue::format::Number;
-use catalogue::format::Text;
 use predicate::kind::Kind;
+use slots::slot::Text;
 ghost use mathlib.Core.Path.{_≡_};
 ghost use Rattle.predicate.specs.Payload.{kindFits, operandFits, rangeFits, validPayload};
 

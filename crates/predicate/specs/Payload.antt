@@ -5,7 +5,8 @@ use mathlib.Core.Bool.{Bool, _&&_, _||_, cond}
 use mathlib.Core.List.{List, [], _∷_}
 use lib.ListN.{length, getD, drop}
 use lib.Dec.{ltb, leb, eqb}
-use Rattle.catalogue.specs.Format.{numberTag, textTag, blankNumber, textLimit}
+use Rattle.catalogue.specs.Format.{numberTag, textTag, blankNumber}
+use Rattle.slots.specs.Slots.{textLimit}
 use Rattle.catalogue.specs.Catalogue.{Catalogue, Column, numbers, texts}
 use Rattle.predicate.specs.Kinds.{rangeKind, numberBlankKind, textBlankKind, plainKind}
 use Rattle.predicate.specs.Meaning.{Predicate, rangeSize, lowOf, highOf}

@@ -9,7 +9,8 @@ use lib.ListN.{length}
 use lib.Dec.{leb, ltb, eqb}
 use borrow.Author.Tests.{le-leb, lt-leb, leb-true, eq-eqb, eqb-true, ltb-true}
 use Rattle.strategy.specs.Bools.{both, and-parts, iff-eq, same?, eqb-ne}
-use Rattle.catalogue.specs.Format.{blankNumber, textLimit}
+use Rattle.catalogue.specs.Format.{blankNumber}
+use Rattle.slots.specs.Slots.{textLimit}
 use Rattle.predicate.specs.Kinds.{rangeKind, numberBlankKind, equalsKind, containsKind, textBlankKind}
 use Rattle.predicate.specs.Meaning.{inRange, numberBlank, lowOf, highOf, numberTest}
 use Rattle.predicate.specs.Payload.{rangeFits, operandFits}

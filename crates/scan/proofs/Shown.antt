@@ -10,9 +10,9 @@ use lib.Bits.{bitXor}
 use borrow.Author.Tests.{lt-ltb, le-ltb, le-leb, lt-leb, leb-true}
 use Rattle.strategy.specs.Bools.{and-parts, eqb-eq}
 use Rattle.fields.specs.Numbers.{numberAt}
-use Rattle.catalogue.specs.Format.{numberTag, numberSize, textTag, textLimit}
+use Rattle.catalogue.specs.Format.{numberTag, numberSize, textTag}
 use Rattle.catalogue.specs.Catalogue.{Column, numbers, texts}
-use Rattle.catalogue.specs.Slots.{textAt}
+use Rattle.slots.specs.Slots.{textLimit, textAt}
 use Rattle.catalogue.specs.Layout.{Shows, HasRow, NumberIs, TextIs}
 use Rattle.catalogue.proofs.Rows.{number-is, text-is}
 use Rattle.predicate.specs.declared.answer.Answer.{Answer}

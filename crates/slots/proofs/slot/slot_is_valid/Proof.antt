@@ -1,9 +1,9 @@
 -- `slot_is_valid` meets its contract: the bytes after the text are zeros just where each of three words is within its limit.
 use borrow.Author.Tests.{not-true, not-false}
-use Rattle.catalogue.proofs.Padding.{slot-long, slot-first, slot-second, slot-third}
+use Rattle.slots.proofs.Padding.{slot-long, slot-first, slot-second, slot-third}
 use borrow.Author.Needs.{needs}
-use Rattle.catalogue.proofs.slot.slot_is_valid.Statement.{statement}
-use Rattle.catalogue.proofs.slot.slot_is_valid.Tie as tie
+use Rattle.slots.proofs.slot.slot_is_valid.Statement.{statement}
+use Rattle.slots.proofs.slot.slot_is_valid.Tie as tie
 
 shared-slice-read-widen : tie.Need-shared-slice-read-widen
 shared-slice-read-widen c = search needs

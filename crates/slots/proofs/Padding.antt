@@ -7,8 +7,8 @@ use mathlib.Core.List.{List}
 use lib.ListN.{getD}
 use lib.Dec.{eqb, leb}
 use borrow.Author.Tests.{leb-true, leb-false, le-leb, lt-leb, ne-eqb}
-use Rattle.catalogue.specs.Slots.{zerosAt, validSlot}
-use Rattle.catalogue.specs.Words.{wordAt, limitOf}
+use Rattle.slots.specs.Slots.{zerosAt, validSlot}
+use Rattle.slots.specs.Words.{wordAt, limitOf}
 
 pow-pos : (k : ℕ) → 0 < 256 ^ k
 pow-pos zero = omega arith

@@ -1,13 +1,19 @@
 // The slots of a text column: each length within its limit, and zeros after the text: each word of eight bytes is within the
 // limit that the text's length leaves it.
-use crate::format::Text;
 ghost use mathlib.Core.Path.{_≡_};
 ghost use Prim.Native.Nat.{_+_, _*_, _≤_, _<_};
 ghost use lib.ListN.{length};
 ghost use lib.Dec.{leb};
-ghost use Rattle.catalogue.specs.Format.{slotSize};
-ghost use Rattle.catalogue.specs.Slots.{validSlot, validSlots};
-ghost use Rattle.catalogue.specs.Words.{wordAt, limitOf, limitCount, Limits};
+ghost use Rattle.slots.specs.Slots.{slotSize, validSlot, validSlots};
+ghost use Rattle.slots.specs.Words.{wordAt, limitOf, limitCount, Limits};
+
+pub struct Text;
+
+impl Text {
+    pub const LIMIT: usize = 23;
+
+    pub const SLOT_SIZE: usize = 24;
+}
 
 // Eight bytes as one number, the least significant first.
 fn word_at(b: &[u8], at: usize) -> u64

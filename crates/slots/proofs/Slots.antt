@@ -4,8 +4,7 @@ use native.Mathlib.Omega.{arith}
 use mathlib.Core.Path.{_≡_}
 use mathlib.Core.Bool.{Bool, true, false, _&&_}
 use mathlib.Core.List.{List}
-use Rattle.catalogue.specs.Format.{slotSize}
-use Rattle.catalogue.specs.Slots.{validSlot, validSlots}
+use Rattle.slots.specs.Slots.{slotSize, validSlot, validSlots}
 
 slots-step : (b : List ℕ) (p k : ℕ) → 0 < k → validSlots b p k ≡ (validSlot b p && validSlots b (p + slotSize) (k - 1))
 unfolding validSlots

@@ -1,5 +1,5 @@
 // How great a word of a text slot may be: entry j is limitOf j of specs/Words.antt.
-ghost use Rattle.catalogue.specs.Words.{Limits};
+ghost use Rattle.slots.specs.Words.{Limits};
 
 pub struct Limit;
 

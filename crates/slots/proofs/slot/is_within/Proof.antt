@@ -3,8 +3,8 @@ use native.Mathlib.Omega.{arith}
 use mathlib.Core.Path.{ap₂}
 use lib.Dec.{leb}
 use borrow.Author.Needs.{needs}
-use Rattle.catalogue.proofs.slot.is_within.Statement.{statement}
-use Rattle.catalogue.proofs.slot.is_within.Tie as tie
+use Rattle.slots.proofs.slot.is_within.Statement.{statement}
+use Rattle.slots.proofs.slot.is_within.Tie as tie
 
 word-at-requires : tie.Need-word-at-requires
 word-at-requires c κs = search needs

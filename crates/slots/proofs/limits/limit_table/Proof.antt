@@ -1,8 +1,8 @@
 -- `limit_table` meets its contract: the rule is computed over all entries, and `limits-table` carries it to each entry.
 use mathlib.Core.Path.{refl}
-use Rattle.catalogue.proofs.Table.{limits-table}
-use Rattle.catalogue.proofs.limits.limit_table.Statement.{statement}
-use Rattle.catalogue.proofs.limits.limit_table.Tie as tie
+use Rattle.slots.proofs.Table.{limits-table}
+use Rattle.slots.proofs.limits.limit_table.Statement.{statement}
+use Rattle.slots.proofs.limits.limit_table.Tie as tie
 
 returns : tie.Need-returns
 returns c = limits-table _ refl refl

@@ -4,7 +4,13 @@ use mathlib.Core.Bool.{Bool, true, _&&_}
 use mathlib.Core.List.{List, [], _∷_}
 use lib.ListN.{getD, take, drop}
 use lib.Dec.{leb, eqb}
-use Rattle.catalogue.specs.Format.{slotSize, textLimit}
+
+-- bytes of a slot, and of its text at most
+abbrev pub slotSize : ℕ
+slotSize = 24
+
+abbrev pub textLimit : ℕ
+textLimit = 23
 
 -- the text of the slot at a place
 unfoldable pub textAt : List ℕ → (at : ℕ) → List ℕ

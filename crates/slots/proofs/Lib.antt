@@ -1,0 +1,3 @@
+pub mod Padding
+pub mod Table
+pub mod Slots
