@@ -9,7 +9,7 @@ use lib.ListN.{length, getD, set, length-set}
 use lib.Seq.{getD-set-same, getD-set-other}
 use Rattle.strategy.specs.Bools.{same?}
 use Rattle.query.specs.Format.{depthLimit}
-use Rattle.ancestors.specs.Ancestors.{ancestorSize, ancestorsWidth, heightAt, ancestorPlace, groupOver, ancestorAt, ancestorsFrom, ancestorsOf, Low, IsSpan, Spans, Closed}
+use Rattle.ancestors.specs.Ancestors.{ancestorSize, ancestorsWidth, heightAt, ancestorPlace, ancestorOver, ancestorAt, ancestorsFrom, ancestorsOf, Low, IsSpan, Spans, Closed}
 
 from-last : (A : List ℕ) (i n : ℕ) → ancestorsFrom A i (suc n) ≡ ancestorsFrom A i n ++ (ancestorAt A (i + ancestorSize * n) ∷ [])
 unfolding ancestorsFrom
@@ -99,7 +99,7 @@ module _ (A : List ℕ) (a c m tag h i first end : ℕ) (is-height : h ≡ heigh
       getD-set-other written (ancestorsWidth * c) (i + 2) (h + 1) 0 (λ e. omega arith)
       ∙ getD-set-same (set (set A (i + 0) first) (i + 1) end) (i + 2) tag 0 (omega (arith, length-set A (i + 0) first, length-set (set A (i + 0) first) (i + 1) end))
 
-  raised-line : ancestorsOf raised c ≡ ancestorsOf A c ++ (groupOver a m tag ∷ [])
+  raised-line : ancestorsOf raised c ≡ ancestorsOf A c ++ (ancestorOver a m tag ∷ [])
   raised-line =
       let e : ancestorsWidth * c + 1 + ancestorSize * h ≡ i = omega arith in
       rw (
@@ -134,8 +134,8 @@ module _ (A : List ℕ) (a c m tag h i first end : ℕ) (is-height : h ≡ heigh
     spans = λ d k x y. still-span d k x y (same? d c);
   }
     where
-      in-group : (d : ℕ) → a ≤ d → d < c + 1 → (d ≡ c) ⊎ (d ≡ c → ⊥) → ancestorsOf raised d ≡ ancestorsOf A0 d ++ (groupOver a m tag ∷ [])
-      in-group d x y (inl z) = rw z (raised-line ∙ ap (λ l. l ++ (groupOver a m tag ∷ [])) (C .after c (omega arith) cm))
+      in-group : (d : ℕ) → a ≤ d → d < c + 1 → (d ≡ c) ⊎ (d ≡ c → ⊥) → ancestorsOf raised d ≡ ancestorsOf A0 d ++ (ancestorOver a m tag ∷ [])
+      in-group d x y (inl z) = rw z (raised-line ∙ ap (λ l. l ++ (ancestorOver a m tag ∷ [])) (C .after c (omega arith) cm))
       in-group d x y (inr z) = line-same A raised d (other-line d z) (C .low d (omega arith)) ∙ C .inside d x (omega arith)
 
       higher : (d : ℕ) → a ≤ d → d < c + 1 → (d ≡ c) ⊎ (d ≡ c → ⊥) → heightAt raised d ≡ heightAt A0 d + 1

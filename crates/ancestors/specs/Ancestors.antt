@@ -3,9 +3,9 @@ use Prim.Native.Nat.{ℕ, zero, suc, _+_, _-_, _*_, _≤_, _<_}
 use mathlib.Core.Path.{_≡_}
 use mathlib.Core.List.{List, [], _∷_, _++_}
 use lib.ListN.{length, getD}
-use Rattle.strategy.specs.Climb.{Group}
+use Rattle.strategy.specs.Propagation.{Ancestor}
 use Rattle.query.specs.Format.{predicateLimit, depthLimit}
-use Rattle.query.specs.Decode.{settling}
+use Rattle.query.specs.Decode.{settlingOf}
 
 -- an ancestor is three bytes: its first predicate, the end of its predicates, its tag
 abbrev pub ancestorSize : ℕ
@@ -27,19 +27,19 @@ abbrev pub ancestorPlace : (c k : ℕ) → ℕ
 ancestorPlace c k = ancestorsWidth * c + 1 + ancestorSize * k
 
 -- the group of the predicates from `first` up to `end`
-abbrev pub groupOver : (first end tag : ℕ) → Group
-groupOver first end tag = record { absorbing = settling tag; first = first; count = end - first }
+abbrev pub ancestorOver : (first end tag : ℕ) → Ancestor
+ancestorOver first end tag = record { settling = settlingOf tag; first = first; count = end - first }
 
 -- the ancestor that the three bytes from place i on are
-abbrev pub ancestorAt : (table : List ℕ) → (i : ℕ) → Group
-ancestorAt A i = groupOver (getD A i 0) (getD A (i + 1) 0) (getD A (i + 2) 0)
+abbrev pub ancestorAt : (table : List ℕ) → (i : ℕ) → Ancestor
+ancestorAt A i = ancestorOver (getD A i 0) (getD A (i + 1) 0) (getD A (i + 2) 0)
 
-unfoldable pub ancestorsFrom : (table : List ℕ) → (i n : ℕ) → List Group
+unfoldable pub ancestorsFrom : (table : List ℕ) → (i n : ℕ) → List Ancestor
 ancestorsFrom A i zero = []
 ancestorsFrom A i (suc n) = ancestorAt A i ∷ ancestorsFrom A (i + ancestorSize) n
 
 -- the ancestors of predicate c
-abbrev pub ancestorsOf : (table : List ℕ) → (c : ℕ) → List Group
+abbrev pub ancestorsOf : (table : List ℕ) → (c : ℕ) → List Ancestor
 ancestorsOf A c = ancestorsFrom A (ancestorsWidth * c + 1) (heightAt A c)
 
 -- the first n predicates have at most eight ancestors
@@ -51,8 +51,8 @@ abbrev pub Under : (n m d : ℕ) → (table : List ℕ) → Type 0
 Under n m d A = (c : ℕ) → n ≤ c → c < m → heightAt A c + d ≤ depthLimit
 
 -- the first n predicates have as many ancestors as they had
-abbrev pub Kept : (n : ℕ) → (before after : List ℕ) → Type 0
-Kept n A A′ = (c : ℕ) → c < n → heightAt A′ c ≡ heightAt A c
+abbrev pub SameHeights : (n : ℕ) → (before after : List ℕ) → Type 0
+SameHeights n A A′ = (c : ℕ) → c < n → heightAt A′ c ≡ heightAt A c
 
 -- the three bytes from place i on are a span of predicates below n
 abbrev pub IsSpan : (n : ℕ) → (table : List ℕ) → (i : ℕ) → Type 0
@@ -73,7 +73,7 @@ pub record Closable (a m : ℕ) (A : List ℕ) : Type 0 where
 
 -- one ancestor more, the group of the predicates from `a` up to `m`, for those from `a` up to `k`
 pub record Closed (a k m tag : ℕ) (A A′ : List ℕ) : Type 0 where
-  pub inside : (c : ℕ) → a ≤ c → c < k → ancestorsOf A′ c ≡ ancestorsOf A c ++ (groupOver a m tag ∷ [])
+  pub inside : (c : ℕ) → a ≤ c → c < k → ancestorsOf A′ c ≡ ancestorsOf A c ++ (ancestorOver a m tag ∷ [])
   pub before : (c : ℕ) → c < a → ancestorsOf A′ c ≡ ancestorsOf A c
   pub after : (c : ℕ) → k ≤ c → c < m → ancestorsOf A′ c ≡ ancestorsOf A c
   pub taller : (c : ℕ) → a ≤ c → c < k → heightAt A′ c ≡ heightAt A c + 1

@@ -6,15 +6,15 @@ use lib.ListN.{length}
 use lib.Dec.{ltb}
 use Rattle.fields.specs.Decoded.{Decoded, refused, accepted}
 use Rattle.catalogue.specs.Catalogue.{Catalogue}
-use Rattle.predicate.specs.declared.answer.Answer.{Answer as Outcome}
-use Rattle.predicate.specs.declared.answer.Answer.the-variants.{No, Yes}
+use Rattle.predicate.specs.declared.outcome.Outcome.{Outcome}
+use Rattle.predicate.specs.declared.outcome.Outcome.the-variants.{No, Yes}
 use Rattle.predicate.specs.Meaning.{outcome}
-use Rattle.run.specs.Run.{predicateAt}
+use Rattle.rows.specs.Task.{predicateAt}
 use Rattle.input.specs.Input.{Input}
 use Rattle.answers.specs.declared.word.Answer.{Answer}
 use Rattle.answers.specs.declared.word.Answer.the-variants.{Refused, Accepted}
 use Rattle.answers.specs.Word.{FitsWord}
-use Rattle.answers.specs.Refusals.{noSuchPlace}
+use Rattle.answers.specs.Refusals.{noSuchRowOrPredicate}
 
 -- "a catalogue check gives E and C"
 abbrev pub catalogueAnswer : Decoded Catalogue → Answer
@@ -37,7 +37,7 @@ outcomeAnswer (refused e) row c = Refused e
 outcomeAnswer (accepted i) row c =
     cond (ltb row (i .catalogue .rows) && ltb c (length (i .query .predicates)))
     (Accepted (outcomeNumber (outcome (i .catalogue) (predicateAt (i .query) c) row)) 0 0)
-    (Refused noSuchPlace)
+    (Refused noSuchRowOrPredicate)
 
 -- an answer that is the definition's and has room in the word
 abbrev pub Answered : (expected : Answer) → Answer → Type 0

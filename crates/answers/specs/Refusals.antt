@@ -14,5 +14,5 @@ abbrev pub counterRefused : ℕ
 counterRefused = 17
 
 -- "18, no such entry or condition"
-abbrev pub noSuchPlace : ℕ
-noSuchPlace = 18
+abbrev pub noSuchRowOrPredicate : ℕ
+noSuchRowOrPredicate = 18

@@ -8,5 +8,5 @@ impl Refusal {
 
     pub const COUNTER_REFUSED: u8 = 17;
 
-    pub const NO_SUCH_PLACE: u8 = 18;
+    pub const NO_SUCH_ROW_OR_PREDICATE: u8 = 18;
 }

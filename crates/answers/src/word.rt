@@ -9,9 +9,9 @@ pub enum Answer {
 }
 
 // Bits 0 to 7 the number, 8 to 23 the first result, 24 to 39 the second, 40 to 63 the third: the lowest bit of each result.
-pub struct Word;
+pub struct PackedWord;
 
-impl Word {
+impl PackedWord {
     pub const FIRST: u64 = 1 << 8;
 
     pub const SECOND: u64 = 1 << 24;
@@ -29,25 +29,25 @@ pub fn pack(answer: Answer) -> u64
             first,
             second,
             third,
-        } => Word::FIRST * first + Word::SECOND * second + Word::THIRD * third,
+        } => PackedWord::FIRST * first + PackedWord::SECOND * second + PackedWord::THIRD * third,
     }
 }
 
-// A word taken apart again.
+// A packed word taken apart again.
 pub fn number_in(word: u64) -> u64
     ensures { λ r. ⌜ r ≡ numberIn word ⌝ }
 {
-    word % Word::FIRST
+    word % PackedWord::FIRST
 }
 
 pub fn first_in(word: u64) -> u64
     ensures { λ r. ⌜ r ≡ firstIn word ⌝ }
 {
-    word % Word::SECOND / Word::FIRST
+    word % PackedWord::SECOND / PackedWord::FIRST
 }
 
 pub fn third_in(word: u64) -> u64
     ensures { λ r. ⌜ r ≡ thirdIn word ⌝ }
 {
-    word / Word::THIRD
+    word / PackedWord::THIRD
 }

@@ -10,11 +10,11 @@ use lib.Dec.{eqb}
 use lib.Seq.{getD-set-same, getD-set-other}
 use Rattle.strategy.specs.Bools.{same?}
 use Rattle.fields.specs.Numbers.{Bytes}
-use Rattle.sets.specs.Set.{member}
+use Rattle.sets.specs.Set.{has}
 use Rattle.bitmaps.specs.Bit.{bit}
 use Rattle.bitmaps.specs.BitLaws.{bit-at}
 use Rattle.bitmaps.specs.Word.{blockRows, wordSize, WordPut}
-use Rattle.bitmaps.specs.WordLaws.{byte-member}
+use Rattle.bitmaps.specs.WordLaws.{byte-has}
 
 set-bytes : (t : List ℕ) (i x : ℕ) → i < length t → x < 256 → Bytes t → Bytes (set t i x)
 set-bytes t i x h l b j = go (same? j i)
@@ -55,11 +55,11 @@ module _ (t : List ℕ) (at x : ℕ) where
   stored-elsewhere (suc n) i (inr l) = getD-set-other (stored n) (at + n) i (byteOf n) 0 (λ e. omega arith) ∙ stored-elsewhere n i (inr (omega arith))
 
   module _ (fits : at + wordSize ≤ length t) where
-    here : (d : ℕ) → d < blockRows → bit (stored 8) (at * 8 + d) ≡ member x d
+    here : (d : ℕ) → d < blockRows → bit (stored 8) (at * 8 + d) ≡ has x d
     here d h =
         let p : at * 8 + d ≡ (at + d / 8) * 8 + d % 8 = omega arith in
         ap (bit (stored 8)) p ∙ bit-at (stored 8) (at + d / 8) (d % 8) (mod-lt d (omega arith))
-        ∙ ap (λ (y : ℕ). member y (d % 8)) (stored-here 8 (d / 8) (omega arith) fits) ∙ byte-member x d
+        ∙ ap (λ (y : ℕ). has y (d % 8)) (stored-here 8 (d / 8) (omega arith) fits) ∙ byte-has x d
 
     elsewhere : (j : ℕ) → (j < at * 8) ⊎ (at * 8 + blockRows ≤ j) → bit (stored 8) j ≡ bit t j
     unfolding bit

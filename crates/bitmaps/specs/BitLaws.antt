@@ -12,8 +12,8 @@ use lib.Pow.{pow-mono}
 use lib.Bits.{bitOr, or-shifted-r}
 use lib.Count.{ones, ones-cat, ones-le, ones-step}
 use Rattle.strategy.specs.Bools.{which, iff-eq, same?, eqb-self, eqb-ne, ltb-yes, ltb-no, ltb-lt, ltb-le}
-use Rattle.sets.specs.Set.{member, oneSet}
-use Rattle.sets.specs.SetLaws.{member-or, member-one, member-none, same-set}
+use Rattle.sets.specs.Set.{has, oneSet}
+use Rattle.sets.specs.SetLaws.{has-or, has-one, has-none, same-set}
 use Rattle.bitmaps.specs.Sums.{sumOf, digit, countOf}
 use Rattle.bitmaps.specs.SumLaws.{sum-split, count-same}
 use Rattle.bitmaps.specs.Bitmap.{binary, onesIn}
@@ -21,9 +21,9 @@ use Rattle.fields.specs.Numbers.{Bytes}
 use Rattle.bitmaps.specs.Bit.{bit}
 
 -- a number below 2 ^ k has no bit from k on
-pub member-high : (k x d : ℕ) → x < 2 ^ k → k ≤ d → member x d ≡ false
-unfolding member
-member-high k x d h l = ap (λ (z : ℕ). eqb (z % 2) 1) (div-eq-of-lt (lt-of-lt-of-le h (pow-mono l)))
+pub has-high : (k x d : ℕ) → x < 2 ^ k → k ≤ d → has x d ≡ false
+unfolding has
+has-high k x d h l = ap (λ (z : ℕ). eqb (z % 2) 1) (div-eq-of-lt (lt-of-lt-of-le h (pow-mono l)))
 
 -- one digit more, of a number below 2 ^ n
 digit-lt : (n s : ℕ) (v : Bool) → s < 2 ^ n → s + digit v * 2 ^ n < 2 ^ suc n
@@ -34,11 +34,11 @@ pub or-false : (a : Bool) → a ≡ (a || false)
 or-false true = refl
 or-false false = refl
 
-digit-member : (n s : ℕ) (v : Bool) (d : ℕ) → s < 2 ^ n → member (s + digit v * 2 ^ n) d ≡ (member s d || (v && eqb d n))
-digit-member n s true d h =
-    ap (λ (x : ℕ). member x d) (add-comm s (1 * 2 ^ n) ∙ sym (or-shifted-r 1 n s h) ∙ ap (bitOr s) (one-mul (2 ^ n)))
-    ∙ member-or s (oneSet n) d ∙ ap (λ (b : Bool). member s d || b) (member-one n d)
-digit-member n s false d h = ap (λ (x : ℕ). member x d) (ap (λ (x : ℕ). s + x) (zero-mul (2 ^ n)) ∙ add-zero s) ∙ or-false (member s d)
+digit-has : (n s : ℕ) (v : Bool) (d : ℕ) → s < 2 ^ n → has (s + digit v * 2 ^ n) d ≡ (has s d || (v && eqb d n))
+digit-has n s true d h =
+    ap (λ (x : ℕ). has x d) (add-comm s (1 * 2 ^ n) ∙ sym (or-shifted-r 1 n s h) ∙ ap (bitOr s) (one-mul (2 ^ n)))
+    ∙ has-or s (oneSet n) d ∙ ap (λ (b : Bool). has s d || b) (has-one n d)
+digit-has n s false d h = ap (λ (x : ℕ). has x d) (ap (λ (x : ℕ). s + x) (zero-mul (2 ^ n)) ∙ add-zero s) ∙ or-false (has s d)
 
 ones-zero : ones 0 ≡ 0
 ones-zero = omega (arith, ones-le 0 0 (omega arith))
@@ -75,11 +75,11 @@ below-more b n d = go (same? d n)
         let q : ltb d n ≡ ltb d (suc n) = iff-eq (ltb d n) (ltb d (suc n)) (λ y. let l : d < n = ltb-lt d n y in ltb-yes d (suc n) (omega arith)) (λ y. let l : d < suc n = ltb-lt d (suc n) y in ltb-yes d n (omega (arith, ne))) in
         rw (eqb-ne d n ne) (other (ltb d n && b d) (b n) ∙ ap (λ (x : Bool). x && b d) q)
 
-pub member-binary : (b : ℕ → Bool) (n d : ℕ) → member (binary b n) d ≡ (ltb d n && b d)
+pub has-binary : (b : ℕ → Bool) (n d : ℕ) → has (binary b n) d ≡ (ltb d n && b d)
 unfolding sumOf
-member-binary b zero d = member-none d ∙ sym (ap (λ (x : Bool). x && b d) (ltb-no d 0 (omega arith)))
-member-binary b (suc n) d =
-    digit-member n (binary b n) (b n) d (binary-lt b n) ∙ ap (λ (x : Bool). x || (b n && eqb d n)) (member-binary b n d) ∙ below-more b n d
+has-binary b zero d = has-none d ∙ sym (ap (λ (x : Bool). x && b d) (ltb-no d 0 (omega arith)))
+has-binary b (suc n) d =
+    digit-has n (binary b n) (b n) d (binary-lt b n) ∙ ap (λ (x : Bool). x || (b n && eqb d n)) (has-binary b n d) ∙ below-more b n d
 
 ones-binary : (b : ℕ → Bool) (n : ℕ) → ones (binary b n) ≡ countOf b n
 unfolding sumOf
@@ -87,29 +87,29 @@ ones-binary b zero = ones-zero
 ones-binary b (suc n) = digit-ones n (binary b n) (b n) (binary-lt b n) ∙ ap (λ (x : ℕ). x + digit (b n)) (ones-binary b n)
 
 -- a number is the number of its bits, and has as many ones as there are of them
-binary-member : (k x : ℕ) → x < 2 ^ k → x ≡ binary (member x) k
-binary-member k x h = same-set k x (binary (member x) k) h (binary-lt (member x) k) (λ d. go d (which (ltb d k)) ∙ sym (member-binary (member x) k d))
+binary-has : (k x : ℕ) → x < 2 ^ k → x ≡ binary (has x) k
+binary-has k x h = same-set k x (binary (has x) k) h (binary-lt (has x) k) (λ d. go d (which (ltb d k)) ∙ sym (has-binary (has x) k d))
   where
-    go : (d : ℕ) → (ltb d k ≡ true) ⊎ (ltb d k ≡ false) → member x d ≡ (ltb d k && member x d)
+    go : (d : ℕ) → (ltb d k ≡ true) ⊎ (ltb d k ≡ false) → has x d ≡ (ltb d k && has x d)
     go d (inl y) = rw y
-    go d (inr y) = rw y (member-high k x d h (ltb-le d k y))
+    go d (inr y) = rw y (has-high k x d h (ltb-le d k y))
 
-pub ones-member : (k x : ℕ) → x < 2 ^ k → ones x ≡ countOf (member x) k
-ones-member k x h = ap ones (binary-member k x h) ∙ ones-binary (member x) k
+pub ones-has : (k x : ℕ) → x < 2 ^ k → ones x ≡ countOf (has x) k
+ones-has k x h = ap ones (binary-has k x h) ∙ ones-binary (has x) k
 
 -- the bits of byte i
-pub bit-at : (t : List ℕ) (i j : ℕ) → j < 8 → bit t (i * 8 + j) ≡ member (getD t i 0) j
-unfolding bit member
+pub bit-at : (t : List ℕ) (i j : ℕ) → j < 8 → bit t (i * 8 + j) ≡ has (getD t i 0) j
+unfolding bit has
 bit-at t i j l =
     let q : (i * 8 + j) / 8 ≡ i = omega arith in
     let r : (i * 8 + j) % 8 ≡ j = omega arith in
     rw (q, r)
 
-bit-first : (x : ℕ) (xs : List ℕ) (e : ℕ) → e < 8 → bit (x ∷ xs) e ≡ member x e
+bit-first : (x : ℕ) (xs : List ℕ) (e : ℕ) → e < 8 → bit (x ∷ xs) e ≡ has x e
 bit-first x xs e l = let q : 0 * 8 + e ≡ e = omega arith in sym (ap (bit (x ∷ xs)) q) ∙ bit-at (x ∷ xs) 0 e l
 
 bit-rest : (x : ℕ) (xs : List ℕ) (e : ℕ) → bit (x ∷ xs) (8 + e) ≡ bit xs e
-unfolding bit member
+unfolding bit has
 bit-rest x xs e =
     let q : (8 + e) / 8 ≡ suc (e / 8) = omega arith in
     let r : (8 + e) % 8 ≡ e % 8 = omega arith in
@@ -122,6 +122,6 @@ ones-bits [] b = refl
 ones-bits (x ∷ xs) b =
     let e : suc (length xs) * 8 ≡ 8 + length xs * 8 = omega arith in
     ap₂ _+_
-    (ones-member 8 x (b 0) ∙ count-same (member x) (bit (x ∷ xs)) 8 (λ i l. sym (bit-first x xs i l)))
+    (ones-has 8 x (b 0) ∙ count-same (has x) (bit (x ∷ xs)) 8 (λ i l. sym (bit-first x xs i l)))
     (ones-bits xs (λ i. b (suc i)) ∙ count-same (bit xs) (λ i. bit (x ∷ xs) (8 + i)) (length xs * 8) (λ i l. sym (bit-rest x xs i)))
     ∙ sym (sum-split (λ i. digit (bit (x ∷ xs) i)) 8 (length xs * 8)) ∙ ap (countOf (bit (x ∷ xs))) (sym e)

@@ -10,15 +10,15 @@ use lib.ListN.{length, getD, take, drop, List·getD-eq-default}
 use lib.Seq.{ext-getD, getD-take, length-take-le}
 use lib.Dec.{ltb}
 use Rattle.strategy.specs.Bools.{which, ltb-yes, ltb-no, ltb-lt, ltb-le}
-use Rattle.sets.specs.Set.{member}
-use Rattle.sets.specs.SetLaws.{member-none, same-set}
+use Rattle.sets.specs.Set.{has}
+use Rattle.sets.specs.SetLaws.{has-none, same-set}
 use Rattle.bitmaps.specs.Sums.{sumOf, joined, digit, countOf}
 use Rattle.bitmaps.specs.SumLaws.{sum-below, sum-same, count-same, joined-length, joined-line, listed-length, listed-at}
 use Rattle.bitmaps.specs.Bitmap.{bytesFor, binary, bitmap, bitmaps, onesIn}
 use Rattle.bitmaps.specs.OnesLaws.{ones-joined}
 use Rattle.fields.specs.Numbers.{Bytes}
 use Rattle.bitmaps.specs.Bit.{bit}
-use Rattle.bitmaps.specs.BitLaws.{member-high, binary-lt, member-binary, bit-at, ones-bits}
+use Rattle.bitmaps.specs.BitLaws.{has-high, binary-lt, has-binary, bit-at, ones-bits}
 
 -- how many of the first `rows` hold, counted up to any bound beyond
 pub count-inside : (f : ℕ → Bool) (rows m : ℕ) → rows ≤ m → countOf (λ e. ltb e rows && f e) m ≡ countOf f rows
@@ -50,19 +50,19 @@ module _ (f : ℕ → Bool) (rows : ℕ) where
 
   -- the row rule: bit e is f e for e below `rows`, every other bit is zero
   pub bitmap-bit : (e : ℕ) → bit (bitmap f rows) e ≡ (ltb e rows && f e)
-  unfolding bit member
+  unfolding bit has
   bitmap-bit e = go (which (ltb (e / 8) (bytesFor rows)))
     where
-      go : (ltb (e / 8) (bytesFor rows) ≡ true) ⊎ (ltb (e / 8) (bytesFor rows) ≡ false) → member (getD (bitmap f rows) (e / 8) 0) (e % 8) ≡ (ltb e rows && f e)
+      go : (ltb (e / 8) (bytesFor rows) ≡ true) ⊎ (ltb (e / 8) (bytesFor rows) ≡ false) → has (getD (bitmap f rows) (e / 8) 0) (e % 8) ≡ (ltb e rows && f e)
       go (inl y) =
           let place : e / 8 * 8 + e % 8 ≡ e = omega arith in
-          ap (λ (x : ℕ). member x (e % 8)) (byte-at (e / 8) (ltb-lt (e / 8) (bytesFor rows) y))
-          ∙ member-binary (λ j. ltb (e / 8 * 8 + j) rows && f (e / 8 * 8 + j)) 8 (e % 8)
+          ap (λ (x : ℕ). has x (e % 8)) (byte-at (e / 8) (ltb-lt (e / 8) (bytesFor rows) y))
+          ∙ has-binary (λ j. ltb (e / 8 * 8 + j) rows && f (e / 8 * 8 + j)) 8 (e % 8)
           ∙ ap (λ (b : Bool). b && (ltb (e / 8 * 8 + e % 8) rows && f (e / 8 * 8 + e % 8))) (ltb-yes (e % 8) 8 (mod-lt e (omega arith)))
           ∙ ap (λ (x : ℕ). ltb x rows && f x) place
       go (inr y) =
           let far : rows ≤ e = omega (arith, ltb-le (e / 8) (bytesFor rows) y) in
-          ap (λ (x : ℕ). member x (e % 8)) (beyond (e / 8) (ltb-le (e / 8) (bytesFor rows) y)) ∙ member-none (e % 8)
+          ap (λ (x : ℕ). has x (e % 8)) (beyond (e / 8) (ltb-le (e / 8) (bytesFor rows) y)) ∙ has-none (e % 8)
           ∙ sym (ap (λ (b : Bool). b && f e) (ltb-no e rows far))
 
   -- the front of any table of bytes with these bits
@@ -70,13 +70,13 @@ module _ (f : ℕ → Bool) (rows : ℕ) where
       → take (bytesFor rows) t ≡ bitmap f rows
   bits-bitmap t l b s = ext-getD 0 (take (bytesFor rows) t) (bitmap f rows) (length-take-le (bytesFor rows) t l ∙ sym bitmap-length) (λ i k. at i (omega (arith, length-take-le (bytesFor rows) t l)))
     where
-      bits : (i d : ℕ) → i < bytesFor rows → (ltb d 8 ≡ true) ⊎ (ltb d 8 ≡ false) → member (getD t i 0) d ≡ member (getD (bitmap f rows) i 0) d
+      bits : (i d : ℕ) → i < bytesFor rows → (ltb d 8 ≡ true) ⊎ (ltb d 8 ≡ false) → has (getD t i 0) d ≡ has (getD (bitmap f rows) i 0) d
       bits i d k (inl y) =
           let m : d < 8 = ltb-lt d 8 y in
           sym (bit-at t i d m) ∙ s (i * 8 + d) (omega arith) ∙ sym (bitmap-bit (i * 8 + d)) ∙ bit-at (bitmap f rows) i d m
       bits i d k (inr y) =
           let m : 8 ≤ d = ltb-le d 8 y in
-          member-high 8 (getD t i 0) d (b i) m ∙ sym (member-high 8 (getD (bitmap f rows) i 0) d (bitmap-bytes i) m)
+          has-high 8 (getD t i 0) d (b i) m ∙ sym (has-high 8 (getD (bitmap f rows) i 0) d (bitmap-bytes i) m)
 
       at : (i : ℕ) → i < bytesFor rows → getD (take (bytesFor rows) t) i 0 ≡ getD (bitmap f rows) i 0
       at i k = getD-take (bytesFor rows) t i 0 k ∙ same-set 8 (getD t i 0) (getD (bitmap f rows) i 0) (b i) (bitmap-bytes i) (λ d. bits i d k (which (ltb d 8)))

@@ -21,7 +21,7 @@ unfoldable pub linesOf : (size : ℕ) → List ℕ → (n : ℕ) → List ℕ
 linesOf size table n = joined (λ c. take size (drop (c * lineSize) table)) n
 
 -- a table of so many lines, whose bit e of line c is f c e
-pub record Holds (f : ℕ → ℕ → Bool) (lines : ℕ) (table : List ℕ) : Type 0 where
+pub record HoldsBits (f : ℕ → ℕ → Bool) (lines : ℕ) (table : List ℕ) : Type 0 where
   pub size : length table ≡ lines * lineSize
   pub bytes : Bytes table
   pub bits : (c e : ℕ) → c < lines → e < lineBits → bit table (c * lineBits + e) ≡ f c e

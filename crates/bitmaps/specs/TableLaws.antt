@@ -9,13 +9,13 @@ use lib.ListN.{getD, take, drop, replicate, length-replicate, getD-replicate, le
 use lib.Seq.{getD-drop}
 use lib.Dec.{ltb}
 use Rattle.strategy.specs.Bools.{which, ltb-yes, ltb-lt, ltb-le}
-use Rattle.sets.specs.Set.{member}
-use Rattle.sets.specs.SetLaws.{member-none}
+use Rattle.sets.specs.Set.{has}
+use Rattle.sets.specs.SetLaws.{has-none}
 use Rattle.bitmaps.specs.SumLaws.{joined-same}
 use Rattle.bitmaps.specs.Bitmap.{bytesFor, bitmap, bitmaps}
 use Rattle.bitmaps.specs.Bit.{bit}
 use Rattle.bitmaps.specs.BitmapLaws.{bits-bitmap, bitmaps-one}
-use Rattle.bitmaps.specs.Table.{lineSize, lineBits, linesOf, Holds, within}
+use Rattle.bitmaps.specs.Table.{lineSize, lineBits, linesOf, HoldsBits, within}
 
 pub zeros : (n i : ℕ) → _≡_ {A = ℕ} (getD (replicate n 0) i 0) 0
 zeros n i = go (which (ltb i n))
@@ -24,25 +24,25 @@ zeros n i = go (which (ltb i n))
     go (inl y) = getD-replicate n i 0 0 (ltb-lt i n y)
     go (inr y) = List·getD-eq-default (replicate n 0) 0 (omega (arith, length-replicate {A = ℕ} n 0, ltb-le i n y))
 
-pub holds-none : (lines : ℕ) → Holds (λ c e. false) lines (replicate (lines * lineSize) 0)
-unfolding bit member
+pub holds-none : (lines : ℕ) → HoldsBits (λ c e. false) lines (replicate (lines * lineSize) 0)
+unfolding bit has
 holds-none lines = record {
   size = length-replicate (lines * lineSize) 0;
   bytes = λ i. rw (zeros (lines * lineSize) i) (omega arith);
-  bits = λ c e l k. ap (λ (x : ℕ). member x ((c * lineBits + e) % 8)) (zeros (lines * lineSize) ((c * lineBits + e) / 8)) ∙ member-none ((c * lineBits + e) % 8);
+  bits = λ c e l k. ap (λ (x : ℕ). has x ((c * lineBits + e) % 8)) (zeros (lines * lineSize) ((c * lineBits + e) / 8)) ∙ has-none ((c * lineBits + e) % 8);
 }
 
-pub holds-same : {f g : ℕ → ℕ → Bool} {lines : ℕ} {t : List ℕ} → ((c e : ℕ) → c < lines → e < lineBits → f c e ≡ g c e) → Holds f lines t → Holds g lines t
+pub holds-same : {f g : ℕ → ℕ → Bool} {lines : ℕ} {t : List ℕ} → ((c e : ℕ) → c < lines → e < lineBits → f c e ≡ g c e) → HoldsBits f lines t → HoldsBits g lines t
 holds-same s h = record { size = h .size; bytes = h .bytes; bits = λ c e l k. h .bits c e l k ∙ s c e l k }
 
 line-bit : (t : List ℕ) (c e : ℕ) → bit (drop (c * lineSize) t) e ≡ bit t (c * lineBits + e)
-unfolding bit member
+unfolding bit has
 line-bit t c e =
     let q : (c * lineBits + e) / 8 ≡ c * lineSize + e / 8 = omega arith in
     let r : (c * lineBits + e) % 8 ≡ e % 8 = omega arith in
-    rw (q, r) (ap (λ (x : ℕ). member x (e % 8)) (getD-drop (c * lineSize) t (e / 8) 0))
+    rw (q, r) (ap (λ (x : ℕ). has x (e % 8)) (getD-drop (c * lineSize) t (e / 8) 0))
 
-module _ (f : ℕ → ℕ → Bool) (n rows lines : ℕ) (t : List ℕ) (fits : n ≤ lines) (short : rows ≤ lineBits) (h : Holds (within f n rows) lines t) where
+module _ (f : ℕ → ℕ → Bool) (n rows lines : ℕ) (t : List ℕ) (fits : n ≤ lines) (short : rows ≤ lineBits) (h : HoldsBits (within f n rows) lines t) where
   in-line : (c e : ℕ) → c < n → e < lineBits → bit t (c * lineBits + e) ≡ (ltb e rows && f c e)
   in-line c e l k = h .bits c e (omega arith) k ∙ ap (λ (b : Bool). b && (ltb e rows && f c e)) (ltb-yes c n l)
 
@@ -59,6 +59,6 @@ module _ (f : ℕ → ℕ → Bool) (n rows lines : ℕ) (t : List ℕ) (fits : 
   holds-bitmaps = joined-same (λ c. take (bytesFor rows) (drop (c * lineSize) t)) (λ c. bitmap (f c) rows) n holds-line
 
 -- a table of one line
-module _ (f : ℕ → Bool) (rows : ℕ) (t : List ℕ) (short : rows ≤ lineBits) (h : Holds (within (λ c. f) 1 rows) 1 t) where
+module _ (f : ℕ → Bool) (rows : ℕ) (t : List ℕ) (short : rows ≤ lineBits) (h : HoldsBits (within (λ c. f) 1 rows) 1 t) where
   pub holds-bitmap : linesOf (bytesFor rows) t 1 ≡ bitmap f rows
   holds-bitmap = holds-bitmaps (λ c. f) 1 rows 1 t (omega arith) short h ∙ bitmaps-one f rows

@@ -5,7 +5,7 @@ use mathlib.Core.Logic.{_⊎_}
 use mathlib.Core.List.{List}
 use lib.ListN.{length}
 use Rattle.fields.specs.Numbers.{Bytes}
-use Rattle.sets.specs.Set.{member, belowSet}
+use Rattle.sets.specs.Set.{has, belowSet}
 use Rattle.bitmaps.specs.Bit.{bit}
 
 abbrev pub blockRows : ℕ
@@ -19,7 +19,7 @@ wordSize = 8
 pub record WordPut (old : List ℕ) (at x : ℕ) (new : List ℕ) : Type 0 where
   pub size : length new ≡ length old
   pub bytes : Bytes old → Bytes new
-  pub here : (d : ℕ) → d < blockRows → bit new (at * 8 + d) ≡ member x d
+  pub here : (d : ℕ) → d < blockRows → bit new (at * 8 + d) ≡ has x d
   pub elsewhere : (j : ℕ) → (j < at * 8) ⊎ (at * 8 + blockRows ≤ j) → bit new j ≡ bit old j
 
 -- the rows of a block at which so many are left: all of it, or the first ones

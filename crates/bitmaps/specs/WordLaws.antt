@@ -8,23 +8,23 @@ use lib.Dec.{eqb, ltb}
 use lib.Pow.{pow-add, shr-shr}
 use lib.Bits.{and-mask}
 use Rattle.strategy.specs.Bools.{iff-eq, ltb-yes, ltb-lt}
-use Rattle.sets.specs.Set.{member, belowSet}
-use Rattle.sets.specs.SetLaws.{member-and, member-below}
+use Rattle.sets.specs.Set.{has, belowSet}
+use Rattle.sets.specs.SetLaws.{has-and, has-below}
 use Rattle.bitmaps.specs.Word.{blockRows, rowsSet}
 
 -- the bits below k, and those from k on
-member-low : (x k d : ℕ) → d < k → member (x % 2 ^ k) d ≡ member x d
-member-low x k d h =
-    ap (λ (z : ℕ). member z d) (sym (and-mask x k)) ∙ member-and x (belowSet k) d
-    ∙ ap (λ (b : Bool). member x d && b) (member-below k d ∙ ltb-yes d k h) ∙ last (member x d)
+has-low : (x k d : ℕ) → d < k → has (x % 2 ^ k) d ≡ has x d
+has-low x k d h =
+    ap (λ (z : ℕ). has z d) (sym (and-mask x k)) ∙ has-and x (belowSet k) d
+    ∙ ap (λ (b : Bool). has x d && b) (has-below k d ∙ ltb-yes d k h) ∙ last (has x d)
   where
     last : (b : Bool) → (b && true) ≡ b
     last true = refl
     last false = refl
 
-member-from : (x k d : ℕ) → member (x / 2 ^ k) d ≡ member x (k + d)
-unfolding member
-member-from x k d = ap (λ (z : ℕ). eqb (z % 2) 1) (shr-shr x k d)
+has-from : (x k d : ℕ) → has (x / 2 ^ k) d ≡ has x (k + d)
+unfolding has
+has-from x k d = ap (λ (z : ℕ). eqb (z % 2) 1) (shr-shr x k d)
 
 bits-of-bytes : (k : ℕ) → 256 ^ k ≡ 2 ^ (8 * k)
 bits-of-bytes zero = refl
@@ -35,15 +35,15 @@ bits-of-bytes (suc k) =
     rw (z, g) (omega arith)
 
 -- bit d of a number is bit d % 8 of its byte d / 8
-pub byte-member : (x d : ℕ) → member (x / 256 ^ (d / 8) % 256) (d % 8) ≡ member x d
-byte-member x d =
+pub byte-has : (x d : ℕ) → has (x / 256 ^ (d / 8) % 256) (d % 8) ≡ has x d
+byte-has x d =
     let z : 8 * (d / 8) + d % 8 ≡ d = omega arith in
-    member-low (x / 256 ^ (d / 8)) 8 (d % 8) (mod-lt d (omega arith))
-    ∙ ap (λ (y : ℕ). member (x / y) (d % 8)) (bits-of-bytes (d / 8)) ∙ member-from x (8 * (d / 8)) (d % 8) ∙ ap (member x) z
+    has-low (x / 256 ^ (d / 8)) 8 (d % 8) (mod-lt d (omega arith))
+    ∙ ap (λ (y : ℕ). has (x / y) (d % 8)) (bits-of-bytes (d / 8)) ∙ has-from x (8 * (d / 8)) (d % 8) ∙ ap (has x) z
 
-pub rows-member : (left d : ℕ) → d < blockRows → member (rowsSet left) d ≡ ltb d left
-rows-member left d h =
-    member-below (min blockRows left) d
+pub rows-has : (left d : ℕ) → d < blockRows → has (rowsSet left) d ≡ ltb d left
+rows-has left d h =
+    has-below (min blockRows left) d
     ∙ iff-eq (ltb d (min blockRows left)) (ltb d left)
     (λ y. let l : d < min blockRows left = ltb-lt d (min blockRows left) y in ltb-yes d left (omega arith))
     (λ y. let l : d < left = ltb-lt d left y in ltb-yes d (min blockRows left) (omega arith))

@@ -20,29 +20,29 @@ fn take_out(live: &mut [u64], a: usize, e: usize, gone: u64) -> u64
 }
 
 // The active rows at which the outcome settles the group.
-fn settled_rows(absorbing: bool, active: u64, met: u64) -> u64
-    ensures { λ r. ⌜ SettledRows absorbing active met r ⌝ }
+fn settled_rows(settling: bool, active: u64, met: u64) -> u64
+    ensures { λ r. ⌜ SettledRows settling active met r ⌝ }
 {
-    if absorbing {
+    if settling {
         return active & met;
     }
     sets::minus(active, met)
 }
 
-// Outward through the group of the predicates from a up to e; the rows at which the climb goes on: the active ones at which
+// Outward through the group of the predicates from a up to e; the rows at which the propagation goes on: the active ones at which
 // nothing of the group is live any more, as where the outcome settles it.
 pub fn pass_group(
     live: &mut [u64],
     a: usize,
     e: usize,
-    absorbing: bool,
+    settling: bool,
     active: u64,
     met: u64,
 ) -> u64
     requires { ⌜ (a ≤ e) × (e ≤ length (now live)) ⌝ }
-    ensures { λ r. ⌜ Passed (record { absorbing = absorbing; first = a; count = e - a }) met active r (now (live .entry)) (now (live .exit)) ⌝ }
+    ensures { λ r. ⌜ Passed (record { settling = settling; first = a; count = e - a }) met active r (now (live .entry)) (now (live .exit)) ⌝ }
 {
-    let settled = settled_rows(absorbing, active, met);
+    let settled = settled_rows(settling, active, met);
     let left = take_out(live, a, e, settled);
     sets::minus(active, left)
 }

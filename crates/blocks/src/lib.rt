@@ -1,3 +1,3 @@
 // A probe at 64 rows at once: a word for each predicate, a bit for each row.
-pub mod climb;
 pub mod group;
+pub mod propagation;

@@ -18,12 +18,12 @@ use Rattle.strategy.specs.Tree.{eval}
 use Rattle.strategy.specs.Order.{occurrences, allBelow, isOrder}
 use Rattle.bitmaps.specs.Sums.{sumOf, joined}
 use Rattle.bitmaps.specs.Bitmap.{bitmap, bitmaps, onesIn}
-use Rattle.run.specs.Run.{isSelected, traceAt}
+use Rattle.rows.specs.Task.{isSelected, traceAt}
 use Rattle.input.specs.Input.{decodeInput}
 use Rattle.answers.specs.Checks.{checked}
-use Rattle.demands.specs.Run.{selection, probes, runOn, runOf}
+use Rattle.demands.specs.Run.{selection, probeBitmaps, runOn, runOf}
 use Rattle.bitmaps.specs.Bit.{bit}
-use Rattle.sets.specs.Set as sets
+use Rattle.sets.specs.Set.{has}
 use Rattle.lines.specs.Decimal.{digits, decimal}
 use Rattle.lines.specs.Line.{line}
 use Rattle.register.specs.Register.{header, entries, conditionLine, conditions, accepted}
@@ -39,5 +39,5 @@ parish-register : consultationOf parish question (0 ∷ 1 ∷ 2 ∷ [])
     ++ (99 ∷ 111 ∷ 110 ∷ 100 ∷ 105 ∷ 116 ∷ 105 ∷ 111 ∷ 110 ∷ 32 ∷ 48 ∷ 32 ∷ 51 ∷ 10 ∷ [])
     ++ (99 ∷ 111 ∷ 110 ∷ 100 ∷ 105 ∷ 116 ∷ 105 ∷ 111 ∷ 110 ∷ 32 ∷ 49 ∷ 32 ∷ 49 ∷ 10 ∷ [])
     ++ (99 ∷ 111 ∷ 110 ∷ 100 ∷ 105 ∷ 116 ∷ 105 ∷ 111 ∷ 110 ∷ 32 ∷ 50 ∷ 32 ∷ 50 ∷ 10 ∷ [])
-unfolding numberAt bytesOf headerAt textAt textsAt zerosAt validSlot validSlots numbersAt countsAt firstFieldOf columnOf columnsAt decodeCatalogue folded same begins occurs plainKind numberTest textTest outcomeOf tagsIn kindFits rangeFits operandFits validPayload payloadAt isRepeated predicateField groupField memberField decodeTagged decodeQuery member update elem predicates decides someOutcomes due trace eval occurrences allBelow isOrder sumOf joined bitmap bitmaps onesIn isSelected traceAt decodeInput selection probes checked runOn runOf ones digitOnes xor bit sets.member digits decimal line entries conditionLine conditions accepted
+unfolding numberAt bytesOf headerAt textAt textsAt zerosAt validSlot validSlots numbersAt countsAt firstFieldOf columnOf columnsAt decodeCatalogue folded same begins occurs plainKind numberTest textTest outcomeOf tagsIn kindFits rangeFits operandFits validPayload payloadAt isRepeated predicateField groupField memberField decodeTagged decodeQuery member update elem predicates decides someOutcomes due trace eval occurrences allBelow isOrder sumOf joined bitmap bitmaps onesIn isSelected traceAt decodeInput selection probeBitmaps checked runOn runOf ones digitOnes xor bit has digits decimal line entries conditionLine conditions accepted
 parish-register = refl

@@ -28,12 +28,12 @@ use Rattle.strategy.specs.Tree.{eval}
 use Rattle.strategy.specs.Order.{occurrences, allBelow, isOrder}
 use Rattle.bitmaps.specs.Sums.{sumOf, joined}
 use Rattle.bitmaps.specs.Bitmap.{bytesFor, bitmap, bitmaps, onesIn}
-use Rattle.run.specs.Run.{isSelected, traceAt}
+use Rattle.rows.specs.Task.{isSelected, traceAt}
 use Rattle.input.specs.Input.{Input, withQuery, decodeInput}
 use Rattle.answers.specs.Checks.{checked}
 use Rattle.answers.specs.declared.word.Answer.the-variants.{Accepted}
 use Rattle.answers.specs.Word.{packed}
-use Rattle.demands.specs.Run.{lent, ran, rowCount, predicateCount, taskOf, selection, probes, tablesFit, counterSize, counterAfter, counterFits, runOn, runOf}
+use Rattle.demands.specs.Run.{lent, ran, rowCount, predicateCount, taskOf, selection, probeBitmaps, tablesFit, counterSize, counterAfter, counterFits, runOn, runOf}
 use Rattle.demands.specs.Parish.{nested}
 use Rattle.demands.specs.Cases.{Holds, findsNothing, noRows, cases, AllHold}
 
@@ -69,8 +69,8 @@ module _ (i : Input) (b q order listed looks tally : List ℕ) (z : rowCount i �
   unfolding selection
   no-selection = rw (z, no-rows)
 
-  no-probes : probes (taskOf i order) ≡ []
-  unfolding probes
+  no-probes : probeBitmaps (taskOf i order) ≡ []
+  unfolding probeBitmaps
   no-probes = rw (z, no-lines)
 
   tables-fit : tablesFit (predicateCount i) (bytesFor (rowCount i)) (length listed) (length looks) ≡ true
@@ -92,5 +92,5 @@ finds-nothing q order listed looks tally i e o bytes n =
     rw e (no-rows-run i noRows q order listed looks tally z o bytes n)
 
 pub cases-hold : AllHold cases
-unfolding numberAt bytesOf headerAt textAt textsAt zerosAt validSlot validSlots numbersAt countsAt firstFieldOf columnOf columnsAt decodeCatalogue folded same begins occurs plainKind numberTest textTest outcomeOf tagsIn kindFits rangeFits operandFits validPayload payloadAt isRepeated predicateField groupField memberField decodeTagged decodeQuery member update elem predicates decides someOutcomes due trace eval occurrences allBelow isOrder sumOf joined bitmap bitmaps onesIn isSelected traceAt decodeInput selection probes checked runOn runOf nested ones digitOnes xor
+unfolding numberAt bytesOf headerAt textAt textsAt zerosAt validSlot validSlots numbersAt countsAt firstFieldOf columnOf columnsAt decodeCatalogue folded same begins occurs plainKind numberTest textTest outcomeOf tagsIn kindFits rangeFits operandFits validPayload payloadAt isRepeated predicateField groupField memberField decodeTagged decodeQuery member update elem predicates decides someOutcomes due trace eval occurrences allBelow isOrder sumOf joined bitmap bitmaps onesIn isSelected traceAt decodeInput selection probeBitmaps checked runOn runOf nested ones digitOnes xor
 cases-hold = (refl, (refl, (refl, (refl, (refl, (refl, (refl, (refl, (refl, (refl, (refl, (refl, (refl, (refl, (refl, (refl, (finds-nothing, (refl, (refl, (refl, (refl, tt)))))))))))))))))))))

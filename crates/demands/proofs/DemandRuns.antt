@@ -11,7 +11,7 @@ use Rattle.fields.specs.Numbers.{numberAt}
 use Rattle.strategy.specs.Bools.{not-true, both, and-parts, clash, eqb-eq, eqb-self, leb-yes, leb-le, ltb-yes, ltb-lt}
 use Rattle.strategy.specs.Order.{isOrder}
 use Rattle.bitmaps.specs.Bitmap.{bytesFor}
-use Rattle.run.specs.Run.{isSelected}
+use Rattle.rows.specs.Task.{isSelected}
 use Rattle.input.specs.Input.{Input}
 use Rattle.answers.specs.declared.word.Answer.the-variants.{Refused, Accepted}
 use Rattle.answers.specs.Refusals.{notOrder, tableTooShort, counterRefused}

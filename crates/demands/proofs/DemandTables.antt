@@ -23,9 +23,9 @@ use Rattle.fields.specs.Output.{putFront}
 use Rattle.bitmaps.specs.Bitmap.{bytesFor, bitmap}
 use Rattle.bitmaps.specs.Bit.{bit}
 use Rattle.bitmaps.specs.BitmapLaws.{bitmap-length, bitmap-bytes, bitmap-bit, bitmap-ones, bitmaps-length, bitmaps-line, bitmaps-ones}
-use Rattle.run.specs.Run.{isSelected, traceAt, isProbed}
+use Rattle.rows.specs.Task.{isSelected, traceAt, isProbed}
 use Rattle.input.specs.Input.{Input}
-use Rattle.demands.specs.Run.{rowCount, predicateCount, taskOf, selection, probes, foundCount, lookCount}
+use Rattle.demands.specs.Run.{rowCount, predicateCount, taskOf, selection, probeBitmaps, foundCount, lookCount}
 use Rattle.demands.specs.Demands.{RunningOrder, pattern, treeValue, LookDue, LineOf, listedLine, looksLine}
 
 -- SUMS
@@ -181,7 +181,7 @@ module _ (i : Input) (order : List ℕ) where
   found-count = bitmap-ones (isSelected (taskOf i order)) (rowCount i)
 
   pub look-count : lookCount (taskOf i order) ≡ sumOf (λ c. countOf (isProbed (taskOf i order) c) (rowCount i)) (predicateCount i)
-  unfolding probes
+  unfolding probeBitmaps
   look-count = bitmaps-ones (isProbed (taskOf i order)) (predicateCount i) (rowCount i)
 
   pub look-count-le : (m : ℕ) → rowCount i ≤ m → lookCount (taskOf i order) ≤ predicateCount i * m
@@ -208,13 +208,13 @@ module _ (i : Input) (order : List ℕ) where
   unfolding selection
   listed-line listed = front-new (selection (taskOf i order)) listed (bytesFor (rowCount i)) selection-length
 
-  pub probes-length : length (probes (taskOf i order)) ≡ predicateCount i * bytesFor (rowCount i)
-  unfolding probes
-  probes-length = bitmaps-length (isProbed (taskOf i order)) (predicateCount i) (rowCount i)
+  pub probeBitmaps-length : length (probeBitmaps (taskOf i order)) ≡ predicateCount i * bytesFor (rowCount i)
+  unfolding probeBitmaps
+  probeBitmaps-length = bitmaps-length (isProbed (taskOf i order)) (predicateCount i) (rowCount i)
 
   pub looks-line : (looks : List ℕ) (c : ℕ) → c < predicateCount i
-      → looksLine i (putFront (probes (taskOf i order)) looks) c ≡ bitmap (isProbed (taskOf i order) c) (rowCount i)
-  unfolding probes
+      → looksLine i (putFront (probeBitmaps (taskOf i order)) looks) c ≡ bitmap (isProbed (taskOf i order) c) (rowCount i)
+  unfolding probeBitmaps
   looks-line looks c l =
-      front-line (probes (taskOf i order)) looks (bytesFor (rowCount i)) (predicateCount i) c probes-length l
+      front-line (probeBitmaps (taskOf i order)) looks (bytesFor (rowCount i)) (predicateCount i) c probeBitmaps-length l
       ∙ bitmaps-line (isProbed (taskOf i order)) (predicateCount i) (rowCount i) c l

@@ -22,8 +22,8 @@ use Rattle.query.proofs.ValidLaws.{valid-passes, passes-valid}
 use Rattle.query.proofs.EncodedBytes.{query-bytes}
 use Rattle.query.proofs.Exactly as question
 use Rattle.query.proofs.Refusals.{query-refusal}
-use Rattle.predicate.specs.declared.answer.Answer.{Answer as Outcome}
-use Rattle.predicate.specs.declared.answer.Answer.the-variants.{No, Yes}
+use Rattle.predicate.specs.declared.outcome.Outcome.{Outcome}
+use Rattle.predicate.specs.declared.outcome.Outcome.the-variants.{No, Yes}
 use Rattle.predicate.specs.Meaning.{Predicate, outcome}
 use Rattle.predicate.specs.Payload.{tagsOf, validPayload, predicateOf}
 use Rattle.strategy.specs.Bools.{not-true, and-parts, ltb-yes, ltb-lt}
@@ -31,7 +31,7 @@ use Rattle.strategy.specs.Assignment.{Assignment, Among}
 use Rattle.strategy.specs.Tree.{eval, size}
 use Rattle.strategy.specs.TreeLaws.{all-none, all-more, any-none, any-more}
 use Rattle.strategy.specs.Order.{isOrder}
-use Rattle.strategy.specs.Strategy.{Strategy, State, Right, run, predicates, probes as probesOf}
+use Rattle.strategy.specs.Strategy.{Strategy, State, Right, finalState, predicates, probes}
 use Rattle.strategy.specs.Trace.{trace}
 use Rattle.strategy.specs.Ours.{ours}
 use Rattle.strategy.specs.Optimality.{optimal, optimal-count}
@@ -39,17 +39,17 @@ use Rattle.strategy.specs.QueryLaws.{query-ours, query-right}
 use Rattle.bitmaps.specs.Sums.{sumOf, countOf}
 use Rattle.bitmaps.specs.SumLaws.{sum-same}
 use Rattle.bitmaps.specs.Bit.{bit}
-use Rattle.run.specs.Run.{predicateAt, isSelected, isProbed}
+use Rattle.rows.specs.Task.{predicateAt, isSelected, isProbed}
 use Rattle.input.specs.Input.{Input}
 use Rattle.answers.specs.declared.word.Answer.the-variants.{Refused, Accepted}
-use Rattle.answers.specs.Refusals.{noSuchPlace}
+use Rattle.answers.specs.Refusals.{noSuchRowOrPredicate}
 use Rattle.answers.specs.Answers.{outcomeNumber}
-use Rattle.demands.specs.Run.{rowCount, predicateCount, taskOf, selection, probes, foundCount, lookCount}
+use Rattle.demands.specs.Run.{rowCount, predicateCount, taskOf, selection, probeBitmaps, foundCount, lookCount}
 use Rattle.demands.specs.Demands.{after, Reads, RunningOrder, lineBytes, Kept, FirstBroken, pattern, treeValue, listedLine, looksLine}
 use Rattle.demands.specs.Demands.{Demand1CatalogueForm, Demand1QuestionForm, Demand1Payload, Demand1FormsWritten, Demand1WrittenOnce, Demand1Number, Demand1Refused, Demand1Accepted, Demand1Limits, Demand1Catalogue, Demand1Question, Demand1Outcome}
 use Rattle.demands.specs.Demands.{Demand2Tree, Demand2Listed, Demand2Looks, Demand2Further, Demand2Counts, Demand2Tally, Demand3, Demand3Ours, Demand3Count, Demand3Run}
 use Rattle.demands.proofs.DemandLaws.{is-catalogue, is-question, reads-input, broken-input, broken-range, unpacked}
-use Rattle.demands.proofs.DemandTables.{sum-le, line-of, line-count, front-old, order-plain, held, traced-due, probed-due, found-count, look-count, look-count-le, look-count-rows, selection-length, listed-line, probes-length, looks-line}
+use Rattle.demands.proofs.DemandTables.{sum-le, line-of, line-count, front-old, order-plain, held, traced-due, probed-due, found-count, look-count, look-count-le, look-count-rows, selection-length, listed-line, probeBitmaps-length, looks-line}
 use Rattle.demands.proofs.DemandRuns.{Cases, kept-run, broken-run, broken-number, run-cases, broken-gives, kept-gives}
 
 -- DEMAND 1: WHAT IS ACCEPTED
@@ -125,7 +125,7 @@ demand-1-outcome b q entry c = (
   λ e x. let s = broken-range b q e x in
       rw (broken-input b q e x) (unpacked (Refused e) (omega arith)),
   λ i r n. rw (reads-input b q i r, not-true (ltb entry (rowCount i) && ltb c (predicateCount i)) (λ h. n (inside i h)))
-      (unpacked (Refused noSuchPlace) (omega arith)),
+      (unpacked (Refused noSuchRowOrPredicate) (omega arith)),
   λ i r x y. let z = small (outcome (i .catalogue) (predicateAt (i .query) c) entry) in
       rw (reads-input b q i r, ltb-yes entry (rowCount i) x, ltb-yes c (predicateCount i) y)
       (unpacked (Accepted (outcomeNumber (outcome (i .catalogue) (predicateAt (i .query) c) entry)) 0 0) (omega arith)),
@@ -188,7 +188,7 @@ pub demand-2-further : Demand2Further
 demand-2-further l i k =
     rw (kept-run l i k) (
       front-old (selection (taskOf i (l .request .order))) (l .listed) (lineBytes i) (selection-length i (l .request .order)),
-      front-old (probes (taskOf i (l .request .order))) (l .looks) (predicateCount i * lineBytes i) (probes-length i (l .request .order)),
+      front-old (probeBitmaps (taskOf i (l .request .order))) (l .looks) (predicateCount i * lineBytes i) (probeBitmaps-length i (l .request .order)),
     )
 
 -- DEMAND 3
@@ -203,41 +203,41 @@ module _ (b q : List ℕ) (i : Input) (r : Reads b q i) (order : List ℕ) (o : 
   of-tree : isOrder (size (i .query .tree)) order ≡ true
   of-tree = rw (r .1 .0 .counted) (order-plain (predicateCount i) order .1 o)
 
-  ours-run : (a : Assignment) → run (ours (treeValue i) order) a order ≡ trace (treeValue i) a order
-  ours-run = query-ours (i .query .tree) (r .1 .0 .numbered) order of-tree
+  ours-final : (a : Assignment) → finalState (ours (treeValue i) order) a order ≡ trace (treeValue i) a order
+  ours-final = query-ours (i .query .tree) (r .1 .0 .numbered) order of-tree
 
 -- a right way makes at least as many looks as are due
 counted : (i : Input) (order : List ℕ) → RunningOrder i order → (way : Strategy) → Right (treeValue i) order way → (a : Assignment)
-    → length (predicates (trace (treeValue i) a order)) ≤ length (probesOf way a order)
+    → length (predicates (trace (treeValue i) a order)) ≤ length (probes way a order)
 counted i order o way R a = rw (length-predicates, length-predicates) (optimal-count (treeValue i) order (held i order o .once) way R a)
 
 pub demand-3 : Demand3
 demand-3 b q i r order o way R a =
-    rw (ours-run b q i r order o a) (optimal (treeValue i) order (held i order o .once) way R a, counted i order o way R a)
+    rw (ours-final b q i r order o a) (optimal (treeValue i) order (held i order o .once) way R a, counted i order o way R a)
 
 pub demand-3-ours : Demand3Ours
 demand-3-ours b q i r order o a = (
-  λ c. rw (ours-run b q i r order o a) (traced-due i order o a c),
+  λ c. rw (ours-final b q i r order o a) (traced-due i order o a c),
   query-right (i .query .tree) (r .1 .0 .numbered) order (of-tree b q i r order o) a,
 )
 
 pub demand-3-count : Demand3Count
 demand-3-count b q i r order o =
     look-count-rows i order o
-    ∙ sum-same (λ e. length (predicates (trace (treeValue i) (pattern i e) order))) (λ e. length (probesOf (ours (treeValue i) order) (pattern i e) order)) (rowCount i)
-    (λ e l. ap (λ (s : State). length (predicates s)) (sym (ours-run b q i r order o (pattern i e))))
+    ∙ sum-same (λ e. length (predicates (trace (treeValue i) (pattern i e) order))) (λ e. length (probes (ours (treeValue i) order) (pattern i e) order)) (rowCount i)
+    (λ e l. ap (λ (s : State). length (predicates s)) (sym (ours-final b q i r order o (pattern i e))))
 
 pub demand-3-run : Demand3Run
 demand-3-run l i k way R = (looks, count)
   where
-    looks : (e c : ℕ) → e < rowCount i → c < predicateCount i → bit (looksLine i (after l .looks) c) e ≡ true → Among c (probesOf way (pattern i e) (l .request .order))
+    looks : (e c : ℕ) → e < rowCount i → c < predicateCount i → bit (looksLine i (after l .looks) c) e ≡ true → Among c (probes way (pattern i e) (l .request .order))
     looks e c m n h =
         optimal (treeValue i) (l .request .order) (held i (l .request .order) (k .order) .once) way R (pattern i e) c
         (traced-due i (l .request .order) (k .order) (pattern i e) c .1 (demand-2-looks l i k c n .bits e m .0 h))
 
-    count : after l .word / 2 ^ 40 ≤ sumOf (λ e. length (probesOf way (pattern i e) (l .request .order))) (rowCount i)
+    count : after l .word / 2 ^ 40 ≤ sumOf (λ e. length (probes way (pattern i e) (l .request .order))) (rowCount i)
     count =
-        subst (λ (x : ℕ). x ≤ sumOf (λ e. length (probesOf way (pattern i e) (l .request .order))) (rowCount i))
+        subst (λ (x : ℕ). x ≤ sumOf (λ e. length (probes way (pattern i e) (l .request .order))) (rowCount i))
         (sym (kept-gives l i k .4 ∙ look-count-rows i (l .request .order) (k .order)))
-        (sum-le (λ e. length (predicates (trace (treeValue i) (pattern i e) (l .request .order)))) (λ e. length (probesOf way (pattern i e) (l .request .order))) (rowCount i)
+        (sum-le (λ e. length (predicates (trace (treeValue i) (pattern i e) (l .request .order)))) (λ e. length (probes way (pattern i e) (l .request .order))) (rowCount i)
         (λ e m. counted i (l .request .order) (k .order) way R (pattern i e)))

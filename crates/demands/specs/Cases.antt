@@ -8,8 +8,8 @@ use Rattle.fields.specs.Decoded.{accepted}
 use Rattle.fields.specs.Numbers.{Bytes}
 use Rattle.catalogue.specs.Catalogue.{numbers}
 use Rattle.catalogue.specs.Decode.{decodeCatalogue}
-use Rattle.predicate.specs.declared.answer.Answer.{Answer as Outcome}
-use Rattle.predicate.specs.declared.answer.Answer.the-variants.{No, Yes}
+use Rattle.predicate.specs.declared.outcome.Outcome.{Outcome}
+use Rattle.predicate.specs.declared.outcome.Outcome.the-variants.{No, Yes}
 use Rattle.predicate.specs.Meaning.{fold, contains, outcomeOf}
 use Rattle.strategy.specs.Order.{isOrder}
 use Rattle.input.specs.Input.{Input, decodeInput}

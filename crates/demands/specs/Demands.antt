@@ -30,7 +30,7 @@ use Rattle.strategy.specs.Ours.{ours}
 use Rattle.bitmaps.specs.Sums.{sumOf, countOf}
 use Rattle.bitmaps.specs.Bitmap.{bytesFor}
 use Rattle.bitmaps.specs.Bit.{bit}
-use Rattle.run.specs.Run.{predicateAt, assignmentAt}
+use Rattle.rows.specs.Task.{predicateAt, assignmentAt}
 use Rattle.input.specs.Input.{Input, decodeInput}
 use Rattle.answers.specs.Word.{packed}
 use Rattle.answers.specs.Answers.{catalogueAnswer, questionAnswer, outcomeNumber, outcomeAnswer}

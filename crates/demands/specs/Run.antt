@@ -9,7 +9,7 @@ use Rattle.fields.specs.Numbers.{numberAt, bytesOf}
 use Rattle.strategy.specs.Order.{isOrder}
 use Rattle.fields.specs.Output.{putFront}
 use Rattle.bitmaps.specs.Bitmap.{bytesFor, bitmap, bitmaps, onesIn}
-use Rattle.run.specs.Run.{Task, isSelected, isProbed}
+use Rattle.rows.specs.Task.{Task, isSelected, isProbed}
 use Rattle.input.specs.Input.{Input, decodeInput}
 use Rattle.answers.specs.declared.word.Answer.the-variants.{Refused, Accepted}
 use Rattle.answers.specs.Word.{packed}
@@ -62,15 +62,15 @@ unfoldable pub selection : Task → List ℕ
 selection T = bitmap (isSelected T) (T .catalogue .rows)
 
 -- the looks table: our probe bitmaps
-unfoldable pub probes : Task → List ℕ
-probes T = bitmaps (isProbed T) (length (T .query .predicates)) (T .catalogue .rows)
+unfoldable pub probeBitmaps : Task → List ℕ
+probeBitmaps T = bitmaps (isProbed T) (length (T .query .predicates)) (T .catalogue .rows)
 
 -- "The found count is the number of ones in the listed table, the look count that of the looks table"
 abbrev pub foundCount : Task → ℕ
 foundCount T = onesIn (selection T)
 
 abbrev pub lookCount : Task → ℕ
-lookCount T = onesIn (probes T)
+lookCount T = onesIn (probeBitmaps T)
 
 -- "The house tally is eight lent bytes; a run adds its look count to it."
 abbrev pub counterSize : ℕ
@@ -100,12 +100,12 @@ runChecks i l =
     ++ counterChecks (l .tally) (lookCount (taskOf i (l .request .order)))
 
 -- an accepted run: the two tables go out, their ones are its counts, and the tally gains the looks
-abbrev pub acceptWith : (selection probes listed looks tally : List ℕ) → Ran
+abbrev pub acceptWith : (selection probed listed looks tally : List ℕ) → Ran
 acceptWith S P listed looks tally =
     ran (packed (Accepted (onesIn S) 0 (onesIn P))) (putFront S listed) (putFront P looks) (bytesOf counterSize (counterAfter tally (onesIn P)))
 
 abbrev pub accept : Task → Lent → Ran
-accept T l = acceptWith (selection T) (probes T) (l .listed) (l .looks) (l .tally)
+accept T l = acceptWith (selection T) (probeBitmaps T) (l .listed) (l .looks) (l .tally)
 
 -- "Running: .. 15, .. 16, .. 17, .."
 unfoldable pub runOn : Input → Lent → Ran

@@ -75,5 +75,5 @@ module _ (b : List ℕ) (p : ℕ) (inside : p + slotSize ≤ length b) (short : 
     pub found-pair : ((i : ℕ) → getD b i 0 < 256) → (k : Pair) → PairFor o k → pairAt b (p + 1 + a) (p + 1 + a + k .gap) k ≡ true
     found-pair bytes k K =
         let z : p + 1 + a + 0 ≡ p + 1 + a = omega arith in
-        both (K .first-may (getD b (p + 1 + a) 0) (bytes (p + 1 + a)) (ap (λ (j : ℕ). fold (getD b j 0)) (sym z) ∙ found-byte 0 some) .looked)
-        (K .second-may (getD b (p + 1 + a + k .gap) 0) (bytes (p + 1 + a + k .gap)) (found-byte (k .gap) (K .inside)) .looked)
+        both (K .first-may (getD b (p + 1 + a) 0) (bytes (p + 1 + a)) (ap (λ (j : ℕ). fold (getD b j 0)) (sym z) ∙ found-byte 0 some) .tested)
+        (K .second-may (getD b (p + 1 + a + k .gap) 0) (bytes (p + 1 + a + k .gap)) (found-byte (k .gap) (K .inside)) .tested)

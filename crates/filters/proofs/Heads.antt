@@ -14,12 +14,12 @@ use Rattle.fields.specs.Numbers.{numberAt}
 use Rattle.slots.specs.Slots.{textLimit}
 use Rattle.predicate.specs.Kinds.{equalsKind}
 use Rattle.predicate.specs.Meaning.{fold}
-use Rattle.filters.specs.declared.look.Look.{Look}
-use Rattle.filters.specs.declared.look.Cover.{Cover}
+use Rattle.filters.specs.declared.byte_test.ByteTest.{ByteTest}
+use Rattle.filters.specs.declared.byte_test.Cover.{Cover}
 use Rattle.filters.specs.declared.head.Head.{Head}
-use Rattle.filters.specs.Look.{coverOf, covers, MayFold}
+use Rattle.filters.specs.ByteTest.{coverOf, covers, MayFold}
 use Rattle.filters.specs.Head.{headSize, Starts, CoverAt, HeadFor, BlankHead}
-use Rattle.filters.proofs.Looks.{any-covered}
+use Rattle.filters.proofs.ByteTests.{any-covered}
 
 -- what byte j may be
 
@@ -36,8 +36,8 @@ module _ (kind : ℕ) (o : List ℕ) where
         eq-eqb _ _ (or-zero-r (getD b (p + j) 0) ∙ ap (λ (i : ℕ). getD b i 0) q ∙ S .sized e ∙ sym n);
   }
 
-  pub cover-byte : {j c : ℕ} {look : Look} {k : Cover} → 0 < j → j ≤ length o → c ≡ fold (getD o (j - 1) 0) → MayFold c look → k ≡ coverOf look → k .mask < 256 → k .value < 256 → CoverAt kind o j k
-  cover-byte {j} {c} {look} {k} some inside c-is L e m v = record {
+  pub cover-byte : {j c : ℕ} {test : ByteTest} {k : Cover} → 0 < j → j ≤ length o → c ≡ fold (getD o (j - 1) 0) → MayFold c test → k ≡ coverOf test → k .mask < 256 → k .value < 256 → CoverAt kind o j k
+  cover-byte {j} {c} {test} {k} some inside c-is L e m v = record {
     mask-small = m;
     value-small = v;
     passes = λ b p S.

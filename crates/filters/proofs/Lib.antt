@@ -1,4 +1,4 @@
-pub mod Looks
+pub mod ByteTests
 pub mod Pairs
 pub mod Found
 pub mod Heads

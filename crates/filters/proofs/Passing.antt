@@ -14,12 +14,12 @@ use Rattle.catalogue.proofs.Rows.{has-text}
 use Rattle.fields.specs.Numbers.{Bytes}
 use Rattle.predicate.specs.Kinds.{equalsKind, beginsKind, containsKind}
 use Rattle.predicate.specs.Meaning.{fold, equals, beginsWith, contains, textTest}
-use Rattle.sets.specs.Set.{member}
+use Rattle.sets.specs.Set.{has}
 use Rattle.sets.specs.Kept.{KeptBy, Sifted}
 use Rattle.sets.specs.KeptLaws.{kept-sifts}
 use Rattle.filters.specs.declared.pair.Pair.{Pair}
 use Rattle.filters.specs.declared.head.Head.{Head}
-use Rattle.filters.specs.Block.{DueRows, slotOf, textOf}
+use Rattle.filters.specs.Block.{HasDueRows, slotOf, textOf}
 use Rattle.filters.specs.Filter.{PairFor, windowsPass}
 use Rattle.filters.specs.Head.{headPasses, Starts, HeadFor}
 use Rattle.filters.proofs.Pairs.{windows-see}
@@ -50,8 +50,8 @@ module _ (b : List ℕ) (bytes : Bytes b) (o : List ℕ) (some : 0 < length o)
       windows-see b p (f .0) k (omega arith) (K .near) (found-pair b p (fits .0) (fits .1) o some (f .0) (f .1) bytes k K)
 
 -- all due rows
-module _ (b : List ℕ) (bytes : Bytes b) (start base kind : ℕ) (o : List ℕ) (due r : ℕ) (D : DueRows b textTag start base due) (some : 0 < length o) where
-  fits : (d : ℕ) → member due d ≡ true → (slotOf start (base + d) + slotSize ≤ length b) × (getD b (slotOf start (base + d)) 0 ≤ textLimit)
+module _ (b : List ℕ) (bytes : Bytes b) (start base kind : ℕ) (o : List ℕ) (due r : ℕ) (D : HasDueRows b textTag start base due) (some : 0 < length o) where
+  fits : (d : ℕ) → has due d ≡ true → (slotOf start (base + d) + slotSize ≤ length b) × (getD b (slotOf start (base + d)) 0 ≤ textLimit)
   fits d m = has-text b start (base + d) (D d m)
 
   pub contains-sifts : (k : Pair) → PairFor o k → kind ≡ containsKind → KeptBy (λ d. windowsPass b (slotOf start (base + d)) k) due r → Sifted (λ d. textTest kind o (textOf b start (base + d))) due r
@@ -64,7 +64,7 @@ module _ (b : List ℕ) (bytes : Bytes b) (start base kind : ℕ) (o : List ℕ)
   unfolding textTest
   front-sifts k K low high F = go (same? kind equalsKind)
     where
-      sifts : ((d : ℕ) → member due d ≡ true → textTest kind o (textOf b start (base + d)) ≡ true → Starts kind o b (slotOf start (base + d))) → Sifted (λ d. textTest kind o (textOf b start (base + d))) due r
+      sifts : ((d : ℕ) → has due d ≡ true → textTest kind o (textOf b start (base + d)) ≡ true → Starts kind o b (slotOf start (base + d))) → Sifted (λ d. textTest kind o (textOf b start (base + d))) due r
       sifts s =
           kept-sifts (λ d. headPasses b (slotOf start (base + d)) k) (λ d. textTest kind o (textOf b start (base + d))) due r F
           (λ d m t. K b (slotOf start (base + d)) (s d m t))

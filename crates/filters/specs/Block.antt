@@ -5,11 +5,11 @@ use mathlib.Core.Bool.{true}
 use mathlib.Core.List.{List}
 use Rattle.slots.specs.Slots.{slotSize, textAt}
 use Rattle.catalogue.specs.Layout.{HasRow}
-use Rattle.sets.specs.Set.{member}
+use Rattle.sets.specs.Set.{has}
 
 -- every due row is one of the column shown there
-abbrev pub DueRows : List ℕ → (tag start base due : ℕ) → Type 0
-DueRows b tag start base due = (d : ℕ) → member due d ≡ true → HasRow b tag start (base + d)
+abbrev pub HasDueRows : List ℕ → (tag start base due : ℕ) → Type 0
+HasDueRows b tag start base due = (d : ℕ) → has due d ≡ true → HasRow b tag start (base + d)
 
 -- where a row's slot begins, with its length byte; its text
 abbrev pub slotOf : (start row : ℕ) → ℕ

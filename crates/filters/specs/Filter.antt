@@ -7,7 +7,7 @@ use lib.ListN.{length, getD}
 use lib.Dec.{leb}
 use Rattle.predicate.specs.Meaning.{fold}
 use Rattle.filters.specs.declared.pair.Pair.{Pair}
-use Rattle.filters.specs.Look.{looks, MayFold}
+use Rattle.filters.specs.ByteTest.{testPasses, MayFold}
 
 -- how far the second byte is from the first: the operand's last, or byte 8
 abbrev pub gapOf : (size : ℕ) → ℕ
@@ -22,7 +22,7 @@ pub record PairFor (o : List ℕ) (k : Pair) : Type 0 where
   pub second-may : MayFold (fold (getD o (k .gap) 0)) (k .second)
 
 abbrev pub pairAt : List ℕ → (p q : ℕ) → Pair → Bool
-pairAt b p q k = looks (k .first) (getD b p 0) && looks (k .second) (getD b q 0)
+pairAt b p q k = testPasses (k .first) (getD b p 0) && testPasses (k .second) (getD b q 0)
 
 -- the pair at one of n places
 unfoldable pub pairIn : List ℕ → (p q : ℕ) → Pair → (n : ℕ) → Bool

@@ -9,9 +9,9 @@ use lib.Bits.{bitOr}
 use Rattle.fields.specs.Numbers.{numberAt, Bytes}
 use Rattle.predicate.specs.Kinds.{equalsKind}
 use Rattle.predicate.specs.Meaning.{fold}
-use Rattle.filters.specs.declared.look.Cover.{Cover}
+use Rattle.filters.specs.declared.byte_test.Cover.{Cover}
 use Rattle.filters.specs.declared.head.Head.{Head}
-use Rattle.filters.specs.Look.{covers}
+use Rattle.filters.specs.ByteTest.{covers}
 
 -- the length and three bytes of text
 abbrev pub headSize : ℕ

@@ -1,4 +1,4 @@
-pub mod Look
+pub mod ByteTest
 pub mod Block
 pub mod Filter
 pub mod Head

@@ -5,12 +5,12 @@ ghost use Prim.Native.Nat.{_+_};
 ghost use Rattle.catalogue.specs.Format.{textTag};
 ghost use Rattle.sets.specs.Set.{belowSet};
 ghost use Rattle.sets.specs.Kept.{KeptBy};
-ghost use Rattle.filters.specs.Block.{DueRows, slotOf};
+ghost use Rattle.filters.specs.Block.{HasDueRows, slotOf};
 ghost use Rattle.filters.specs.Head.{headPasses};
 
 // Of a whole block, straight through: no bit waits for another.
 fn all_front(b: &[u8], start: usize, base: usize, k: Head) -> u64
-    requires { ⌜ DueRows (now b) textTag start base (belowSet 64) ⌝ }
+    requires { ⌜ HasDueRows (now b) textTag start base (belowSet 64) ⌝ }
     ensures { λ r. ⌜ KeptBy (λ d. headPasses (now (b .entry)) (slotOf start (base + d)) k) (belowSet 64) r ⌝ }
 {
     let mut met: u64 = 0;
@@ -25,7 +25,7 @@ fn all_front(b: &[u8], start: usize, base: usize, k: Head) -> u64
 
 // Of the rows in a word.
 fn due_front(b: &[u8], start: usize, base: usize, k: Head, due: u64) -> u64
-    requires { ⌜ DueRows (now b) textTag start base due ⌝ }
+    requires { ⌜ HasDueRows (now b) textTag start base due ⌝ }
     ensures { λ r. ⌜ KeptBy (λ d. headPasses (now (b .entry)) (slotOf start (base + d)) k) due r ⌝ }
 {
     let mut left = due;
@@ -43,7 +43,7 @@ fn due_front(b: &[u8], start: usize, base: usize, k: Head, due: u64) -> u64
 
 // By the shorter way.
 pub fn front_rows(b: &[u8], start: usize, base: usize, k: Head, due: u64) -> u64
-    requires { ⌜ DueRows (now b) textTag start base due ⌝ }
+    requires { ⌜ HasDueRows (now b) textTag start base due ⌝ }
     ensures { λ r. ⌜ KeptBy (λ d. headPasses (now (b .entry)) (slotOf start (base + d)) k) due r ⌝ }
 {
     if due == sets::below(64) {

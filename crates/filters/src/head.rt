@@ -1,5 +1,5 @@
 // What equals and begins ask of a slot's head: its length and the first three bytes of its text, as one number.
-use crate::look::Cover;
+use crate::byte_test::Cover;
 use predicate::kind::Kind;
 ghost use mathlib.Core.Path.{_≡_};
 ghost use Prim.Native.Nat.{_+_, _≤_, _<_};
@@ -39,7 +39,7 @@ fn cover_at(table: &[u8], kind: u8, operand: &[u8], j: usize) -> Cover
         };
     }
     let c = predicate::text::fold_byte(table, operand[j - 1]);
-    crate::look::cover_of(crate::look::look_of(c))
+    crate::byte_test::cover_of(crate::byte_test::byte_test_of(c))
 }
 
 pub fn head_of(table: &[u8], kind: u8, operand: &[u8]) -> Head

@@ -1,5 +1,5 @@
 // Two of an operand's bytes at their distance: its first, and its last if that is at most eight further.
-use crate::look::Look;
+use crate::byte_test::ByteTest;
 ghost use mathlib.Core.Path.{_≡_};
 ghost use mathlib.Core.Bool.{cond};
 ghost use Prim.Native.Nat.{_≤_, _<_};
@@ -9,8 +9,8 @@ ghost use Rattle.filters.specs.Filter.{gapOf, pairAt, PairFor};
 
 pub struct Pair {
     pub gap: usize,
-    pub first: Look,
-    pub second: Look,
+    pub first: ByteTest,
+    pub second: ByteTest,
 }
 
 // The place of the second byte in an operand of so many bytes: at most eight, so that two windows of 16 cover a slot.
@@ -31,8 +31,8 @@ pub fn pair_of(table: &[u8], operand: &[u8]) -> Pair
     let second = predicate::text::fold_byte(table, operand[gap]);
     Pair {
         gap,
-        first: crate::look::look_of(first),
-        second: crate::look::look_of(second),
+        first: crate::byte_test::byte_test_of(first),
+        second: crate::byte_test::byte_test_of(second),
     }
 }
 
@@ -41,5 +41,5 @@ pub fn pair_at(b: &[u8], p: usize, q: usize, k: Pair) -> u8
     requires { ⌜ (p < length (now b)) × (q < length (now b)) ⌝ }
     ensures { λ r. ⌜ r ≡ cond (pairAt (now (b .entry)) p q k) 1 0 ⌝ }
 {
-    crate::look::passes(k.first, b[p]) & crate::look::passes(k.second, b[q])
+    crate::byte_test::passes(k.first, b[p]) & crate::byte_test::passes(k.second, b[q])
 }

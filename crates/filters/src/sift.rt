@@ -8,7 +8,7 @@ ghost use Rattle.predicate.specs.Kinds.{equalsKind, containsKind};
 ghost use Rattle.predicate.specs.Meaning.{textTest};
 ghost use Rattle.predicate.specs.Outcome.{Folds};
 ghost use Rattle.sets.specs.Kept.{Sifted};
-ghost use Rattle.filters.specs.Block.{DueRows, textOf};
+ghost use Rattle.filters.specs.Block.{HasDueRows, textOf};
 
 // The due rows whose texts may pass the test of kind 2, 3 or 4 by the operand.
 pub fn sift(
@@ -20,7 +20,7 @@ pub fn sift(
     operand: &[u8],
     due: u64,
 ) -> u64
-    requires { ⌜ Folds (now table) × DueRows (now b) textTag start base due × (equalsKind ≤ kind) × (kind ≤ containsKind) × (0 < length (now operand)) × (length (now operand) ≤ textLimit) ⌝ }
+    requires { ⌜ Folds (now table) × HasDueRows (now b) textTag start base due × (equalsKind ≤ kind) × (kind ≤ containsKind) × (0 < length (now operand)) × (length (now operand) ≤ textLimit) ⌝ }
     ensures { λ r. ⌜ Sifted (λ d. textTest kind (now (operand .entry)) (textOf (now (b .entry)) start (base + d))) due r ⌝ }
 {
     if kind == Kind::CONTAINS {

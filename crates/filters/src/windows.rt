@@ -9,7 +9,7 @@ ghost use Rattle.catalogue.specs.Format.{textTag};
 ghost use Rattle.slots.specs.Slots.{slotSize};
 ghost use Rattle.sets.specs.Set.{belowSet};
 ghost use Rattle.sets.specs.Kept.{KeptBy};
-ghost use Rattle.filters.specs.Block.{DueRows, slotOf};
+ghost use Rattle.filters.specs.Block.{HasDueRows, slotOf};
 ghost use Rattle.filters.specs.Filter.{windowsPass};
 
 // The slot at p. The pair's two places run from p and q on in the first window, from r and s on in the second, which ends
@@ -34,7 +34,7 @@ fn slot_passes(b: &[u8], p: usize, k: Pair) -> bool
 
 // Of a whole block, straight through: no bit waits for another.
 fn all_windows(b: &[u8], start: usize, base: usize, k: Pair) -> u64
-    requires { ⌜ DueRows (now b) textTag start base (belowSet 64) × (k .gap ≤ 8) ⌝ }
+    requires { ⌜ HasDueRows (now b) textTag start base (belowSet 64) × (k .gap ≤ 8) ⌝ }
     ensures { λ r. ⌜ KeptBy (λ d. windowsPass (now (b .entry)) (slotOf start (base + d)) k) (belowSet 64) r ⌝ }
 {
     let mut met: u64 = 0;
@@ -49,7 +49,7 @@ fn all_windows(b: &[u8], start: usize, base: usize, k: Pair) -> u64
 
 // Of the rows in a word.
 fn due_windows(b: &[u8], start: usize, base: usize, k: Pair, due: u64) -> u64
-    requires { ⌜ DueRows (now b) textTag start base due × (k .gap ≤ 8) ⌝ }
+    requires { ⌜ HasDueRows (now b) textTag start base due × (k .gap ≤ 8) ⌝ }
     ensures { λ r. ⌜ KeptBy (λ d. windowsPass (now (b .entry)) (slotOf start (base + d)) k) due r ⌝ }
 {
     let mut left = due;
@@ -67,7 +67,7 @@ fn due_windows(b: &[u8], start: usize, base: usize, k: Pair, due: u64) -> u64
 
 // The due rows whose slots pass, by the shorter way.
 pub fn windows_rows(b: &[u8], start: usize, base: usize, k: Pair, due: u64) -> u64
-    requires { ⌜ DueRows (now b) textTag start base due × (k .gap ≤ 8) ⌝ }
+    requires { ⌜ HasDueRows (now b) textTag start base due × (k .gap ≤ 8) ⌝ }
     ensures { λ r. ⌜ KeptBy (λ d. windowsPass (now (b .entry)) (slotOf start (base + d)) k) due r ⌝ }
 {
     if due == sets::below(64) {

@@ -12,10 +12,10 @@ abbrev pub HasRoom : (n size : ℕ) → (listed looks : List ℕ) → Type 0
 HasRoom n size listed looks = (size ≤ length listed) × (n * size ≤ length looks)
 
 -- the tables that go out
-abbrev pub ended : (selection probes listed looks tally : List ℕ) → Ran
+abbrev pub ended : (selection probed listed looks tally : List ℕ) → Ran
 ended S P listed looks tally =
     checked (counterChecks tally (onesIn P)) (λ e. refuse e listed looks tally) (acceptWith S P listed looks tally)
 
 -- are the front of each line of the run's own
-unfoldable pub finished : (selected probes : List ℕ) → (n size : ℕ) → (listed looks tally : List ℕ) → Ran
+unfoldable pub finished : (selected probed : List ℕ) → (n size : ℕ) → (listed looks tally : List ℕ) → Ran
 finished S P n size listed looks tally = ended (linesOf size S 1) (linesOf size P n) listed looks tally

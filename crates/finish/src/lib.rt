@@ -14,28 +14,28 @@ ghost use Rattle.finish.specs.Finish.{finished, HasRoom};
 // Ends a run whose own tables are these, with lines of this size: refusal 17, or the results, the lent tables and the counter.
 pub fn finish(
     selected: &[u8],
-    probes: &[u8],
+    probed: &[u8],
     n: usize,
     size: usize,
     listed: &mut [u8],
     looks: &mut [u8],
     tally: &mut [u8],
 ) -> Answer
-    requires { ⌜ (length (now selected) ≡ lineSize) × (length (now probes) ≡ predicateLimit * lineSize) × (n ≤ predicateLimit) × (size ≤ lineSize) ⌝ }
+    requires { ⌜ (length (now selected) ≡ lineSize) × (length (now probed) ≡ predicateLimit * lineSize) × (n ≤ predicateLimit) × (size ≤ lineSize) ⌝ }
     requires { ⌜ HasRoom n size (now listed) (now looks) ⌝ }
-    ensures { λ r. ⌜ (ran (packed r) (now (listed .exit)) (now (looks .exit)) (now (tally .exit)) ≡ finished (now (selected .entry)) (now (probes .entry)) n size (now (listed .entry)) (now (looks .entry)) (now (tally .entry))) × FitsWord r ⌝ }
+    ensures { λ r. ⌜ (ran (packed r) (now (listed .exit)) (now (looks .exit)) (now (tally .exit)) ≡ finished (now (selected .entry)) (now (probed .entry)) n size (now (listed .entry)) (now (looks .entry)) (now (tally .entry))) × FitsWord r ⌝ }
 {
     if tally.len() != Counter::SIZE {
         return Answer::Refused(Refusal::COUNTER_REFUSED);
     }
     let found = bitmaps::ones::count_lines(selected, 1, size);
-    let looked = bitmaps::ones::count_lines(probes, n, size);
+    let looked = bitmaps::ones::count_lines(probed, n, size);
     let before = fields::counter::eight_bytes(tally, 0);
     if Counter::LIMIT - before < looked {
         return Answer::Refused(Refusal::COUNTER_REFUSED);
     }
     bitmaps::copy::copy_lines(selected, listed, 1, size);
-    bitmaps::copy::copy_lines(probes, looks, n, size);
+    bitmaps::copy::copy_lines(probed, looks, n, size);
     fields::counter::put_eight_bytes(tally, 0, before + looked);
     Answer::Accepted {
         first: found,

@@ -8,18 +8,18 @@ use Rattle.records.specs.Table.{recordAt}
 use Rattle.reader.specs.Tables.{Tables}
 use Rattle.plan.specs.Plan.{accessAt, accessOf, HaveColumns}
 use Rattle.plan.specs.Access.{Accessed}
-use Rattle.run.specs.Run.{predicateAt}
-use Rattle.run.proofs.Prepared.{have-columns, planned-accessed}
+use Rattle.rows.specs.Task.{predicateAt}
+use Rattle.rows.proofs.Prepared.{have-columns, planned-accessed}
 use Rattle.input.specs.declared.begin.Beginning.{Beginning}
-use Rattle.input.specs.Begun.{Begun}
+use Rattle.input.specs.Beginning.{HasInput}
 
-module _ {b q : List ℕ} {r : Beginning} {T : Tables} (G : Begun b q r T) where
-  pub begun-short : r .rows ≤ rowLimit
-  begun-short = omega (arith, G .rows, G .laid .short)
+module _ {b q : List ℕ} {r : Beginning} {T : Tables} (G : HasInput b q r T) where
+  pub input-short : r .rows ≤ rowLimit
+  input-short = omega (arith, G .rows, G .laid .short)
 
-  pub begun-columns : HaveColumns (r .tags) (r .starts) (recordAt q (T .offsets)) (r .n)
-  begun-columns = rw (G .tags, G .starts) (have-columns (G .laid) (G .tabled))
+  pub input-columns : HaveColumns (r .tags) (r .starts) (recordAt q (T .offsets)) (r .n)
+  input-columns = rw (G .tags, G .starts) (have-columns (G .laid) (G .tabled))
 
-  pub begun-accessed : (P : List ℕ) (c : ℕ) → c < r .n → accessAt P c ≡ accessOf (r .tags) (r .starts) (recordAt q (T .offsets) c)
+  pub input-accessed : (P : List ℕ) (c : ℕ) → c < r .n → accessAt P c ≡ accessOf (r .tags) (r .starts) (recordAt q (T .offsets) c)
       → Accessed b q (G .input .catalogue) (predicateAt (G .input .query) c) (accessAt P c)
-  begun-accessed P c k e = planned-accessed (G .laid) (G .tabled) P c k (rw (G .tags, G .starts) at e)
+  input-accessed P c k e = planned-accessed (G .laid) (G .tabled) P c k (rw (G .tags, G .starts) at e)

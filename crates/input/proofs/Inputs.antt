@@ -18,9 +18,9 @@ use Rattle.reader.specs.declared.whole.Reading.the-variants as reading
 use Rattle.query.specs.Query.{Query}
 use Rattle.reader.specs.Tables.{Tables}
 use Rattle.query.specs.Decode.{decodeTagged, decodeQuery}
-use Rattle.reader.specs.Handed.{Handed}
+use Rattle.reader.specs.QueryRead.{QueryRead}
 use Rattle.input.specs.Input.{withQuery, decodeInput}
-use Rattle.input.specs.Begun.{Begun}
+use Rattle.input.specs.Beginning.{HasInput}
 
 -- the first tags of the layout are those of the catalogue's columns
 laid-tags : {b : List ℕ} {l : Layout} {C : Catalogue} → Laid b l C → take (l .columns) (l .tags) ≡ tagsOf C
@@ -62,13 +62,13 @@ module _ (b q : List ℕ) (l : Layout) (tags : List ℕ) (same : tags ≡ take (
     unfolding decodeInput decodeQuery
     whole = rw (e, same, laid-tags h)
 
-    stopped : (d : Decoded Query) (k : ℕ) → decodeTagged tags q ≡ d → Handed tags q d R T → R ≡ reading.Refused k
+    stopped : (d : Decoded Query) (k : ℕ) → decodeTagged tags q ≡ d → QueryRead tags q d R T → R ≡ reading.Refused k
         → (decodeInput b q ≡ refused k) × (k < 256) × (0 < k)
     stopped (refused x) k z w i = let y : x ≡ k = cc in (whole ∙ rw (z, y), omega (arith, w .1), omega (arith, w .1))
     stopped (accepted Q) k z w i = let y : _≡_ {A = ℕ} 0 1 = cc in absurd (omega arith)
 
-    begun : (d : Decoded Query) (n : ℕ) → decodeTagged tags q ≡ d → Handed tags q d R T → R ≡ reading.Accepted n
-        → Begun b q (record { refusal = 0; rows = l .rows; n = n; tags = l .tags; starts = l .starts }) T
+    begun : (d : Decoded Query) (n : ℕ) → decodeTagged tags q ≡ d → QueryRead tags q d R T → R ≡ reading.Accepted n
+        → HasInput b q (record { refusal = 0; rows = l .rows; n = n; tags = l .tags; starts = l .starts }) T
     begun (refused x) n z w i = let y : _≡_ {A = ℕ} 0 1 = cc in absurd (omega arith)
     begun (accepted Q) n z w i =
         let y : length (Q .predicates) ≡ n = cc in
@@ -85,7 +85,7 @@ module _ (b q : List ℕ) (l : Layout) (tags : List ℕ) (same : tags ≡ take (
         }
 
   -- the layout and the reader both done, by what the catalogue decodes to
-  module _ (h : LaidOut b l (decodeCatalogue b)) (z : l .refusal ≡ 0) (w : Handed tags q (decodeTagged tags q) R T) where
+  module _ (h : LaidOut b l (decodeCatalogue b)) (z : l .refusal ≡ 0) (w : QueryRead tags q (decodeTagged tags q) R T) where
     by-catalogue : {A : Type 0} → ((C : Catalogue) → decodeCatalogue b ≡ accepted C → Laid b l C → A) → A
     by-catalogue {A} f = go (decodeCatalogue b) refl h
       where
@@ -96,5 +96,5 @@ module _ (b q : List ℕ) (l : Layout) (tags : List ℕ) (same : tags ≡ take (
     pub question-refuses : (k : ℕ) → R ≡ reading.Refused k → (decodeInput b q ≡ refused k) × (k < 256) × (0 < k)
     question-refuses k i = by-catalogue (λ C e v. stopped C e v (decodeTagged tags q) k refl w i)
 
-    pub input-begun : (n : ℕ) → R ≡ reading.Accepted n → Begun b q (record { refusal = 0; rows = l .rows; n = n; tags = l .tags; starts = l .starts }) T
-    input-begun n i = by-catalogue (λ C e v. begun C e v (decodeTagged tags q) n refl w i)
+    pub input-accepted : (n : ℕ) → R ≡ reading.Accepted n → HasInput b q (record { refusal = 0; rows = l .rows; n = n; tags = l .tags; starts = l .starts }) T
+    input-accepted n i = by-catalogue (λ C e v. begun C e v (decodeTagged tags q) n refl w i)

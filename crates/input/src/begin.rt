@@ -1,8 +1,8 @@
 // How every call on a question begins: the catalogue laid out, the question read against it.
 use catalogue::format::Column;
 use reader::whole::Reading;
-ghost use Rattle.reader.specs.Tables.{tables, TablesSized};
-ghost use Rattle.input.specs.Begun.{Begins};
+ghost use Rattle.reader.specs.Tables.{tables, HasTables};
+ghost use Rattle.input.specs.Beginning.{InputRead};
 
 // The number of the first check that fails, or 0 and what the later steps ask for.
 pub struct Beginning {
@@ -20,8 +20,8 @@ pub fn begin(
     offsets: &mut [usize],
     ancestors: &mut [u8],
 ) -> Beginning
-    requires { ⌜ TablesSized (tables (now offsets) (now ancestors)) ⌝ }
-    ensures { λ r. ⌜ Begins (now (catalogue .entry)) (now (question .entry)) r (tables (now (offsets .exit)) (now (ancestors .exit))) ⌝ }
+    requires { ⌜ HasTables (tables (now offsets) (now ancestors)) ⌝ }
+    ensures { λ r. ⌜ InputRead (now (catalogue .entry)) (now (question .entry)) r (tables (now (offsets .exit)) (now (ancestors .exit))) ⌝ }
 {
     let layout = catalogue::layout::lay_out(catalogue);
     let refusal = layout.refusal;

@@ -10,7 +10,7 @@ ghost use lib.ListN.{length};
 ghost use Rattle.fields.specs.Header.{headerAt};
 ghost use Rattle.query.specs.Format.{depthOf};
 ghost use Rattle.query.specs.Decode.{groupField, predicateField, memberField};
-ghost use Rattle.records.specs.Offsets.{Located};
+ghost use Rattle.records.specs.Offsets.{HasFields};
 ghost use Rattle.records.specs.Table.{predicatesAt};
 ghost use Rattle.query.specs.Sound.{SoundField};
 
@@ -35,7 +35,7 @@ fn predicate_field(
     n: usize,
     offsets: &[usize],
 ) -> MemberField
-    requires { ⌜ (start ≤ end) × (end ≤ length (now q)) × Located (now q) (now offsets) n ⌝ }
+    requires { ⌜ (start ≤ end) × (end ≤ length (now q)) × HasFields (now q) (now offsets) n ⌝ }
     ensures { λ r. ⌜ r ≡ predicateField (now (tags .entry)) (now (q .entry)) (predicatesAt (now (q .entry)) (now (offsets .entry)) n) start end ⌝ }
 {
     if Predicate::LIMIT <= n {
@@ -60,7 +60,7 @@ pub fn read_field(
     n: usize,
     offsets: &[usize],
 ) -> MemberField
-    requires { ⌜ (at ≤ end) × (end ≤ length (now q)) × Located (now q) (now offsets) n ⌝ }
+    requires { ⌜ (at ≤ end) × (end ≤ length (now q)) × HasFields (now q) (now offsets) n ⌝ }
     ensures { λ r. ⌜ (r ≡ memberField (now (tags .entry)) (now (q .entry)) (depthOf allowed) (predicatesAt (now (q .entry)) (now (offsets .entry)) n) (headerAt (now (q .entry)) at end)) × SoundField (now (tags .entry)) (now (q .entry)) at end (depthOf allowed) n r ⌝ }
 {
     match fields::header::read_header(q, at, end) {

@@ -7,7 +7,7 @@ ghost use Rattle.fields.specs.Header.{headerSize, fieldEnd};
 ghost use Rattle.predicate.specs.Meaning.{same};
 ghost use Rattle.predicate.specs.Payload.{payloadHead};
 ghost use Rattle.query.specs.Decode.{payloadAt, isRepeated};
-ghost use Rattle.records.specs.Offsets.{Located};
+ghost use Rattle.records.specs.Offsets.{HasFields};
 ghost use Rattle.records.specs.Table.{predicatesAt};
 
 fn same_bytes(a: &[u8], b: &[u8]) -> bool
@@ -50,7 +50,7 @@ fn is_payload_at(payload: &[u8], q: &[u8], at: usize) -> bool
 
 // Whether one of the first n predicates has this payload.
 pub fn is_repeated(payload: &[u8], q: &[u8], offsets: &[usize], n: usize) -> bool
-    requires { ⌜ (payloadHead ≤ length (now payload)) × Located (now q) (now offsets) n ⌝ }
+    requires { ⌜ (payloadHead ≤ length (now payload)) × HasFields (now q) (now offsets) n ⌝ }
     ensures { λ r. ⌜ r ≡ isRepeated (now (payload .entry)) (predicatesAt (now (q .entry)) (now (offsets .entry)) n) ⌝ }
 {
     let mut left = n;

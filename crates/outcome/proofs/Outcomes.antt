@@ -8,16 +8,16 @@ use lib.ListN.{length}
 use lib.Dec.{ltb}
 use borrow.Author.Tests.{le-ltb, lt-ltb}
 use Rattle.fields.specs.Decoded.{Decoded, refused}
-use Rattle.predicate.specs.declared.answer.Answer.{Answer as Outcome}
-use Rattle.predicate.specs.declared.answer.Answer.the-variants.{No, Yes}
+use Rattle.predicate.specs.declared.outcome.Outcome.{Outcome}
+use Rattle.predicate.specs.declared.outcome.Outcome.the-variants.{No, Yes}
 use Rattle.predicate.specs.Meaning.{outcome}
 use Rattle.reader.specs.Tables.{Tables}
-use Rattle.run.specs.Run.{predicateAt}
+use Rattle.rows.specs.Task.{predicateAt}
 use Rattle.input.specs.declared.begin.Beginning.{Beginning}
 use Rattle.input.specs.Input.{Input, decodeInput}
-use Rattle.input.specs.Begun.{Begun}
+use Rattle.input.specs.Beginning.{HasInput}
 use Rattle.answers.specs.declared.word.Answer.the-variants.{Refused, Accepted}
-use Rattle.answers.specs.Refusals.{noSuchPlace}
+use Rattle.answers.specs.Refusals.{noSuchRowOrPredicate}
 use Rattle.answers.specs.Answers.{outcomeNumber, outcomeAnswer, Answered}
 
 pub outcome-answer-refused : (d : Decoded Input) (row c k : ℕ) → (d ≡ refused k) × (k < 256) → Answered (outcomeAnswer d row c) (Refused k)
@@ -28,7 +28,7 @@ number-small No = omega arith
 number-small Yes = omega arith
 
 -- the three ends of working out one condition, once the input is accepted
-module _ {b q : List ℕ} {r : Beginning} {T : Tables} (G : Begun b q r T) (row c : ℕ) where
+module _ {b q : List ℕ} {r : Beginning} {T : Tables} (G : HasInput b q r T) (row c : ℕ) where
   same-rows : G .input .catalogue .rows ≡ r .rows
   same-rows = sym (G .laid .rows) ∙ sym (G .rows)
 
@@ -38,10 +38,10 @@ module _ {b q : List ℕ} {r : Beginning} {T : Tables} (G : Begun b q r T) (row 
   pub has-such-row : row < r .rows → row < G .input .catalogue .rows
   has-such-row h = omega (arith, same-rows)
 
-  pub no-such-row : r .rows ≤ row → Answered (outcomeAnswer (decodeInput b q) row c) (Refused noSuchPlace)
+  pub no-such-row : r .rows ≤ row → Answered (outcomeAnswer (decodeInput b q) row c) (Refused noSuchRowOrPredicate)
   no-such-row h = (rw (G .decoded, le-ltb row (G .input .catalogue .rows) (omega (arith, same-rows))), omega arith)
 
-  pub no-such-predicate : row < r .rows → r .n ≤ c → Answered (outcomeAnswer (decodeInput b q) row c) (Refused noSuchPlace)
+  pub no-such-predicate : row < r .rows → r .n ≤ c → Answered (outcomeAnswer (decodeInput b q) row c) (Refused noSuchRowOrPredicate)
   no-such-predicate g h =
       (rw (G .decoded, has-row g, le-ltb c (length (G .input .query .predicates)) (omega (arith, G .tabled .count))), omega arith)
 

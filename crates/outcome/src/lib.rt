@@ -7,15 +7,15 @@ use plan::table::Plan;
 use query::format::Predicate;
 ghost use mathlib.Core.Path.{_≡_};
 ghost use Rattle.input.specs.Input.{decodeInput};
-ghost use Rattle.input.specs.Begun.{BegunOffsets};
+ghost use Rattle.input.specs.Beginning.{HasInputOffsets};
 ghost use Rattle.answers.specs.Answers.{outcomeNumber, outcomeAnswer, Answered};
 
-fn number_of(answer: predicate::answer::Answer) -> u64
-    ensures { λ r. ⌜ r ≡ outcomeNumber answer ⌝ }
+fn number_of(outcome: predicate::outcome::Outcome) -> u64
+    ensures { λ r. ⌜ r ≡ outcomeNumber outcome ⌝ }
 {
-    match answer {
-        predicate::answer::Answer::No => 0,
-        predicate::answer::Answer::Yes => 1,
+    match outcome {
+        predicate::outcome::Outcome::No => 0,
+        predicate::outcome::Outcome::Yes => 1,
     }
 }
 
@@ -27,7 +27,7 @@ fn outcome_accepted(
     entry: u64,
     condition: u64,
 ) -> Answer
-    requires { ⌜ BegunOffsets (now catalogue) (now question) begun (now offsets) ⌝ }
+    requires { ⌜ HasInputOffsets (now catalogue) (now question) begun (now offsets) ⌝ }
     ensures { λ r. ⌜ Answered (outcomeAnswer (decodeInput (now (catalogue .entry)) (now (question .entry))) entry condition) r ⌝ }
 {
     let rows = begun.rows;
@@ -35,10 +35,10 @@ fn outcome_accepted(
     let tags = begun.tags;
     let starts = begun.starts;
     if rows as u64 <= entry {
-        return Answer::Refused(Refusal::NO_SUCH_PLACE);
+        return Answer::Refused(Refusal::NO_SUCH_ROW_OR_PREDICATE);
     }
     if n as u64 <= condition {
-        return Answer::Refused(Refusal::NO_SUCH_PLACE);
+        return Answer::Refused(Refusal::NO_SUCH_ROW_OR_PREDICATE);
     }
     let mut plan = [0usize; Plan::TABLE];
     plan::table::plan_predicate(
@@ -50,7 +50,7 @@ fn outcome_accepted(
         &mut plan,
     );
     let fold = predicate::fold::fold_table();
-    let answer = plan::outcome::answer_of(
+    let outcome = plan::outcome::outcome_of(
         &fold,
         catalogue,
         question,
@@ -59,13 +59,13 @@ fn outcome_accepted(
         entry as usize,
     );
     Answer::Accepted {
-        first: number_of(answer),
+        first: number_of(outcome),
         second: 0,
         third: 0,
     }
 }
 
-// The refusals of the input, then that of the place.
+// The refusals of the input, then 18: no such row or predicate.
 pub fn outcome_at(catalogue: &[u8], question: &[u8], entry: u64, condition: u64) -> Answer
     ensures { λ r. ⌜ Answered (outcomeAnswer (decodeInput (now (catalogue .entry)) (now (question .entry))) entry condition) r ⌝ }
 {

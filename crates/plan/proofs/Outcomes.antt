@@ -7,15 +7,15 @@ use mathlib.Core.List.{List, []}
 use lib.ListN.{length, getD, take, drop}
 use Rattle.catalogue.specs.Catalogue.{Catalogue, numbers}
 use Rattle.catalogue.specs.Layout.{HasRow}
-use Rattle.predicate.specs.declared.answer.Answer.{Answer}
+use Rattle.predicate.specs.declared.outcome.Outcome.{Outcome}
 use Rattle.predicate.specs.Kinds.{plainKind}
 use Rattle.predicate.specs.Meaning.{Predicate, outcomeOf, truth}
 use Rattle.predicate.specs.Outcome.{HasRange, OutcomeIs}
 use Rattle.predicate.proofs.PayloadLaws.{range-size}
-use Rattle.sets.specs.Set.{member}
+use Rattle.sets.specs.Set.{has}
 use Rattle.scan.specs.Met.{ShownRows, HasRows, MetAt}
 use Rattle.plan.specs.Plan.{Access, accessWidth, accessAt}
-use Rattle.plan.specs.Access.{Accessed, HasOutcome, AnswerIs, RowsIn, HasOutcomes, MetIs}
+use Rattle.plan.specs.Access.{Accessed, HasOutcome, AccessGives, RowsIn, HasOutcomes, MetIs}
 
 -- the outcome by the plan: what the code hands to `outcome_at` is what the access shows
 module _ (b q P : List ℕ) (c row : ℕ) where
@@ -53,9 +53,9 @@ module _ (b q P : List ℕ) (c row : ℕ) where
     unfolding accessAt
     has-range h = rw (k, same-operand) (range-size _ _ (h .2 .operand-fits))
 
-    pub answer-is : (a : Answer) → OutcomeIs b tag (getD P (accessWidth * c + 1) 0) kind (take (from + size - from) (drop from q)) row a → AnswerIs b q (accessAt P c) row a
+    pub access-gives : (a : Outcome) → OutcomeIs b tag (getD P (accessWidth * c + 1) 0) kind (take (from + size - from) (drop from q)) row a → AccessGives b q (accessAt P c) row a
     unfolding accessAt
-    answer-is a o C p A l =
+    access-gives a o C p A l =
         o (C .rows) (getD (C .columns) (p .column) (numbers [])) (rw t (A .shown)) l
         ∙ ap₂ (λ (z : ℕ) (y : List ℕ). outcomeOf (getD (C .columns) (p .column) (numbers [])) z y row) (k ∙ A .kind) (same-operand ∙ A .operand)
 
@@ -91,4 +91,4 @@ module _ (b q P : List ℕ) (c base due : ℕ) where
     unfolding accessAt
     met-is r m C p A R d =
         m (C .rows) (getD P (accessWidth * c) 0) (getD (C .columns) (p .column) (numbers [])) (shown-rows C p A R) d
-        ∙ ap₂ (λ (z : ℕ) (y : List ℕ). member due d && truth (outcomeOf (getD (C .columns) (p .column) (numbers [])) z y (base + d))) (k ∙ A .kind) (part-is ∙ A .operand)
+        ∙ ap₂ (λ (z : ℕ) (y : List ℕ). has due d && truth (outcomeOf (getD (C .columns) (p .column) (numbers [])) z y (base + d))) (k ∙ A .kind) (part-is ∙ A .operand)

@@ -6,11 +6,11 @@ use mathlib.Core.List.{List, []}
 use lib.ListN.{length, getD, take, drop}
 use Rattle.catalogue.specs.Catalogue.{Catalogue, numbers}
 use Rattle.catalogue.specs.Layout.{Shows}
-use Rattle.predicate.specs.declared.answer.Answer.{Answer}
+use Rattle.predicate.specs.declared.outcome.Outcome.{Outcome}
 use Rattle.predicate.specs.Kinds.{plainKind}
 use Rattle.predicate.specs.Meaning.{Predicate, outcome, truth}
 use Rattle.predicate.specs.Payload.{kindFits, operandFits}
-use Rattle.sets.specs.Set.{member}
+use Rattle.sets.specs.Set.{has}
 use Rattle.sets.specs.Kept.{KeptBy}
 use Rattle.plan.specs.Plan.{Access}
 
@@ -33,13 +33,13 @@ pub record Accessed (b q : List ℕ) (C : Catalogue) (p : Predicate) (x : Access
 abbrev pub HasOutcome : (b q : List ℕ) → Access → (row : ℕ) → Type 0
 HasOutcome b q x row = (C : Catalogue) × (p : Predicate) × Accessed b q C p x × (row < C .rows)
 
--- the answer at a row of whatever predicate is shown there
-abbrev pub AnswerIs : (b q : List ℕ) → Access → (row : ℕ) → Answer → Type 0
-AnswerIs b q x row a = (C : Catalogue) (p : Predicate) → Accessed b q C p x → row < C .rows → a ≡ outcome C p row
+-- the outcome at a row of whatever predicate is shown there
+abbrev pub AccessGives : (b q : List ℕ) → Access → (row : ℕ) → Outcome → Type 0
+AccessGives b q x row a = (C : Catalogue) (p : Predicate) → Accessed b q C p x → row < C .rows → a ≡ outcome C p row
 
 -- the due rows of the block that begins with row `base` are among so many rows
 abbrev pub RowsIn : (base due rows : ℕ) → Type 0
-RowsIn base due rows = (d : ℕ) → member due d ≡ true → base + d < rows
+RowsIn base due rows = (d : ℕ) → has due d ≡ true → base + d < rows
 
 -- some predicate is shown there, of a catalogue that has the due rows
 abbrev pub HasOutcomes : (b q : List ℕ) → Access → (base due : ℕ) → Type 0

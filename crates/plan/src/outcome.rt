@@ -1,25 +1,25 @@
-// What a planned predicate gives: its answer at a row, and the due rows of a block at which it is met.
+// What a planned predicate gives: its outcome at a row, and the due rows of a block at which it is met.
 use crate::table::Plan;
-use predicate::answer::Answer;
+use predicate::outcome::Outcome;
 ghost use mathlib.Core.Path.{_≡_};
 ghost use Prim.Native.Nat.{_<_};
 ghost use lib.ListN.{length};
 ghost use Rattle.predicate.specs.Outcome.{Folds};
 ghost use Rattle.query.specs.Format.{predicateLimit};
 ghost use Rattle.plan.specs.Plan.{planSize, accessAt};
-ghost use Rattle.plan.specs.Access.{HasOutcome, AnswerIs, HasOutcomes, MetIs};
+ghost use Rattle.plan.specs.Access.{HasOutcome, AccessGives, HasOutcomes, MetIs};
 
-// The answer of predicate c at a row.
-pub fn answer_of(
+// The outcome of predicate c at a row.
+pub fn outcome_of(
     fold: &[u8],
     catalogue: &[u8],
     q: &[u8],
     plan: &[usize],
     c: usize,
     row: usize,
-) -> Answer
+) -> Outcome
     requires { ⌜ Folds (now fold) × (c < predicateLimit) × (length (now plan) ≡ planSize) × HasOutcome (now catalogue) (now q) (accessAt (now plan) c) row ⌝ }
-    ensures { λ r. ⌜ AnswerIs (now (catalogue .entry)) (now (q .entry)) (accessAt (now (plan .entry)) c) row r ⌝ }
+    ensures { λ r. ⌜ AccessGives (now (catalogue .entry)) (now (q .entry)) (accessAt (now (plan .entry)) c) row r ⌝ }
 {
     let i = Plan::WIDTH * c;
     let tag = fields::number::narrow(plan[i]);
@@ -27,7 +27,7 @@ pub fn answer_of(
     let kind = fields::number::narrow(plan[i + 2]);
     let from = plan[i + 3];
     let to = from + plan[i + 4];
-    predicate::outcome::outcome_at(fold, catalogue, tag, start, kind, &q[from..to], row)
+    predicate::row::outcome_at(fold, catalogue, tag, start, kind, &q[from..to], row)
 }
 
 // The due rows of a block at which predicate c is taken for yes: bit d is row base + d.

@@ -5,7 +5,7 @@ ghost use mathlib.Core.Path.{_≡_};
 ghost use Prim.Native.Nat.{_≤_, _<_};
 ghost use lib.ListN.{length};
 ghost use Rattle.query.specs.Format.{predicateLimit};
-ghost use Rattle.records.specs.Offsets.{Located};
+ghost use Rattle.records.specs.Offsets.{HasFields};
 ghost use Rattle.records.specs.Table.{recordAt, HasRecord, recordIn};
 ghost use Rattle.plan.specs.Plan.{planSize, accessAt, accessOf, HasColumn, HaveColumns, PutAccess, Planned};
 
@@ -76,7 +76,7 @@ pub fn fill_plan(
     n: usize,
     plan: &mut [usize],
 )
-    requires { ⌜ Located (now q) (now offsets) n × (length (now plan) ≡ planSize) × HaveColumns (now tags) (now starts) (recordAt (now q) (now offsets)) n ⌝ }
+    requires { ⌜ HasFields (now q) (now offsets) n × (length (now plan) ≡ planSize) × HaveColumns (now tags) (now starts) (recordAt (now q) (now offsets)) n ⌝ }
     ensures { λ _. ⌜ Planned (now (tags .entry)) (now (starts .entry)) (recordAt (now (q .entry)) (now (offsets .entry))) (now (plan .exit)) n ⌝ }
 {
     let mut table = [PredicateRecord {

@@ -9,8 +9,8 @@ use Rattle.fields.specs.Numbers.{numberAt}
 use Rattle.catalogue.specs.Format.{numberSize, blankNumber}
 use Rattle.catalogue.specs.Catalogue.{Catalogue, Column, numbers, texts}
 use Rattle.predicate.specs.Kinds.{rangeKind, numberBlankKind, equalsKind, beginsKind, containsKind, textBlankKind, oppositeFrom, plainKind}
-use Rattle.predicate.specs.declared.answer.Answer.{Answer}
-use Rattle.predicate.specs.declared.answer.Answer.the-variants.{No, Yes}
+use Rattle.predicate.specs.declared.outcome.Outcome.{Outcome}
+use Rattle.predicate.specs.declared.outcome.Outcome.the-variants.{No, Yes}
 
 abbrev pub between : (low high n : ℕ) → Bool
 between low high n = leb low n && leb n high
@@ -88,29 +88,29 @@ textTest kind o t =
     (cond (eqb kind containsKind) (contains o t)
     (cond (eqb kind textBlankKind) (textBlank t) false)))
 
-abbrev pub answerOf : Bool → Answer
-answerOf true = Yes
-answerOf false = No
+abbrev pub yesIf : Bool → Outcome
+yesIf true = Yes
+yesIf false = No
 
-abbrev pub opposite : Answer → Answer
+abbrev pub opposite : Outcome → Outcome
 opposite No = Yes
 opposite Yes = No
 
--- what a run takes an answer for
-abbrev pub truth : Answer → Bool
+-- what a run takes an outcome for
+abbrev pub truth : Outcome → Bool
 truth No = false
 truth Yes = true
 
--- the answer of a kind from 0 to 5 at a row, document 01's entry
-abbrev pub plainOf : Column → (kind : ℕ) (operand : List ℕ) (row : ℕ) → Answer
-plainOf (numbers ns) kind o row = answerOf (numberTest kind o (getD ns row 0))
-plainOf (texts ts) kind o row = answerOf (textTest kind o (getD ts row []))
+-- the outcome of a kind from 0 to 5 at a row, document 01's entry
+abbrev pub plainOf : Column → (kind : ℕ) (operand : List ℕ) (row : ℕ) → Outcome
+plainOf (numbers ns) kind o row = yesIf (numberTest kind o (getD ns row 0))
+plainOf (texts ts) kind o row = yesIf (textTest kind o (getD ts row []))
 
 -- "Kinds 128 to 133: the opposite outcome of 0 to 5, at every entry"
-abbrev pub turned : (kind : ℕ) → Answer → Answer
+abbrev pub turned : (kind : ℕ) → Outcome → Outcome
 turned kind a = cond (ltb kind oppositeFrom) a (opposite a)
 
-unfoldable pub outcomeOf : Column → (kind : ℕ) (operand : List ℕ) (row : ℕ) → Answer
+unfoldable pub outcomeOf : Column → (kind : ℕ) (operand : List ℕ) (row : ℕ) → Outcome
 outcomeOf c kind o row = turned kind (plainOf c (plainKind kind) o row)
 
 -- a condition of a query: "column, kind, operand's place (from the question's first byte)", with the operand itself. The place is for
@@ -121,5 +121,5 @@ pub record Predicate : Type 0 where
   pub operand : List ℕ
   pub place : ℕ
 
-abbrev pub outcome : Catalogue → Predicate → (row : ℕ) → Answer
+abbrev pub outcome : Catalogue → Predicate → (row : ℕ) → Outcome
 outcome c p row = outcomeOf (getD (c .columns) (p .column) (numbers [])) (p .kind) (p .operand) row

@@ -5,7 +5,7 @@ use mathlib.Core.List.{List}
 use lib.ListN.{length, getD}
 use Rattle.catalogue.specs.Catalogue.{Column}
 use Rattle.catalogue.specs.Layout.{Shows}
-use Rattle.predicate.specs.declared.answer.Answer.{Answer}
+use Rattle.predicate.specs.declared.outcome.Outcome.{Outcome}
 use Rattle.predicate.specs.Kinds.{rangeKind}
 use Rattle.predicate.specs.Meaning.{fold, rangeSize, plainOf, outcomeOf}
 
@@ -18,11 +18,11 @@ pub record Folds (table : List ℕ) : Type 0 where
 abbrev pub HasRange : (kind : ℕ) (operand : List ℕ) → Type 0
 HasRange kind o = kind ≡ rangeKind → rangeSize ≤ length o
 
--- the answer at a row of whatever column is shown there
-abbrev pub PlainIs : List ℕ → (tag start kind : ℕ) (operand : List ℕ) (row : ℕ) → Answer → Type 0
+-- the outcome at a row of whatever column is shown there
+abbrev pub PlainIs : List ℕ → (tag start kind : ℕ) (operand : List ℕ) (row : ℕ) → Outcome → Type 0
 PlainIs b tag start kind o row r =
     (rows : ℕ) (c : Column) → Shows b rows tag start c → row < rows → r ≡ plainOf c kind o row
 
-abbrev pub OutcomeIs : List ℕ → (tag start kind : ℕ) (operand : List ℕ) (row : ℕ) → Answer → Type 0
+abbrev pub OutcomeIs : List ℕ → (tag start kind : ℕ) (operand : List ℕ) (row : ℕ) → Outcome → Type 0
 OutcomeIs b tag start kind o row r =
     (rows : ℕ) (c : Column) → Shows b rows tag start c → row < rows → r ≡ outcomeOf c kind o row

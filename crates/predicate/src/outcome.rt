@@ -1,50 +1,33 @@
-// The outcome of a predicate at a row, read in place from a checked catalogue.
-use crate::answer::Answer;
-use crate::kind::Kind;
-use catalogue::format::Column;
-ghost use Rattle.catalogue.specs.Layout.{HasRow};
-ghost use Rattle.predicate.specs.Kinds.{plainKind};
-ghost use Rattle.predicate.specs.Outcome.{Folds, HasRange, PlainIs, OutcomeIs};
+// The outcome of a predicate at a row.
+ghost use mathlib.Core.Path.{_≡_};
+ghost use Rattle.predicate.specs.Meaning.{yesIf, opposite, truth};
 
-// The answer of a kind below the opposites.
-fn plain_at(
-    table: &[u8],
-    b: &[u8],
-    tag: u8,
-    start: usize,
-    kind: u8,
-    operand: &[u8],
-    row: usize,
-) -> Answer
-    requires { ⌜ Folds (now table) × HasRow (now b) tag start row × HasRange kind (now operand) ⌝ }
-    ensures { λ r. ⌜ PlainIs (now (b .entry)) tag start kind (now (operand .entry)) row r ⌝ }
-{
-    if tag == Column::NUMBER_TAG {
-        let n = catalogue::column::number_at(b, start, row);
-        return crate::answer::answer_of(crate::number::number_test(kind, operand, n));
-    }
-    let text = catalogue::column::text_at(b, start, row);
-    crate::answer::answer_of(crate::text::text_test(table, kind, operand, text))
+pub enum Outcome {
+    No,
+    Yes,
 }
 
-// The answer of any kind, in the column of this tag whose payload starts there. The table is that of fold_table,
-// taken once by the caller.
-pub fn outcome_at(
-    table: &[u8],
-    b: &[u8],
-    tag: u8,
-    start: usize,
-    kind: u8,
-    operand: &[u8],
-    row: usize,
-) -> Answer
-    requires { ⌜ Folds (now table) × HasRow (now b) tag start row × HasRange (plainKind kind) (now operand) ⌝ }
-    ensures { λ r. ⌜ OutcomeIs (now (b .entry)) tag start kind (now (operand .entry)) row r ⌝ }
+pub fn yes_if(test: bool) -> Outcome
+    ensures { λ r. ⌜ r ≡ yesIf test ⌝ }
 {
-    let plain = crate::kind::plain_kind(kind);
-    let answer = plain_at(table, b, tag, start, plain, operand, row);
-    if kind < Kind::OPPOSITE_FROM {
-        return answer;
+    if test { Outcome::Yes } else { Outcome::No }
+}
+
+pub fn opposite_of(a: Outcome) -> Outcome
+    ensures { λ r. ⌜ r ≡ opposite a ⌝ }
+{
+    match a {
+        Outcome::No => Outcome::Yes,
+        Outcome::Yes => Outcome::No,
     }
-    crate::answer::opposite_of(answer)
+}
+
+// What a run takes an outcome for.
+pub fn truth_of(a: Outcome) -> bool
+    ensures { λ r. ⌜ r ≡ truth a ⌝ }
+{
+    match a {
+        Outcome::No => false,
+        Outcome::Yes => true,
+    }
 }

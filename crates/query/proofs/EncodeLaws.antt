@@ -18,12 +18,12 @@ use Rattle.predicate.specs.Meaning.{Predicate}
 use Rattle.predicate.specs.Payload.{tagsOf, predicateOf, payloadHead}
 use Rattle.query.specs.Format.{conjunctionTag, disjunctionTag, predicateTag}
 use Rattle.query.specs.Query.{Query}
-use Rattle.query.specs.Decode.{payloadAt, payloadOf, settling, decodeTagged, decodeQuery}
+use Rattle.query.specs.Decode.{payloadAt, payloadOf, settlingOf, decodeTagged, decodeQuery}
 use Rattle.query.specs.Encode.{groupTag, encode, encodes, payloadNumbered, payloads}
 use Rattle.query.proofs.Payloads.{Part, part-left, part-right, part-one, payload-again}
 use Rattle.query.proofs.Induction.{LeafAt, GroupAt, Said, Steps, accepted-holds}
 
-group-tag : (tag : ℕ) → (eqb tag conjunctionTag || eqb tag disjunctionTag) ≡ true → tag ≡ groupTag (settling tag)
+group-tag : (tag : ℕ) → (eqb tag conjunctionTag || eqb tag disjunctionTag) ≡ true → tag ≡ groupTag (settlingOf tag)
 group-tag tag h = go (eqb tag disjunctionTag) refl (eqb tag conjunctionTag) refl h
   where
     go : (x : Bool) → eqb tag disjunctionTag ≡ x → (y : Bool) → eqb tag conjunctionTag ≡ y → (y || x) ≡ true → tag ≡ groupTag x
@@ -59,7 +59,7 @@ module _ (q : List ℕ) (bytes : Bytes q) where
         (payload-written at end predicateTag start stop (f .stands) inside))
 
     group-written : (at end depth : ℕ) (earlier : List Predicate) (tag start stop : ℕ) (f : Forest ℕ) (ps : List Predicate) → GroupAt q at end depth tag start stop
-        → ForestWritten start stop (depth + 1) earlier f ps stop → TreeWritten at end depth earlier (group (settling tag) f) ps stop
+        → ForestWritten start stop (depth + 1) earlier f ps stop → TreeWritten at end depth earlier (group (settlingOf tag) f) ps stop
     unfolding encode relabel
     group-written at end depth earlier tag start stop f ps s h inside all part =
         let w = s .stands .within in

@@ -18,7 +18,7 @@ use Rattle.query.specs.declared.member.MemberField.{MemberField}
 use Rattle.query.specs.declared.member.MemberField.the-variants as field
 use Rattle.query.specs.Format.{predicateLimit, bytesAfterQuery}
 use Rattle.query.specs.Query.{Query}
-use Rattle.query.specs.Decode.{payloadAt, payloadOf, memberField, Read, asGroup, fieldThen, putBefore, memberThen, unlessEnd, member, members, wholeQuery, decodeTagged}
+use Rattle.query.specs.Decode.{payloadAt, payloadOf, memberField, Read, asGroup, fieldThen, memberBefore, memberThen, unlessEnd, member, members, wholeQuery, decodeTagged}
 use Rattle.query.specs.Sound.{SoundField}
 use Rattle.query.proofs.PayloadBytes.{operand-bytes, payload-parts}
 use Rattle.query.proofs.Fields.{field-sound}
@@ -124,7 +124,7 @@ module _ (tags q : List ℕ) where
         group-sound (go start stop) tag start stop (omega arith) (s .1) (s .2) (g start stop)
 
     more-sound : (t : Tree ℕ) (ps : List Predicate) (next : ℕ) (o : Read (Forest ℕ)) → TreeSound tags q at end number t ps next
-        → SoundForest tags q next end (number + length ps) o → SoundForest tags q at end number (putBefore t ps o)
+        → SoundForest tags q next end (number + length ps) o → SoundForest tags q at end number (memberBefore t ps o)
     unfolding size
     more-sound t ps next (refused e) s r = tt
     more-sound t ps next (accepted (f, rest, last)) s r = record {

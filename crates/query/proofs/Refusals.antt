@@ -17,7 +17,7 @@ use Rattle.query.specs.declared.member.MemberField.the-variants as field
 use Rattle.query.specs.Format.{bytesAfterQuery}
 use Rattle.query.specs.Query.{Query}
 use Rattle.query.specs.Sound.{IsRefusal, SoundField}
-use Rattle.query.specs.Decode.{memberField, Read, asGroup, fieldThen, putBefore, memberThen, unlessEnd, member, members, wholeQuery, decodeTagged, decodeQuery}
+use Rattle.query.specs.Decode.{memberField, Read, asGroup, fieldThen, memberBefore, memberThen, unlessEnd, member, members, wholeQuery, decodeTagged, decodeQuery}
 use Rattle.query.proofs.Fields.{field-sound}
 use Rattle.query.proofs.Readings.{SoundTree, member-sound}
 
@@ -36,7 +36,7 @@ module _ (tags q : List ℕ) where
   field-stopping at end depth number (field.Leaf start stop) go s g = tt
   field-stopping at end depth number (field.Group tag start stop) go s g = group-stopping tag (go start stop) (g start stop (s .0) (s .1) (s .2))
 
-  before-stopping : (t : Tree ℕ) (ps : List Predicate) (o : Read (Forest ℕ)) → Stopping o → Stopping (putBefore t ps o)
+  before-stopping : (t : Tree ℕ) (ps : List Predicate) (o : Read (Forest ℕ)) → Stopping o → Stopping (memberBefore t ps o)
   before-stopping t ps (refused e) s = s
   before-stopping t ps (accepted (f, rest, next)) s = tt
 

@@ -54,11 +54,11 @@ abbrev pub Read : Type 0 → Type 0
 Read A = Decoded (A × List Predicate × ℕ)
 
 -- the outcome that settles a group: no for all-of, yes for any-of
-abbrev pub settling : (tag : ℕ) → Bool
-settling tag = eqb tag disjunctionTag
+abbrev pub settlingOf : (tag : ℕ) → Bool
+settlingOf tag = eqb tag disjunctionTag
 
 abbrev pub asGroup : (tag : ℕ) → Read (Forest ℕ) → Read (Tree ℕ)
-asGroup tag r = mapped (λ (f, ps, next). (group (settling tag) f, ps, next)) r
+asGroup tag r = mapped (λ (f, ps, next). (group (settlingOf tag) f, ps, next)) r
 
 -- a member, from its field; its number is how many predicates stand before it
 abbrev pub fieldThen : (q : List ℕ) → (number : ℕ) → MemberField → (ℕ → ℕ → Read (Forest ℕ)) → Read (Tree ℕ)
@@ -66,11 +66,11 @@ fieldThen q number (field.Refused e) members = refused e
 fieldThen q number (field.Leaf start end) members = accepted (leaf number, predicateOf (start + payloadHead) (payloadAt q start end) ∷ [], end)
 fieldThen q number (field.Group tag start end) members = asGroup tag (members start end)
 
-abbrev pub putBefore : Tree ℕ → List Predicate → Read (Forest ℕ) → Read (Forest ℕ)
-putBefore t ps r = mapped (λ (f, rest, next). (more t f, ps ++ rest, next)) r
+abbrev pub memberBefore : Tree ℕ → List Predicate → Read (Forest ℕ) → Read (Forest ℕ)
+memberBefore t ps r = mapped (λ (f, rest, next). (more t f, ps ++ rest, next)) r
 
 abbrev pub memberThen : Read (Tree ℕ) → (List Predicate → ℕ → Read (Forest ℕ)) → Read (Forest ℕ)
-memberThen r rest = andThen r (λ (t, ps, next). putBefore t ps (rest ps next))
+memberThen r rest = andThen r (λ (t, ps, next). memberBefore t ps (rest ps next))
 
 abbrev pub unlessEnd : Bool → (at : ℕ) → Read (Forest ℕ) → Read (Forest ℕ)
 unlessEnd true at r = accepted (none, [], at)

@@ -12,8 +12,8 @@ use Rattle.fields.specs.Decoded.{refused, accepted}
 use Rattle.fields.specs.Header.{headerAt, headerSize, fieldEnd}
 use Rattle.fields.proofs.Tests.{tests}
 use Rattle.strategy.specs.Bools.{which, ltb-lt, ltb-le}
-use Rattle.strategy.specs.Tree.{Tree, leaf, group, Forest, none, more, size, sizes, InRun}
-use Rattle.strategy.specs.Climb.{enclosing, enclosingIn}
+use Rattle.strategy.specs.Tree.{Tree, leaf, group, Forest, none, more, size, sizes, InSpan}
+use Rattle.strategy.specs.Propagation.{enclosing, enclosingIn}
 use Rattle.predicate.specs.Meaning.{Predicate}
 use Rattle.predicate.specs.Payload.{predicateOf, payloadHead}
 use Rattle.query.specs.declared.member.MemberField.{MemberField}
@@ -21,12 +21,12 @@ use Rattle.query.specs.declared.member.MemberField.the-variants as field
 use Rattle.reader.specs.declared.member.Progress.{Progress}
 use Rattle.reader.specs.declared.member.Progress.the-variants.{Refused, Next}
 use Rattle.query.specs.Format.{predicateLimit, depthLimit, depthOf}
-use Rattle.query.specs.Decode.{payloadAt, memberField, Read, settling, asGroup, putBefore, memberThen, member, members}
+use Rattle.query.specs.Decode.{payloadAt, memberField, Read, settlingOf, asGroup, memberBefore, memberThen, member, members}
 use Rattle.records.specs.Offsets.{HasPayload}
 use Rattle.records.specs.Table.{predicatesAt}
 use Rattle.reader.specs.Tables.{Tables, tables}
-use Rattle.ancestors.specs.Ancestors.{ancestorsWidth, ancestorsSize, heightAt, groupOver, ancestorsOf, Low, Under, Kept, Spans, Closed}
-use Rattle.reader.specs.Reader.{AncestorsGained, Reported, MemberReported, MembersReported, MemberRead, MembersRead, StaysWithin, Room}
+use Rattle.ancestors.specs.Ancestors.{ancestorsWidth, ancestorsSize, heightAt, ancestorOver, ancestorsOf, Low, Under, SameHeights, Spans, Closed}
+use Rattle.reader.specs.Reader.{AncestorsGained, Reported, MemberReported, MembersReported, MemberRead, MembersRead, StaysWithin, Readable}
 use Rattle.records.proofs.Records.{predicates-put, payload-put, record-shows}
 use Rattle.ancestors.proofs.AncestorLaws.{fresh-height, fresh-kept, fresh-none, fresh-old, fresh-low, fresh-spans}
 use Rattle.query.proofs.Readings.{SoundTree, SoundForest, member-sound, members-sound}
@@ -45,19 +45,19 @@ gained-more n k l t f T T1 T2 e A B = record {
   new = λ c i. go c i (which (ltb c (n + size t)));
 }
   where
-    go : (c : ℕ) → InRun n (k + l) c → (ltb c (n + size t) ≡ true) ⊎ (ltb c (n + size t) ≡ false)
+    go : (c : ℕ) → InSpan n (k + l) c → (ltb c (n + size t) ≡ true) ⊎ (ltb c (n + size t) ≡ false)
         → ancestorsOf (T2 .ancestors) c ≡ cond (ltb c (n + size t)) (enclosing t n c) (enclosingIn f (n + size t) c)
     go c i (inl z) = let h : c < n + size t = ltb-lt c (n + size t) z in rw z (B .old c (omega arith) ∙ A .new c (omega arith))
     go c i (inr z) = let h : n + size t ≤ c = ltb-le c (n + size t) z in rw (z, e) (B .new c (omega arith))
 
 gained-group : (n k tag : ℕ) (f : Forest ℕ) (T T1 T2 : Tables) → sizes f ≡ k → AncestorsGained n k (enclosingIn f n) T T1
-    → Closed n (n + k) (n + k) tag (T1 .ancestors) (T2 .ancestors) → AncestorsGained n k (enclosing (group (settling tag) f) n) T T2
+    → Closed n (n + k) (n + k) tag (T1 .ancestors) (T2 .ancestors) → AncestorsGained n k (enclosing (group (settlingOf tag) f) n) T T2
 unfolding enclosing
 gained-group n k tag f T T1 T2 e A C = record {
   old = λ c h. C .before c h ∙ A .old c h;
   new = λ c i.
       let w : (n + k) - n ≡ k = omega arith in
-      rw e (rw w at (C .inside c (i .0) (i .1) ∙ ap (λ l. l ++ (groupOver n (n + k) tag ∷ [])) (A .new c i)));
+      rw e (rw w at (C .inside c (i .0) (i .1) ∙ ap (λ l. l ++ (ancestorOver n (n + k) tag ∷ [])) (A .new c i)));
 }
 
 gained-none : (n : ℕ) (T : Tables) → AncestorsGained n 0 (enclosingIn none n) T T
@@ -76,7 +76,7 @@ gained-leaf os os′ A n d h l = record {
 module _ (q : List ℕ) (n : ℕ) (T T1 T2 : Tables) where
   put-reported : (o : Read (Forest ℕ)) (t : Tree ℕ) (ps : List Predicate) (r : Progress) → size t ≡ length ps
       → predicatesAt q (T1 .offsets) (n + length ps) ≡ predicatesAt q (T .offsets) n ++ ps → AncestorsGained n (length ps) (enclosing t n) T T1
-      → Reported q enclosingIn (n + length ps) o r T1 T2 → Reported q enclosingIn n (putBefore t ps o) r T T2
+      → Reported q enclosingIn (n + length ps) o r T1 T2 → Reported q enclosingIn n (memberBefore t ps o) r T T2
   put-reported (refused e) t ps r s a A b = b
   put-reported (accepted (f, rest, next)) t ps r s a A b = record {
     answer = simp (length-append, ← add-assoc) (b .answer);
@@ -207,7 +207,7 @@ group-within q at end depth inner n start stop p m tag T0 os A A′ a b deeper w
   spans = C .spans;
 }
 
-under-more : (n m y d : ℕ) (A A′ : List ℕ) → Under n m d A → Under m y d A′ → Kept m A A′ → Under n y d A′
+under-more : (n m y d : ℕ) (A A′ : List ℕ) → Under n m d A → Under m y d A′ → SameHeights m A A′ → Under n y d A′
 under-more n m y d A A′ a b e c i j = go (which (ltb c m))
   where
     go : (ltb c m ≡ true) ⊎ (ltb c m ≡ false) → heightAt A′ c + d ≤ depthLimit
@@ -218,12 +218,12 @@ under-more n m y d A A′ a b e c i j = go (which (ltb c m))
 pub record InGroup (tags q : List ℕ) (at end allowed n p m : ℕ) (T0 T : Tables) : Type 0 where
   pub past : at ≤ p
   pub more : n ≤ m
-  pub room : Room p end allowed m q T
+  pub room : Readable p end allowed m q T
   pub under : Under n m (depthOf allowed) (T .ancestors)
-  pub kept : Kept n (T0 .ancestors) (T .ancestors)
+  pub kept : SameHeights n (T0 .ancestors) (T .ancestors)
   pub rest : (r : Progress) (T′ : Tables) → MembersReported tags q p end (depthOf allowed) m r T T′ → MembersReported tags q at end (depthOf allowed) n r T0 T′
 
-pub in-group-none : (tags q : List ℕ) (at end allowed n : ℕ) (T : Tables) → Room at end allowed n q T → InGroup tags q at end allowed n at n T T
+pub in-group-none : (tags q : List ℕ) (at end allowed n : ℕ) (T : Tables) → Readable at end allowed n q T → InGroup tags q at end allowed n at n T T
 in-group-none tags q at end allowed n T R = record {
   past = omega arith;
   more = omega arith;

@@ -9,7 +9,7 @@ use lib.Dec.{ltb, leb, eqb}
 use borrow.Author.Tests.{eq-eqb, ne-eqb, leb-true, ltb-true}
 use Rattle.fields.specs.Decoded.{refused, accepted}
 use Rattle.strategy.specs.Tree.{Tree}
-use Rattle.strategy.specs.Climb.{enclosing}
+use Rattle.strategy.specs.Propagation.{enclosing}
 use Rattle.predicate.specs.Kinds.{plainKind, oppositeFrom}
 use Rattle.predicate.specs.Meaning.{Predicate}
 use Rattle.predicate.specs.Payload.{kindFits}
@@ -20,9 +20,9 @@ use Rattle.reader.specs.declared.whole.Reading.the-variants.{Refused, Ac
 use Rattle.query.specs.Format.{bytesAfterQuery}
 use Rattle.query.specs.Decode.{payloadOf, Read, member, wholeQuery, decodeTagged}
 use Rattle.records.specs.Table.{recordAt, predicateIn, predicatesAt}
-use Rattle.reader.specs.Tables.{Tables, TablesSized}
+use Rattle.reader.specs.Tables.{Tables, HasTables}
 use Rattle.reader.specs.Reader.{Reported, MemberRead}
-use Rattle.reader.specs.Handed.{Recorded, Handed}
+use Rattle.reader.specs.QueryRead.{Recorded, QueryRead}
 use Rattle.query.proofs.Readings.{Fits, Each, SoundTree, member-sound}
 use Rattle.query.proofs.Accepted.{each-at}
 use Rattle.records.proofs.Records.{predicates-length, predicates-at}
@@ -57,29 +57,29 @@ module _ (tags q : List ℕ) (T T1 : Tables) where
   unfolding predicatesAt
   reported r h = h .exact (2 * length q + 1) (omega arith)
 
-  pub whole-refused : (e : ℕ) → MemberRead tags q 0 (length q) 0 0 (progress.Refused e) T T1 → Handed tags q (decodeTagged tags q) (Refused e) T1
+  pub whole-refused : (e : ℕ) → MemberRead tags q 0 (length q) 0 0 (progress.Refused e) T T1 → QueryRead tags q (decodeTagged tags q) (Refused e) T1
   unfolding decodeTagged
   whole-refused e h = go (member (2 * length q + 1) tags q 0 (length q) 0 []) (reported (progress.Refused e) h)
     where
-      go : (o : Read (Tree ℕ)) → Reported q enclosing 0 o (progress.Refused e) T T1 → Handed tags q (wholeQuery q o) (Refused e) T1
+      go : (o : Read (Tree ℕ)) → Reported q enclosing 0 o (progress.Refused e) T T1 → QueryRead tags q (wholeQuery q o) (Refused e) T1
       go (refused x) t = let z : e ≡ x = cc in (ap Refused z, rw z at (h .within))
       go (accepted (t, ps, next)) d = let z : _≡_ {A = ℕ} 0 1 = cc in absurd (omega arith)
 
-  pub whole-left : (p m : ℕ) → MemberRead tags q 0 (length q) 0 0 (progress.Next p m) T T1 → (p ≡ length q → ⊥) → Handed tags q (decodeTagged tags q) (Refused bytesAfterQuery) T1
+  pub whole-left : (p m : ℕ) → MemberRead tags q 0 (length q) 0 0 (progress.Next p m) T T1 → (p ≡ length q → ⊥) → QueryRead tags q (decodeTagged tags q) (Refused bytesAfterQuery) T1
   unfolding decodeTagged
   whole-left p m h n = go (member (2 * length q + 1) tags q 0 (length q) 0 []) (reported (progress.Next p m) h)
     where
-      go : (o : Read (Tree ℕ)) → Reported q enclosing 0 o (progress.Next p m) T T1 → Handed tags q (wholeQuery q o) (Refused bytesAfterQuery) T1
+      go : (o : Read (Tree ℕ)) → Reported q enclosing 0 o (progress.Next p m) T T1 → QueryRead tags q (wholeQuery q o) (Refused bytesAfterQuery) T1
       go (refused x) t = let z : _≡_ {A = ℕ} 0 1 = cc in absurd (omega arith)
       go (accepted (t, ps, next)) d = let z : next ≡ p = cc in rw (z, ne-eqb _ _ n) (refl, (omega arith, omega arith))
 
-  pub whole-accepted : (p m : ℕ) → MemberRead tags q 0 (length q) 0 0 (progress.Next p m) T T1 → p ≡ length q → TablesSized T1
-      → Handed tags q (decodeTagged tags q) (Accepted m) T1
+  pub whole-accepted : (p m : ℕ) → MemberRead tags q 0 (length q) 0 0 (progress.Next p m) T T1 → p ≡ length q → HasTables T1
+      → QueryRead tags q (decodeTagged tags q) (Accepted m) T1
   unfolding decodeTagged predicatesAt
   whole-accepted p m h e s =
       go (member (2 * length q + 1) tags q 0 (length q) 0 []) (reported (progress.Next p m) h) (member-sound (2 * length q + 1) tags q 0 (length q) 0 [])
     where
-      go : (o : Read (Tree ℕ)) → Reported q enclosing 0 o (progress.Next p m) T T1 → SoundTree tags q 0 (length q) 0 o → Handed tags q (wholeQuery q o) (Accepted m) T1
+      go : (o : Read (Tree ℕ)) → Reported q enclosing 0 o (progress.Next p m) T T1 → SoundTree tags q 0 (length q) 0 o → QueryRead tags q (wholeQuery q o) (Accepted m) T1
       go (refused x) t k = let z : _≡_ {A = ℕ} 0 1 = cc in absurd (omega arith)
       go (accepted (t, ps, next)) d k =
           let z : next ≡ p = cc in

@@ -1,3 +1,3 @@
 pub mod Tables
 pub mod Reader
-pub mod Handed
+pub mod QueryRead

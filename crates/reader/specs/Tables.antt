@@ -14,6 +14,6 @@ pub record Tables : Type 0 where
 abbrev pub tables : List ℕ → List ℕ → Tables
 tables os A = record { offsets = os; ancestors = A }
 
-pub record TablesSized (T : Tables) : Type 0 where
+pub record HasTables (T : Tables) : Type 0 where
   pub offsets : length (T .offsets) ≡ predicateLimit
   pub ancestors : length (T .ancestors) ≡ ancestorsSize

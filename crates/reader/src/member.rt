@@ -3,7 +3,7 @@ use ancestors::Ancestors;
 use query::member::MemberField;
 ghost use Rattle.query.specs.Format.{depthOf};
 ghost use Rattle.reader.specs.Tables.{tables};
-ghost use Rattle.reader.specs.Reader.{Room, MemberRead, MembersRead};
+ghost use Rattle.reader.specs.Reader.{Readable, MemberRead, MembersRead};
 
 // A refusal, or the place after what was read and the number of predicates up to there.
 pub enum Progress {
@@ -23,7 +23,7 @@ pub fn read_member(
     offsets: &mut [usize],
     ancestors: &mut [u8],
 ) -> Progress
-    requires { ⌜ Room at end allowed n (now q) (tables (now offsets) (now ancestors)) ⌝ }
+    requires { ⌜ Readable at end allowed n (now q) (tables (now offsets) (now ancestors)) ⌝ }
     ensures { λ r. ⌜ MemberRead (now (tags .entry)) (now (q .entry)) at end (depthOf allowed) n r (tables (now (offsets .entry)) (now (ancestors .entry))) (tables (now (offsets .exit)) (now (ancestors .exit))) ⌝ }
 {
     match members::field::read_field(tags, q, at, end, allowed, n, offsets) {
@@ -63,7 +63,7 @@ fn read_group(
     offsets: &mut [usize],
     ancestors: &mut [u8],
 ) -> Progress
-    requires { ⌜ Room at end allowed n (now q) (tables (now offsets) (now ancestors)) ⌝ }
+    requires { ⌜ Readable at end allowed n (now q) (tables (now offsets) (now ancestors)) ⌝ }
     ensures { λ r. ⌜ MembersRead (now (tags .entry)) (now (q .entry)) at end (depthOf allowed) n r (tables (now (offsets .entry)) (now (ancestors .entry))) (tables (now (offsets .exit)) (now (ancestors .exit))) ⌝ }
 {
     let mut p = at;

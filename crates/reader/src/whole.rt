@@ -3,8 +3,8 @@ use crate::member::Progress;
 use query::format::Group;
 use query::format::Refusal;
 ghost use Rattle.query.specs.Decode.{decodeTagged};
-ghost use Rattle.reader.specs.Tables.{tables, TablesSized};
-ghost use Rattle.reader.specs.Handed.{Handed};
+ghost use Rattle.reader.specs.Tables.{tables, HasTables};
+ghost use Rattle.reader.specs.QueryRead.{QueryRead};
 
 pub enum Reading {
     Refused(u8),
@@ -14,8 +14,8 @@ pub enum Reading {
 // Checks a query against a catalogue whose columns have these tags, and tells where the fields of its n
 // predicates begin and which groups are around each.
 pub fn read_query(tags: &[u8], q: &[u8], offsets: &mut [usize], ancestors: &mut [u8]) -> Reading
-    requires { ⌜ TablesSized (tables (now offsets) (now ancestors)) ⌝ }
-    ensures { λ r. ⌜ Handed (now (tags .entry)) (now (q .entry)) (decodeTagged (now (tags .entry)) (now (q .entry))) r (tables (now (offsets .exit)) (now (ancestors .exit))) ⌝ }
+    requires { ⌜ HasTables (tables (now offsets) (now ancestors)) ⌝ }
+    ensures { λ r. ⌜ QueryRead (now (tags .entry)) (now (q .entry)) (decodeTagged (now (tags .entry)) (now (q .entry))) r (tables (now (offsets .exit)) (now (ancestors .exit))) ⌝ }
 {
     match crate::member::read_member(
         tags,

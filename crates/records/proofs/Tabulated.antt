@@ -9,7 +9,7 @@ use native.Mathlib.Omega.{arith}
 use lib.ListN.{length, getD, set, drop, length-append, length-drop, List·getD-append}
 use lib.Seq.{drop-cons, append-snoc, set-at, getD-at}
 use Rattle.records.specs.declared.PredicateRecord.{PredicateRecord}
-use Rattle.records.specs.Offsets.{Located}
+use Rattle.records.specs.Offsets.{HasFields}
 use Rattle.records.specs.Table.{recordAt, noRecord, recordIn, recordsOf, HasRecord}
 
 -- one element more of a list that is filled from the front, whatever d is
@@ -18,7 +18,7 @@ grow {A} p r old c d e h =
     ap (λ (l : List A). set (p ++ l) c r) (drop-cons old c d h) ∙ set-at p (getD old c d) (drop (suc c) old) r c e ∙ sym (append-snoc p r (drop (suc c) old))
 
 module _ (q offsets : List ℕ) where
-  pub has-record : (n c : ℕ) → Located q offsets n → c < n → HasRecord q offsets c
+  pub has-record : (n c : ℕ) → HasFields q offsets n → c < n → HasRecord q offsets c
   has-record n c s h = (s .sized, lt-of-lt-of-le h (s .few), s .each c h)
 
   length-records : (c : ℕ) → length (recordsOf q offsets c) ≡ c

@@ -19,7 +19,7 @@ abbrev pub HasPayload : (q offsets : List ℕ) → (c : ℕ) → Type 0
 HasPayload q offsets c = (startAt offsets c + payloadHead ≤ endAt q offsets c) × (endAt q offsets c ≤ length q)
 
 -- the fields of the first n predicates begin at these offsets and lie in the query
-pub record Located (q offsets : List ℕ) (n : ℕ) : Type 0 where
+pub record HasFields (q offsets : List ℕ) (n : ℕ) : Type 0 where
   pub sized : length offsets ≡ predicateLimit
   pub few : n ≤ predicateLimit
   pub each : (c : ℕ) → c < n → HasPayload q offsets c

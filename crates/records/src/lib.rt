@@ -6,7 +6,7 @@ ghost use mathlib.Core.List.{_++_};
 ghost use Prim.Native.Nat.{_+_, _≤_};
 ghost use lib.ListN.{length, drop};
 ghost use Rattle.predicate.specs.Payload.{payloadHead};
-ghost use Rattle.records.specs.Offsets.{Located};
+ghost use Rattle.records.specs.Offsets.{HasFields};
 ghost use Rattle.records.specs.Table.{recordOf, recordAt, HasRecord, recordsOf};
 
 // Document 01's condition: the operand is the len bytes of the query from place on.
@@ -42,7 +42,7 @@ pub fn record_at(q: &[u8], offsets: &[usize], c: usize) -> PredicateRecord
 
 // Stores the records of the first n predicates; what stands after them stays.
 pub fn tabulate(q: &[u8], offsets: &[usize], n: usize, table: &mut [PredicateRecord])
-    requires { ⌜ Located (now q) (now offsets) n × (n ≤ length (now table)) ⌝ }
+    requires { ⌜ HasFields (now q) (now offsets) n × (n ≤ length (now table)) ⌝ }
     ensures { λ _. ⌜ now (table .exit) ≡ recordsOf (now (q .entry)) (now (offsets .entry)) n ++ drop n (now (table .entry)) ⌝ }
 {
     let mut c: usize = 0;

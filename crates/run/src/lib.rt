@@ -1,3 +1,47 @@
-// Rows worked through, 64 at a time: probes where they are due, the answers, and the bitmaps of both.
-pub mod block;
-pub mod rows;
+// Running a question in a given order.
+use ancestors::Ancestors;
+use answers::word::Answer;
+use bitmaps::copy::Line;
+use query::format::Predicate;
+ghost use mathlib.Core.Path.{_≡_};
+ghost use Rattle.answers.specs.Word.{packed, FitsWord};
+ghost use Rattle.demands.specs.Run.{lent, ran, runOf};
+
+// The checks, the work, the end.
+pub fn run_question(
+    catalogue: &[u8],
+    question: &[u8],
+    order: &[u8],
+    listed: &mut [u8],
+    looks: &mut [u8],
+    tally: &mut [u8],
+) -> Answer
+    ensures { λ r. ⌜ (ran (packed r) (now (listed .exit)) (now (looks .exit)) (now (tally .exit)) ≡ runOf (lent (now (catalogue .entry)) (now (question .entry)) (now (order .entry)) (now (listed .entry)) (now (looks .entry)) (now (tally .entry)))) × FitsWord r ⌝ }
+{
+    let mut offsets = [0usize; Predicate::LIMIT];
+    let mut ancestors = [0u8; Ancestors::TABLE];
+    let begun = input::begin::begin(catalogue, question, &mut offsets, &mut ancestors);
+    let refusal = begun.refusal;
+    if refusal != 0 {
+        return Answer::Refused(refusal);
+    }
+    let n = begun.n;
+    let size = bitmaps::size::bytes_for(begun.rows);
+    let failing = request::check_request(order, n, size, listed.len(), looks.len());
+    if failing != 0 {
+        return Answer::Refused(failing);
+    }
+    let mut selected = [0u8; Line::SIZE];
+    let mut probed = [0u8; Predicate::LIMIT * Line::SIZE];
+    work::work(
+        catalogue,
+        question,
+        order,
+        begun,
+        &offsets,
+        &ancestors,
+        &mut selected,
+        &mut probed,
+    );
+    finish::finish(&selected, &probed, n, size, listed, looks, tally)
+}

@@ -15,15 +15,15 @@ use Rattle.catalogue.specs.Catalogue.{Column, numbers, texts}
 use Rattle.slots.specs.Slots.{textLimit, textAt}
 use Rattle.catalogue.specs.Layout.{Shows, HasRow, NumberIs, TextIs}
 use Rattle.catalogue.proofs.Rows.{number-is, text-is}
-use Rattle.predicate.specs.declared.answer.Answer.{Answer}
-use Rattle.predicate.specs.declared.answer.Answer.the-variants.{No, Yes}
+use Rattle.predicate.specs.declared.outcome.Outcome.{Outcome}
+use Rattle.predicate.specs.declared.outcome.Outcome.the-variants.{No, Yes}
 use Rattle.predicate.specs.Kinds.{numberBlankKind, containsKind, textBlankKind, oppositeFrom, plainKind}
-use Rattle.predicate.specs.Meaning.{answerOf, opposite, truth, textBlank, numberTest, textTest, plainOf, outcomeOf}
+use Rattle.predicate.specs.Meaning.{yesIf, opposite, truth, textBlank, numberTest, textTest, plainOf, outcomeOf}
 use Rattle.predicate.specs.Payload.{kindFits, operandFits}
 use Rattle.predicate.proofs.OutcomeLaws.{number-row, text-row}
 use Rattle.sets.specs.Kept.{KeptBy, Sifted}
 use Rattle.sets.specs.KeptLaws.{sift-kept, kept-same, kept-others}
-use Rattle.filters.specs.Block.{DueRows, slotOf, textOf}
+use Rattle.filters.specs.Block.{HasDueRows, slotOf, textOf}
 use Rattle.scan.specs.declared.range.Range.{Range}
 use Rattle.scan.specs.Met.{RangeFor, ShownRows, HasRows, MetAt, PlainMetAt, within}
 use Rattle.scan.proofs.Ranges.{text-fits, width-fits, number-means}
@@ -61,18 +61,18 @@ text-kind tag kind h l =
     let p = and-parts (leb kind textBlankKind) (eqb tag textTag) (rw (lt-leb kind numberBlankKind l) at h) in
     (leb-true kind textBlankKind (p .0), eqb-eq tag textTag (p .1))
 
-truth-of : (p : Bool) → truth (answerOf p) ≡ p
+truth-of : (p : Bool) → truth (yesIf p) ≡ p
 truth-of true = refl
 truth-of false = refl
 
-truth-opposite : (a : Answer) → not (truth a) ≡ truth (opposite a)
+truth-opposite : (a : Outcome) → not (truth a) ≡ truth (opposite a)
 truth-opposite No = refl
 truth-opposite Yes = refl
 
 -- one predicate, and its plain kind
 module _ {b : List ℕ} {start base kind : ℕ} {o : List ℕ} {due plain : ℕ} (k : plain ≡ plainKind kind) where
   -- the due rows, as the leaves take them
-  pub due-numbers : HasRows b start base kind o due → plain ≤ numberBlankKind → DueRows b numberTag start base due
+  pub due-numbers : HasRows b start base kind o due → plain ≤ numberBlankKind → HasDueRows b numberTag start base due
   due-numbers (rows, tag, c, R) l d m =
       number-row b tag start (base + d) (number-kind tag (plainKind kind) (R .kind-fits) (omega arith)) (rows, c, R .shown, R .inside d m)
 
@@ -85,7 +85,7 @@ module _ {b : List ℕ} {start base kind : ℕ} {o : List ℕ} {due plain : ℕ}
   pub due-width : {g : Range} → HasRows b start base kind o due → RangeFor plain o g → plain ≤ numberBlankKind → g .low + g .width < 2 ^ 32
   due-width h P l = width-fits P (due-fits h) l
 
-  pub due-texts : HasRows b start base kind o due → numberBlankKind < plain → DueRows b textTag start base due
+  pub due-texts : HasRows b start base kind o due → numberBlankKind < plain → HasDueRows b textTag start base due
   due-texts (rows, tag, c, R) l d m =
       let f = text-kind tag (plainKind kind) (R .kind-fits) (omega arith) in
       text-row b tag start (base + d) (λ e. omega arith) (rows, c, R .shown, R .inside d m)
@@ -98,7 +98,7 @@ module _ {b : List ℕ} {start base kind : ℕ} {o : List ℕ} {due plain : ℕ}
       let s = text-fits plain o (fits R) (omega arith) m in
       (m, s .0, s .1)
 
-  pub due-sifted : {may : ℕ} → HasRows b start base kind o due → numberBlankKind < plain → Sifted (λ d. textTest plain o (textOf b start (base + d))) due may → DueRows b textTag start base may
+  pub due-sifted : {may : ℕ} → HasRows b start base kind o due → numberBlankKind < plain → Sifted (λ d. textTest plain o (textOf b start (base + d))) due may → HasDueRows b textTag start base may
   due-sifted h l S d e = due-texts h l d (S .within d e)
 
   -- and what they answer, as the column has it

@@ -10,7 +10,7 @@ use Rattle.catalogue.specs.Layout.{Shows}
 use Rattle.predicate.specs.Kinds.{rangeKind, numberBlankKind, plainKind}
 use Rattle.predicate.specs.Meaning.{lowOf, highOf, plainOf, outcomeOf, truth}
 use Rattle.predicate.specs.Payload.{kindFits, operandFits}
-use Rattle.sets.specs.Set.{member}
+use Rattle.sets.specs.Set.{has}
 use Rattle.sets.specs.Kept.{KeptBy}
 use Rattle.scan.specs.declared.range.Range.{Range}
 
@@ -24,7 +24,7 @@ pub record ShownRows (b : List ℕ) (start base kind : ℕ) (o : List ℕ) (due 
   pub shown : Shows b rows tag start c
   pub kind-fits : kindFits tag (plainKind kind) ≡ true
   pub operand-fits : operandFits (plainKind kind) o ≡ true
-  pub inside : (d : ℕ) → member due d ≡ true → base + d < rows
+  pub inside : (d : ℕ) → has due d ≡ true → base + d < rows
 
 abbrev pub HasRows : List ℕ → (start base kind : ℕ) → (operand : List ℕ) → (due : ℕ) → Type 0
 HasRows b start base kind o due = (rows : ℕ) × (tag : ℕ) × (c : Column) × ShownRows b start base kind o due rows tag c

@@ -7,7 +7,7 @@ ghost use Rattle.catalogue.specs.Layout.{HasRow};
 ghost use Rattle.sets.specs.Set.{belowSet};
 ghost use Rattle.sets.specs.Kept.{KeptBy};
 ghost use Rattle.sets.specs.Gathered.{bitOf, gathered};
-ghost use Rattle.filters.specs.Block.{DueRows};
+ghost use Rattle.filters.specs.Block.{HasDueRows};
 ghost use Rattle.scan.specs.Met.{within};
 
 // Whether n is low or one of the numbers after it, as many as width: one comparison.
@@ -29,7 +29,7 @@ fn bit_within(b: &[u8], start: usize, row: usize, low: u32, width: u32) -> u64
 
 // The eight rows from one on.
 fn eight_within(b: &[u8], start: usize, row: usize, low: u32, width: u32) -> u64
-    requires { ⌜ DueRows (now b) numberTag start row (belowSet 8) × (low + width < 2 ^ 32) ⌝ }
+    requires { ⌜ HasDueRows (now b) numberTag start row (belowSet 8) × (low + width < 2 ^ 32) ⌝ }
     ensures { λ r. ⌜ (r ≡ gathered (λ d. within low width (numberAt (now (b .entry)) (start + numberSize * (row + d)) numberSize)) 8) × (r < 256) ⌝ }
 {
     bit_within(b, start, row, low, width)
@@ -44,7 +44,7 @@ fn eight_within(b: &[u8], start: usize, row: usize, low: u32, width: u32) -> u64
 
 // The rows of a whole block, straight through: half the time of a loop over the bits of a word.
 fn all_within(b: &[u8], start: usize, base: usize, low: u32, width: u32) -> u64
-    requires { ⌜ DueRows (now b) numberTag start base (belowSet 64) × (low + width < 2 ^ 32) ⌝ }
+    requires { ⌜ HasDueRows (now b) numberTag start base (belowSet 64) × (low + width < 2 ^ 32) ⌝ }
     ensures { λ r. ⌜ KeptBy (λ d. within low width (numberAt (now (b .entry)) (start + numberSize * (base + d)) numberSize)) (belowSet 64) r ⌝ }
 {
     let mut met: u64 = 0;
@@ -58,7 +58,7 @@ fn all_within(b: &[u8], start: usize, base: usize, low: u32, width: u32) -> u64
 
 // The due rows whose numbers are among those.
 fn due_within(b: &[u8], start: usize, base: usize, low: u32, width: u32, due: u64) -> u64
-    requires { ⌜ DueRows (now b) numberTag start base due × (low + width < 2 ^ 32) ⌝ }
+    requires { ⌜ HasDueRows (now b) numberTag start base due × (low + width < 2 ^ 32) ⌝ }
     ensures { λ r. ⌜ KeptBy (λ d. within low width (numberAt (now (b .entry)) (start + numberSize * (base + d)) numberSize)) due r ⌝ }
 {
     let mut left = due;
@@ -76,7 +76,7 @@ fn due_within(b: &[u8], start: usize, base: usize, low: u32, width: u32, due: u6
 
 // The same, by the shorter way.
 pub fn numbers_within(b: &[u8], start: usize, base: usize, low: u32, width: u32, due: u64) -> u64
-    requires { ⌜ DueRows (now b) numberTag start base due × (low + width < 2 ^ 32) ⌝ }
+    requires { ⌜ HasDueRows (now b) numberTag start base due × (low + width < 2 ^ 32) ⌝ }
     ensures { λ r. ⌜ KeptBy (λ d. within low width (numberAt (now (b .entry)) (start + numberSize * (base + d)) numberSize)) due r ⌝ }
 {
     if due == sets::below(64) {

@@ -4,11 +4,11 @@ ghost use Rattle.catalogue.specs.Format.{textTag};
 ghost use Rattle.predicate.specs.Meaning.{textTest, textBlank};
 ghost use Rattle.predicate.specs.Outcome.{Folds};
 ghost use Rattle.sets.specs.Kept.{KeptBy};
-ghost use Rattle.filters.specs.Block.{DueRows, textOf};
+ghost use Rattle.filters.specs.Block.{HasDueRows, textOf};
 
 // The due rows whose texts are blank.
 pub fn texts_blank(b: &[u8], start: usize, base: usize, due: u64) -> u64
-    requires { ⌜ DueRows (now b) textTag start base due ⌝ }
+    requires { ⌜ HasDueRows (now b) textTag start base due ⌝ }
     ensures { λ r. ⌜ KeptBy (λ d. textBlank (textOf (now (b .entry)) start (base + d))) due r ⌝ }
 {
     filters::front::front_rows(b, start, base, filters::head::blank_head(), due)
@@ -24,7 +24,7 @@ pub fn texts_that_pass(
     operand: &[u8],
     due: u64,
 ) -> u64
-    requires { ⌜ Folds (now table) × DueRows (now b) textTag start base due ⌝ }
+    requires { ⌜ Folds (now table) × HasDueRows (now b) textTag start base due ⌝ }
     ensures { λ r. ⌜ KeptBy (λ d. textTest kind (now (operand .entry)) (textOf (now (b .entry)) start (base + d))) due r ⌝ }
 {
     let mut left = due;

@@ -10,7 +10,7 @@ use Rattle.catalogue.specs.Layout.{LaidOut}
 use Rattle.reader.specs.Tables.{Tables}
 use Rattle.input.specs.declared.begin.Beginning.{Beginning}
 use Rattle.input.specs.Input.{Input, decodeInput}
-use Rattle.input.specs.Begun.{Begun}
+use Rattle.input.specs.Beginning.{HasInput}
 use Rattle.answers.specs.declared.word.Answer.the-variants.{Refused, Accepted}
 use Rattle.answers.specs.Answers.{catalogueAnswer, questionAnswer, Answered}
 
@@ -26,5 +26,5 @@ module _ (b : List ℕ) (l : Layout) where
 pub question-answer-refused : (d : Decoded Input) (k : ℕ) → (d ≡ refused k) × (k < 256) → Answered (questionAnswer d) (Refused k)
 question-answer-refused d k h = (rw (h .0), omega arith)
 
-pub question-answer-accepted : {b q : List ℕ} {r : Beginning} {T : Tables} → Begun b q r T → Answered (questionAnswer (decodeInput b q)) (Accepted (r .n) 0 0)
+pub question-answer-accepted : {b q : List ℕ} {r : Beginning} {T : Tables} → HasInput b q r T → Answered (questionAnswer (decodeInput b q)) (Accepted (r .n) 0 0)
 question-answer-accepted G = (rw (G .decoded, G .tabled .count), omega (arith, G .tabled .few))

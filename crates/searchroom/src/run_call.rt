@@ -13,5 +13,5 @@ pub extern "C" fn searchroom_run(
 ) -> u64
     ensures { λ r. ⌜ ran r (now (listed .exit)) (now (looks .exit)) (now (tally .exit)) ≡ runOf (lent (now (catalogue .entry)) (now (question .entry)) (now (order .entry)) (now (listed .entry)) (now (looks .entry)) (now (tally .entry))) ⌝ }
 {
-    answers::word::pack(whole_run::run_question(catalogue, question, order, listed, looks, tally))
+    answers::word::pack(run::run_question(catalogue, question, order, listed, looks, tally))
 }

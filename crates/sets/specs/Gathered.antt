@@ -7,8 +7,8 @@ use mathlib.Core.Bool.{Bool, true, false, _&&_, cond}
 use lib.Dec.{eqb, ltb, leb·suc-suc}
 use lib.Pow.{pow-mono}
 use Rattle.strategy.specs.Bools.{ltb-yes, ltb-no}
-use Rattle.sets.specs.Set.{member, belowSet}
-use Rattle.sets.specs.SetLaws.{member-half, member-none, member-below}
+use Rattle.sets.specs.Set.{has, belowSet}
+use Rattle.sets.specs.SetLaws.{has-half, has-none, has-below}
 use Rattle.sets.specs.Kept.{KeptBy}
 
 abbrev pub bitOf : Bool → ℕ
@@ -35,21 +35,21 @@ gathered-lt P (suc n) =
     let l = gathered-lt (λ d. P (suc d)) n in
     omega arith
 
-member-gathered : (P : ℕ → Bool) (n d : ℕ) → member (gathered P n) d ≡ (ltb d n && P d)
-unfolding gathered member
-member-gathered P zero d = member-none d ∙ ap (λ (b : Bool). b && P d) (sym (ltb-no d 0 (omega arith)))
-member-gathered P (suc n) zero =
+has-gathered : (P : ℕ → Bool) (n d : ℕ) → has (gathered P n) d ≡ (ltb d n && P d)
+unfolding gathered has
+has-gathered P zero d = has-none d ∙ ap (λ (b : Bool). b && P d) (sym (ltb-no d 0 (omega arith)))
+has-gathered P (suc n) zero =
     let s = bit-small (P 0) in
     let e : gathered P (suc n) / 2 ^ 0 % 2 ≡ bitOf (P 0) = omega arith in
     ap (λ (z : ℕ). eqb z 1) e ∙ bit-is (P 0) ∙ ap (λ (b : Bool). b && P 0) (sym (ltb-yes 0 (suc n) (omega arith)))
-member-gathered P (suc n) (suc d) =
+has-gathered P (suc n) (suc d) =
     let s = bit-small (P 0) in
     let e : gathered P (suc n) / 2 ≡ gathered (λ c. P (suc c)) n = omega arith in
-    member-half (gathered P (suc n)) d ∙ ap (λ (z : ℕ). member z d) e ∙ member-gathered (λ c. P (suc c)) n d ∙ ap (λ (b : Bool). b && P (suc d)) (sym (leb·suc-suc (suc d) n))
+    has-half (gathered P (suc n)) d ∙ ap (λ (z : ℕ). has z d) e ∙ has-gathered (λ c. P (suc c)) n d ∙ ap (λ (b : Bool). b && P (suc d)) (sym (leb·suc-suc (suc d) n))
 
 -- it is what is kept of all numbers below n
 pub gathered-kept : (P : ℕ → Bool) (n : ℕ) → KeptBy P (belowSet n) (gathered P n)
-gathered-kept P n d = member-gathered P n d ∙ ap (λ (b : Bool). b && P d) (sym (member-below n d))
+gathered-kept P n d = has-gathered P n d ∙ ap (λ (b : Bool). b && P d) (sym (has-below n d))
 
 pub gathered-same : (P Q : ℕ → Bool) (n : ℕ) → ((d : ℕ) → P d ≡ Q d) → gathered P n ≡ gathered Q n
 unfolding gathered

@@ -4,8 +4,8 @@ use mathlib.Core.Bool.{Bool}
 use lib.Dec.{eqb}
 use lib.Bits.{bitAnd, bitOr, bitXor}
 
-unfoldable pub member : ℕ → ℕ → Bool
-member x d = eqb (x / 2 ^ d % 2) 1
+unfoldable pub has : ℕ → ℕ → Bool
+has x d = eqb (x / 2 ^ d % 2) 1
 
 -- one number alone; all below `n`
 abbrev pub oneSet : ℕ → ℕ

@@ -12,7 +12,7 @@ use lib.Bits.{bitAnd, bitOr, bitXor, and-mask, and-shr, and-mod, or-lt, or-shr, 
 use Rattle.strategy.specs.Bools.{which, iff-eq, eqb-self, eqb-eq, eqb-ne, ltb-yes, ltb-no, ltb-lt, ltb-le}
 use Rattle.strategy.specs.Order.{allBelow, add}
 use Rattle.strategy.specs.OrderLaws.{allBelow-gives, allBelow-of}
-use Rattle.sets.specs.Set.{member, oneSet, belowSet, setMinus, setWith}
+use Rattle.sets.specs.Set.{has, oneSet, belowSet, setMinus, setWith}
 
 -- one bit of each
 and-bits : (a b : ℕ) → a < 2 → b < 2 → eqb (bitAnd a b) 1 ≡ (eqb a 1 && eqb b 1)
@@ -42,25 +42,25 @@ xor-bits (suc (suc a)) b h k = absurd (omega arith)
 -- a law of bits carried to members: `shift` moves the operation to the bit's place, `last` to the bit
 bitwise : (o : ℕ → ℕ → ℕ) (p : Bool → Bool → Bool) → ((x y d : ℕ) → o x y / 2 ^ d ≡ o (x / 2 ^ d) (y / 2 ^ d))
     → ((x y : ℕ) → o x y % 2 ≡ o (x % 2) (y % 2)) → ((a b : ℕ) → a < 2 → b < 2 → eqb (o a b) 1 ≡ p (eqb a 1) (eqb b 1))
-    → (x y d : ℕ) → member (o x y) d ≡ p (member x d) (member y d)
-unfolding member
+    → (x y d : ℕ) → has (o x y) d ≡ p (has x d) (has y d)
+unfolding has
 bitwise o p shift last bits x y d =
     ap (λ (z : ℕ). eqb (z % 2) 1) (shift x y d) ∙ ap (λ (z : ℕ). eqb z 1) (last (x / 2 ^ d) (y / 2 ^ d))
     ∙ bits (x / 2 ^ d % 2) (y / 2 ^ d % 2) (mod-lt (x / 2 ^ d) (omega arith)) (mod-lt (y / 2 ^ d) (omega arith))
 
-pub member-and : (x y d : ℕ) → member (bitAnd x y) d ≡ (member x d && member y d)
-member-and = bitwise bitAnd (λ p q. p && q) and-shr (λ x y. and-mod x y 1) and-bits
+pub has-and : (x y d : ℕ) → has (bitAnd x y) d ≡ (has x d && has y d)
+has-and = bitwise bitAnd (λ p q. p && q) and-shr (λ x y. and-mod x y 1) and-bits
 
-pub member-or : (x y d : ℕ) → member (bitOr x y) d ≡ (member x d || member y d)
-member-or = bitwise bitOr (λ p q. p || q) or-shr (λ x y. or-mod x y 1) or-bits
+pub has-or : (x y d : ℕ) → has (bitOr x y) d ≡ (has x d || has y d)
+has-or = bitwise bitOr (λ p q. p || q) or-shr (λ x y. or-mod x y 1) or-bits
 
-pub member-xor : (x y d : ℕ) → member (bitXor x y) d ≡ xor (member x d) (member y d)
-member-xor = bitwise bitXor xor xor-shr (λ x y. xor-mod x y 1) xor-bits
+pub has-xor : (x y d : ℕ) → has (bitXor x y) d ≡ xor (has x d) (has y d)
+has-xor = bitwise bitXor xor xor-shr (λ x y. xor-mod x y 1) xor-bits
 
 -- a bit above the first is a bit of the half
-pub member-half : (x d : ℕ) → member x (suc d) ≡ member (x / 2) d
-unfolding member
-member-half x d = ap (λ (z : ℕ). eqb (z % 2) 1) (ap (λ (k : ℕ). x / 2 ^ k) (sym (one-add d)) ∙ sym (shr-shr x 1 d))
+pub has-half : (x d : ℕ) → has x (suc d) ≡ has (x / 2) d
+unfolding has
+has-half x d = ap (λ (z : ℕ). eqb (z % 2) 1) (ap (λ (k : ℕ). x / 2 ^ k) (sym (one-add d)) ∙ sym (shr-shr x 1 d))
 
 minus-bit : (x m : Bool) → xor x (x && m) ≡ cond m false x
 unfolding xor
@@ -69,58 +69,58 @@ minus-bit true false = refl
 minus-bit false true = refl
 minus-bit false false = refl
 
-pub minus-member : (x m d : ℕ) → member (setMinus x m) d ≡ cond (member m d) false (member x d)
-minus-member x m d =
-    member-xor x (bitAnd x m) d ∙ ap (xor (member x d)) (member-and x m d) ∙ minus-bit (member x d) (member m d)
+pub minus-has : (x m d : ℕ) → has (setMinus x m) d ≡ cond (has m d) false (has x d)
+minus-has x m d =
+    has-xor x (bitAnd x m) d ∙ ap (xor (has x d)) (has-and x m d) ∙ minus-bit (has x d) (has m d)
 
-pub member-none : (d : ℕ) → member 0 d ≡ false
-unfolding member
-member-none d = ap (λ (z : ℕ). eqb (z % 2) 1) (zero-div (2 ^ d))
+pub has-none : (d : ℕ) → has 0 d ≡ false
+unfolding has
+has-none d = ap (λ (z : ℕ). eqb (z % 2) 1) (zero-div (2 ^ d))
 
-pub empty-member : member 0 ≡ (λ d. false)
-empty-member = fun-ext member-none
+pub empty-has : has 0 ≡ (λ d. false)
+empty-has = fun-ext has-none
 
-pub member-below : (n d : ℕ) → member (belowSet n) d ≡ ltb d n
-unfolding member
-member-below zero d = member-none d ∙ sym (ltb-no d 0 (omega arith))
-member-below (suc n) zero =
+pub has-below : (n d : ℕ) → has (belowSet n) d ≡ ltb d n
+unfolding has
+has-below zero d = has-none d ∙ sym (ltb-no d 0 (omega arith))
+has-below (suc n) zero =
     let e : 2 ^ suc n ≡ 2 ^ n * 2 = pow-suc 2 n in
     let p : 0 < 2 ^ n = pow-pos n in
     let q : (2 ^ suc n - 1) / 2 ^ 0 % 2 ≡ 1 = omega arith in
     ap (λ (z : ℕ). eqb z 1) q ∙ sym (ltb-yes 0 (suc n) (omega arith))
-member-below (suc n) (suc d) =
+has-below (suc n) (suc d) =
     let e : 2 ^ suc n ≡ 2 ^ n * 2 = pow-suc 2 n in
     let p : 0 < 2 ^ n = pow-pos n in
     let q : (2 ^ suc n - 1) / 2 ≡ 2 ^ n - 1 = omega arith in
-    member-half (2 ^ suc n - 1) d ∙ ap (λ (z : ℕ). member z d) q ∙ member-below n d ∙ sym (leb·suc-suc (suc d) n)
+    has-half (2 ^ suc n - 1) d ∙ ap (λ (z : ℕ). has z d) q ∙ has-below n d ∙ sym (leb·suc-suc (suc d) n)
 
-pub below-has : (n d : ℕ) → d < n → member (belowSet n) d ≡ true
-below-has n d l = member-below n d ∙ ltb-yes d n l
+pub below-has : (n d : ℕ) → d < n → has (belowSet n) d ≡ true
+below-has n d l = has-below n d ∙ ltb-yes d n l
 
-pub member-one : (c d : ℕ) → member (oneSet c) d ≡ eqb d c
-unfolding member
-member-one zero zero = refl
-member-one zero (suc d) = member-half 1 d ∙ member-none d ∙ sym (eqb-ne (suc d) 0 (λ e. omega arith))
-member-one (suc c) zero =
+pub has-one : (c d : ℕ) → has (oneSet c) d ≡ eqb d c
+unfolding has
+has-one zero zero = refl
+has-one zero (suc d) = has-half 1 d ∙ has-none d ∙ sym (eqb-ne (suc d) 0 (λ e. omega arith))
+has-one (suc c) zero =
     let e : 2 ^ suc c ≡ 2 ^ c * 2 = pow-suc 2 c in
     let q : 2 ^ suc c / 2 ^ 0 % 2 ≡ 0 = omega arith in
     ap (λ (z : ℕ). eqb z 1) q ∙ sym (eqb-ne 0 (suc c) (λ e. omega arith))
-member-one (suc c) (suc d) =
+has-one (suc c) (suc d) =
     let e : 2 ^ suc c ≡ 2 ^ c * 2 = pow-suc 2 c in
     let q : 2 ^ suc c / 2 ≡ 2 ^ c = omega arith in
-    member-half (2 ^ suc c) d ∙ ap (λ (z : ℕ). member z d) q ∙ member-one c d ∙ sym (eqb·suc-suc d c)
+    has-half (2 ^ suc c) d ∙ ap (λ (z : ℕ). has z d) q ∙ has-one c d ∙ sym (eqb·suc-suc d c)
 
 -- with one number more, as a set of the order's check
-pub member-with : (x d : ℕ) → member (setWith x d) ≡ add d (member x)
-member-with x d = fun-ext (λ c. member-or x (oneSet d) c ∙ ap (λ b. member x c || b) (member-one d c))
+pub has-with : (x d : ℕ) → has (setWith x d) ≡ add d (has x)
+has-with x d = fun-ext (λ c. has-or x (oneSet d) c ∙ ap (λ b. has x c || b) (has-one d c))
 
 -- sets with the same members are the same number
-pub same-set : (k x y : ℕ) → x < 2 ^ k → y < 2 ^ k → ((d : ℕ) → member x d ≡ member y d) → x ≡ y
-unfolding member
+pub same-set : (k x y : ℕ) → x < 2 ^ k → y < 2 ^ k → ((d : ℕ) → has x d ≡ has y d) → x ≡ y
+unfolding has
 same-set zero x y h k e = omega arith
 same-set (suc n) x y h k e =
     let p : 2 ^ suc n ≡ 2 ^ n * 2 = pow-suc 2 n in
-    let halves : x / 2 ≡ y / 2 = same-set n (x / 2) (y / 2) (omega arith) (omega arith) (λ d. sym (member-half x d) ∙ e (suc d) ∙ member-half y d) in
+    let halves : x / 2 ≡ y / 2 = same-set n (x / 2) (y / 2) (omega arith) (omega arith) (λ d. sym (has-half x d) ∙ e (suc d) ∙ has-half y d) in
     let bits : x / 2 ^ 0 % 2 ≡ y / 2 ^ 0 % 2 = bit (x / 2 ^ 0 % 2) (y / 2 ^ 0 % 2) (mod-lt (x / 2 ^ 0) (omega arith)) (mod-lt (y / 2 ^ 0) (omega arith)) (e 0) in
     omega arith
   where
@@ -134,9 +134,9 @@ same-set (suc n) x y h k e =
     bit (suc (suc a)) b l m q = absurd (omega arith)
 
 -- a set below `2 ^ n` holds only numbers below `n`
-member-high : (n x d : ℕ) → x < 2 ^ n → n ≤ d → member x d ≡ false
-unfolding member
-member-high n x d h l = ap (λ (z : ℕ). eqb (z % 2) 1) (div-eq-of-lt {n = x} {m = 2 ^ d} (omega (arith, pow-mono {i = n} {j = d} l)))
+has-high : (n x d : ℕ) → x < 2 ^ n → n ≤ d → has x d ≡ false
+unfolding has
+has-high n x d h l = ap (λ (z : ℕ). eqb (z % 2) 1) (div-eq-of-lt {n = x} {m = 2 ^ d} (omega (arith, pow-mono {i = n} {j = d} l)))
 
 pub with-lt : (n x c : ℕ) → x < 2 ^ n → c < n → setWith x c < 2 ^ n
 with-lt n x c h l = or-lt n x (oneSet c) h (pow-lt {i = c} {j = n} l)
@@ -145,25 +145,25 @@ below-lt : (n : ℕ) → belowSet n < 2 ^ n
 below-lt n = omega (arith, pow-pos n)
 
 -- and holds all of them exactly if it is `belowSet n`
-pub all-seen : (n x : ℕ) → x < 2 ^ n → eqb x (belowSet n) ≡ allBelow n (member x)
-all-seen n x h = iff-eq (eqb x (belowSet n)) (allBelow n (member x)) to from
+pub all-seen : (n x : ℕ) → x < 2 ^ n → eqb x (belowSet n) ≡ allBelow n (has x)
+all-seen n x h = iff-eq (eqb x (belowSet n)) (allBelow n (has x)) to from
   where
-    to : eqb x (belowSet n) ≡ true → allBelow n (member x) ≡ true
-    to e = allBelow-of n (member x) (λ d m. ap (λ (z : ℕ). member z d) (eqb-eq x (belowSet n) e) ∙ member-below n d ∙ ltb-yes d n m)
+    to : eqb x (belowSet n) ≡ true → allBelow n (has x) ≡ true
+    to e = allBelow-of n (has x) (λ d m. ap (λ (z : ℕ). has z d) (eqb-eq x (belowSet n) e) ∙ has-below n d ∙ ltb-yes d n m)
 
-    same : allBelow n (member x) ≡ true → (d : ℕ) → (ltb d n ≡ true) ⊎ (ltb d n ≡ false) → member x d ≡ member (belowSet n) d
-    same e d (inl y) = allBelow-gives n (member x) e d (ltb-lt d n y) ∙ sym (member-below n d ∙ y)
-    same e d (inr y) = member-high n x d h (ltb-le d n y) ∙ sym (member-below n d ∙ y)
+    same : allBelow n (has x) ≡ true → (d : ℕ) → (ltb d n ≡ true) ⊎ (ltb d n ≡ false) → has x d ≡ has (belowSet n) d
+    same e d (inl y) = allBelow-gives n (has x) e d (ltb-lt d n y) ∙ sym (has-below n d ∙ y)
+    same e d (inr y) = has-high n x d h (ltb-le d n y) ∙ sym (has-below n d ∙ y)
 
-    from : allBelow n (member x) ≡ true → eqb x (belowSet n) ≡ true
+    from : allBelow n (has x) ≡ true → eqb x (belowSet n) ≡ true
     from e =
         let q : x ≡ belowSet n = same-set n x (belowSet n) h (below-lt n) (λ d. same e d (which (ltb d n))) in
         ap (λ (z : ℕ). eqb z (belowSet n)) q ∙ eqb-self (belowSet n)
 
 -- the steps of the code
-pub bit-member : (x d : ℕ) → eqb (bitAnd (x / 2 ^ d) 1) 1 ≡ member x d
-unfolding member
-bit-member x d = ap (λ (m : ℕ). eqb m 1) (and-mask (x / 2 ^ d) 1)
+pub bit-has : (x d : ℕ) → eqb (bitAnd (x / 2 ^ d) 1) 1 ≡ has x d
+unfolding has
+bit-has x d = ap (λ (m : ℕ). eqb m 1) (and-mask (x / 2 ^ d) 1)
 
 pub shift-one : (d : ℕ) → d < 64 → 1 * 2 ^ d % 2 ^ 64 ≡ oneSet d
 shift-one d h = shl-exact {a = 1} 1 d 64 (lit< tt) (omega arith) ∙ one-mul (2 ^ d)

@@ -4,13 +4,13 @@ ghost use mathlib.Core.Path.{_≡_};
 ghost use mathlib.Core.Bool.{cond};
 ghost use Prim.Native.Nat.{_≤_, _<_};
 ghost use Rattle.strategy.specs.Order.{isOrder};
-ghost use Rattle.sets.specs.Set.{member, oneSet, belowSet, setMinus, setWith};
-ghost use Rattle.sets.specs.Kept.{First, Rest};
+ghost use Rattle.sets.specs.Set.{has, oneSet, belowSet, setMinus, setWith};
+ghost use Rattle.sets.specs.Kept.{FirstIs, RestIs};
 
 // Is d in the set.
 pub fn has(x: u64, d: u8) -> bool
     requires { ⌜ d < 64 ⌝ }
-    ensures { λ r. ⌜ r ≡ member x d ⌝ }
+    ensures { λ r. ⌜ r ≡ has x d ⌝ }
 {
     x >> d & 1 == 1
 }
@@ -53,7 +53,7 @@ pub fn with(x: u64, d: u8) -> u64
 // The lowest number of the set.
 pub fn first(x: u64) -> u8
     requires { ⌜ 0 < x ⌝ }
-    ensures { λ r. ⌜ First x r ⌝ }
+    ensures { λ r. ⌜ FirstIs x r ⌝ }
 {
     u64::trailing_zeros(x) as u8
 }
@@ -61,7 +61,7 @@ pub fn first(x: u64) -> u8
 // The set without its lowest number.
 pub fn rest(x: u64) -> u64
     requires { ⌜ 0 < x ⌝ }
-    ensures { λ r. ⌜ Rest x r ⌝ }
+    ensures { λ r. ⌜ RestIs x r ⌝ }
 {
     x & (x - 1)
 }

@@ -12,8 +12,8 @@ use Rattle.strategy.specs.AssignmentLaws.{update-same, update-other, upd
 use Rattle.strategy.specs.Strategy.{Due}
 use Rattle.strategy.specs.Trace.{due}
 use Rattle.strategy.specs.DueLaws.{due-law}
-use Rattle.strategy.specs.Tree.{Tree, leaf, group, Forest, none, more, join, settles, eval, evals, size, sizes, Numbered, Numbereds, InRun}
-use Rattle.strategy.specs.TreeLaws.{settles-not, settles-no, join-unit-left, join-unit-right, join-not, join-cases, Toward, eval-toward, evals-toward, eval-run, evals-run}
+use Rattle.strategy.specs.Tree.{Tree, leaf, group, Forest, none, more, join, settles, eval, evals, size, sizes, Numbered, Numbereds, InSpan}
+use Rattle.strategy.specs.TreeLaws.{settles-not, settles-no, join-unit-left, join-unit-right, join-not, join-cases, Toward, eval-toward, evals-toward, eval-span, evals-span}
 use Rattle.strategy.specs.Alone.{unseen, seen, Partial, hide, statusAs, unseenAs, alone, aloneIn}
 
 -- the two places in a group where `c` can be alone: its first member, with the others not settling, or among the others
@@ -73,17 +73,17 @@ mutual
 mutual
   unfolding alone size Either
 
-  pub alone-run : (t : Tree ℕ) (i : ℕ) → Numbered t i → (c : ℕ) (m : Partial) → alone t c m ≡ true → InRun i (size t) c
-  alone-run (leaf d) i n c m h = let e : d ≡ c = eqb-eq d c h in omega arith
-  alone-run (group k f) i n c m h = aloneIn-run f k i n c m h
+  pub alone-span : (t : Tree ℕ) (i : ℕ) → Numbered t i → (c : ℕ) (m : Partial) → alone t c m ≡ true → InSpan i (size t) c
+  alone-span (leaf d) i n c m h = let e : d ≡ c = eqb-eq d c h in omega arith
+  alone-span (group k f) i n c m h = aloneIn-span f k i n c m h
 
-  pub aloneIn-run : (f : Forest ℕ) (k : Bool) (i : ℕ) → Numbereds f i → (c : ℕ) (m : Partial) → aloneIn f k c m ≡ true → InRun i (sizes f) c
-  aloneIn-run none k i n c m h = clash h refl
-  aloneIn-run (more t f) k i n c m h =
-      let go : Either t f k c m → InRun i (size t + sizes f) c
+  pub aloneIn-span : (f : Forest ℕ) (k : Bool) (i : ℕ) → Numbereds f i → (c : ℕ) (m : Partial) → aloneIn f k c m ≡ true → InSpan i (sizes f) c
+  aloneIn-span none k i n c m h = clash h refl
+  aloneIn-span (more t f) k i n c m h =
+      let go : Either t f k c m → InSpan i (size t + sizes f) c
       = elim [
-        | inl e ↦ (let r = alone-run t i (n .0) c m (e .0) in omega arith)
-        | inr e ↦ (let r = aloneIn-run f k (i + size t) (n .1) c m (e .1) in omega arith)
+        | inl e ↦ (let r = alone-span t i (n .0) c m (e .0) in omega arith)
+        | inr e ↦ (let r = aloneIn-span f k (i + size t) (n .1) c m (e .1) in omega arith)
       ] in
       go (alone-places t f k c m h)
 
@@ -167,12 +167,12 @@ mutual
   aloneIn-witness : (f : Forest ℕ) (k : Bool) (i : ℕ) → Numbereds f i → (c : ℕ) (m : Partial) → aloneIn f k c m ≡ true → Witness (evals f k) c m
   aloneIn-witness none k i n c m h = clash h refl
   aloneIn-witness (more t f) k i n c m h =
-      let l : (q r : Assignment) → ((d : ℕ) → d < i + size t → q d ≡ r d) → eval t q ≡ eval t r = λ q r g. eval-run t i (n .0) q r (λ d j. g d (j .1)) in
-      let u : (q r : Assignment) → ((d : ℕ) → i + size t ≤ d → q d ≡ r d) → evals f k q ≡ evals f k r = λ q r g. evals-run f k (i + size t) (n .1) q r (λ d j. g d (j .0)) in
+      let l : (q r : Assignment) → ((d : ℕ) → d < i + size t → q d ≡ r d) → eval t q ≡ eval t r = λ q r g. eval-span t i (n .0) q r (λ d j. g d (j .1)) in
+      let u : (q r : Assignment) → ((d : ℕ) → i + size t ≤ d → q d ≡ r d) → evals f k q ≡ evals f k r = λ q r g. evals-span f k (i + size t) (n .1) q r (λ d j. g d (j .0)) in
       let go : Either t f k c m → Witness (λ q. join k (eval t q) (evals f k q)) c m
       = elim [
-        | inl e ↦ witness-low (i + size t) c m k (eval t) (evals f k) l u (alone-run t i (n .0) c m (e .0) .1) (alone-witness t i (n .0) c m (e .0)) (e .1)
-        | inr e ↦ witness-high (i + size t) c m k (eval t) (evals f k) l u (aloneIn-run f k (i + size t) (n .1) c m (e .1) .0) (e .0) (aloneIn-witness f k (i + size t) (n .1) c m (e .1))
+        | inl e ↦ witness-low (i + size t) c m k (eval t) (evals f k) l u (alone-span t i (n .0) c m (e .0) .1) (alone-witness t i (n .0) c m (e .0)) (e .1)
+        | inr e ↦ witness-high (i + size t) c m k (eval t) (evals f k) l u (aloneIn-span f k (i + size t) (n .1) c m (e .1) .0) (e .0) (aloneIn-witness f k (i + size t) (n .1) c m (e .1))
       ] in
       go (alone-places t f k c m h)
 

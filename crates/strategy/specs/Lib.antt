@@ -18,8 +18,8 @@ pub mod PartialLaws
 pub mod Live
 pub mod LiveLaws
 pub mod SettleLaws
-pub mod Climb
-pub mod ClimbLaws
+pub mod Propagation
+pub mod PropagationLaws
 pub mod Order
 pub mod OrderLaws
 pub mod OrderCheck

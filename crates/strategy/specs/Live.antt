@@ -8,15 +8,15 @@ use Rattle.strategy.specs.Tree.{Tree, leaf, group, Forest, none, more, s
 abbrev pub Live : Type 0
 Live = ℕ → Bool
 
--- is `d` in the run of `n` numbers from `i` on
-unfoldable pub inRun : ℕ → ℕ → ℕ → Bool
-inRun i n d = leb i d && ltb d (i + n)
+-- is `d` in the span of `n` numbers from `i` on
+unfoldable pub inSpan : ℕ → ℕ → ℕ → Bool
+inSpan i n d = leb i d && ltb d (i + n)
 
--- the set without the run
+-- the set without the span
 unfoldable pub without : ℕ → ℕ → Live → Live
-without i n live d = cond (inRun i n d) false (live d)
+without i n live d = cond (inSpan i n d) false (live d)
 
--- is some number of the run in the set
+-- is some number of the span in the set
 unfoldable pub meets : ℕ → ℕ → Live → Bool
 meets i zero live = false
 meets i (suc n) live = live i || meets (suc i) n live
@@ -26,12 +26,12 @@ pub record Step : Type 0 where
   pub live : Live
   pub settled : Bool
 
--- a leaf probed
-abbrev pub probed : ℕ → Live → Step
-probed c live = record { live = without c 1 live; settled = true }
+-- a probe at its leaf
+abbrev pub leafStep : ℕ → Live → Step
+leafStep c live = record { live = without c 1 live; settled = true }
 
--- outward through a group, its numbers the run of `n` from `i`, from a member that the outcome `v` has settled: `v` settles the
--- group and its whole run goes out of the set, or nothing of the run is live and `v` is the group's value too, or here it stops
+-- outward through a group, its numbers the span of `n` from `i`, from a member that the outcome `v` has settled: `v` settles the
+-- group and its whole span goes out of the set, or nothing of the span is live and `v` is the group's value too, or here it stops
 unfoldable pub through : Bool → Bool → ℕ → ℕ → Step → Step
 through k v i n s =
     cond (s .settled)
@@ -41,7 +41,7 @@ through k v i n s =
 -- a probe of `c` with the outcome `v` in a tree whose numbers begin with `i`
 unfoldable mutual
   pub settle : Tree ℕ → ℕ → ℕ → Bool → Live → Step
-  settle (leaf d) i c v live = probed c live
+  settle (leaf d) i c v live = leafStep c live
   settle (group k f) i c v live = through k v i (sizes f) (settleIn f i c v live)
 
   pub settleIn : Forest ℕ → ℕ → ℕ → Bool → Live → Step

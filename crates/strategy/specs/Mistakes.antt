@@ -5,14 +5,14 @@ use mathlib.Core.Bool.{Bool, true, false, _&&_, not, xor, true≢false, and-true
 use mathlib.Core.List.{[], _∷_}
 use lib.Dec.{eqb}
 use Rattle.strategy.specs.Assignment.{Assignment, allNo, update, elem}
-use Rattle.strategy.specs.Strategy.{Strategy, turn, runFrom, answerOf, Right}
+use Rattle.strategy.specs.Strategy.{Strategy, turn, finalStateFrom, answerOf, Right}
 use Rattle.strategy.specs.Trace.{due, decides, someOutcomes}
-use Rattle.strategy.specs.Ours.{recall, after, ours}
+use Rattle.strategy.specs.Ours.{recall, laterThan, ours}
 use Rattle.strategy.specs.Tree.{Tree, leaf, group, Forest, none, more, all, any, join, eval, size}
 use Rattle.strategy.specs.Alone.{Partial, hide, statusAs, alone}
-use Rattle.strategy.specs.Live.{Live, inRun, without, meets, probed, through}
-use Rattle.strategy.specs.Climb.{enclosing, climb}
-use Rattle.strategy.specs.Row.{Row, work}
+use Rattle.strategy.specs.Live.{Live, inSpan, without, meets, leafStep, through}
+use Rattle.strategy.specs.Propagation.{enclosing, propagate}
+use Rattle.strategy.specs.Row.{RowProgress, work}
 use Rattle.strategy.specs.Parish.{parish}
 
 abbrev two : Tree ℕ → Tree ℕ → Forest ℕ
@@ -44,7 +44,7 @@ unfoldable mutual
 
 -- Any of (all of (0, 1), 2), where 2 is no and the order leaves 0 and 1 out: dropping says yes, the value with them as no is no.
 pub dropped : (dropping parish true (hide (0 ∷ 1 ∷ []) allNo) ≡ true) × (answerOf (ours (eval parish) (2 ∷ [])) allNo (2 ∷ []) ≡ false)
-unfolding dropping hide elem ours recall runFrom turn after due decides someOutcomes xor update eval
+unfolding dropping hide elem ours recall finalStateFrom turn laterThan due decides someOutcomes xor update eval
 dropped = (refl, refl)
 
 -- 3. Letting one entry's outcome settle another in the same byte.
@@ -53,15 +53,15 @@ abbrev either : Tree ℕ
 either = any (two (leaf 0) (leaf 1))
 
 abbrev leftOver : Live
-leftOver = (climb true (enclosing either 0 0) (probed 0 (λ d. true))) .live
+leftOver = (propagate true (enclosing either 0 0) (leafStep 0 (λ d. true))) .live
 
-abbrev second : Live → Row
-second live = work either (only 1) (0 ∷ 1 ∷ []) (record { live = live; probes = λ c. false; selected = false })
+abbrev second : Live → RowProgress
+second live = work either (only 1) (0 ∷ 1 ∷ []) (record { live = live; probed = λ c. false; selected = false })
 
 pub shared-row :
-    ((second leftOver) .selected ≡ false) × ((second leftOver) .probes 0 ≡ false) × ((second leftOver) .probes 1 ≡ false)
-    × ((second (λ d. true)) .selected ≡ true) × ((second (λ d. true)) .probes 0 ≡ true) × ((second (λ d. true)) .probes 1 ≡ true)
-unfolding work climb enclosing through without meets inRun size
+    ((second leftOver) .selected ≡ false) × ((second leftOver) .probed 0 ≡ false) × ((second leftOver) .probed 1 ≡ false)
+    × ((second (λ d. true)) .selected ≡ true) × ((second (λ d. true)) .probed 0 ≡ true) × ((second (λ d. true)) .probed 1 ≡ true)
+unfolding work propagate enclosing through without meets inSpan size
 shared-row = (refl, refl, refl, refl, refl, refl)
 
 -- 4. Taking "year before 1700" and "year after 1800" as connected.
@@ -74,9 +74,9 @@ abbrev never : Strategy
 never = record { probe = λ c s. false; answer = λ s. false }
 
 pub connected : (a : Assignment) → (a 0 && a 1) ≡ false → answerOf never a (0 ∷ 1 ∷ []) ≡ eval century a
-unfolding runFrom turn eval
+unfolding finalStateFrom turn eval
 connected a h = sym (rw (and-true (a 1)) h)
 
 pub unconnected : (Right (eval century) (0 ∷ 1 ∷ []) never → ⊥) × (due (eval century) 0 (1 ∷ []) allNo ≡ true)
-unfolding runFrom turn due decides someOutcomes xor update eval
+unfolding finalStateFrom turn due decides someOutcomes xor update eval
 unconnected = (λ R. true≢false (sym (R (λ d. true))), refl)

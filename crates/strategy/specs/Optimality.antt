@@ -5,7 +5,7 @@ use mathlib.Core.Path.{_≡_, refl, sym, _∙_, subst}
 use mathlib.Core.List.{List, [], _∷_, _++_}
 use lib.ListN.{length}
 use Rattle.strategy.specs.Assignment.{Assignment, Among, Once, AgreeOff}
-use Rattle.strategy.specs.Strategy.{Formula, Due, Strategy, run, predicates, probes, Right}
+use Rattle.strategy.specs.Strategy.{Formula, Due, Strategy, finalState, predicates, probes, Right}
 use Rattle.strategy.specs.Trace.{trace}
 use Rattle.strategy.specs.Fixing.{RightFixing}
 use Rattle.strategy.specs.Turns.{probed-from, counted-from}
@@ -23,7 +23,7 @@ optimal-fixing f order o S fixed R a g = probed-from f S a order [] o (λ q h. R
 
 -- and so at least as many
 pub optimal-count-fixing : (f : Formula) (order : List ℕ) → Once order → (S : Strategy) (fixed : Assignment) → RightFixing fixed f order S
-    → (a : Assignment) → AgreeOff order a fixed → length (trace f a order) ≤ length (run S a order)
+    → (a : Assignment) → AgreeOff order a fixed → length (trace f a order) ≤ length (finalState S a order)
 optimal-count-fixing f order o S fixed R a g = omega (arith, counted-from f S a order [] o (λ q h. R q (λ d n. h d n ∙ g d n)))
 
 -- DEMAND 3: a strategy that is right whatever the assignment makes, on every assignment, each probe that ours makes
@@ -31,7 +31,7 @@ pub optimal : (f : Formula) (order : List ℕ) → Once order → (S : Strategy)
 optimal f order o S R a = optimal-fixing f order o S a (λ q g. R q) a (λ d n. refl)
 
 pub optimal-count : (f : Formula) (order : List ℕ) → Once order → (S : Strategy) → Right f order S
-    → (a : Assignment) → length (trace f a order) ≤ length (run S a order)
+    → (a : Assignment) → length (trace f a order) ≤ length (finalState S a order)
 optimal-count f order o S R a = optimal-count-fixing f order o S a (λ q g. R q) a (λ d n. refl)
 
 -- the same as a plain sentence, with no test: on every assignment a right strategy probes whatever is due at its turn

@@ -16,15 +16,15 @@ recall a (x ∷ s) = recall (update a (x .0) (x .1)) s
 abbrev pub passedAsNo : State → Assignment
 passedAsNo s = recall allNo s
 
--- the predicates after `c` in the order
-unfoldable pub after : ℕ → List ℕ → List ℕ
-after c [] = []
-after c (d ∷ ds) = cond (eqb c d) ds (after c ds)
+-- the predicates later than `c` in the order
+unfoldable pub laterThan : ℕ → List ℕ → List ℕ
+laterThan c [] = []
+laterThan c (d ∷ ds) = cond (eqb c d) ds (laterThan c ds)
 
 -- document 01: it takes each condition it has passed as no; it looks where the condition then alone decides the tree for
 -- some outcomes of the later ones; its answer is the tree's value
 unfoldable pub ours : Formula → List ℕ → Strategy
 ours f order = record {
-  probe = λ c s. due f c (after c order) (passedAsNo s);
+  probe = λ c s. due f c (laterThan c order) (passedAsNo s);
   answer = λ s. f (passedAsNo s);
 }

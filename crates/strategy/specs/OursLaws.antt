@@ -7,11 +7,11 @@ use mathlib.Core.List.{List, [], _∷_, _++_, append-assoc, append-nil}
 use Rattle.strategy.specs.Bools.{iff-eq, eqb-self, eqb-ne}
 use Rattle.strategy.specs.Assignment.{Assignment, allNo, update, Among, Once, AgreeOff, AgreeOn, keepIf}
 use Rattle.strategy.specs.AssignmentLaws.{update-same, update-other, update-off, off-more, among?}
-use Rattle.strategy.specs.Strategy.{Formula, Due, State, Strategy, turn, runFrom, run, answerOf, Right}
+use Rattle.strategy.specs.Strategy.{Formula, Due, State, Strategy, turn, finalStateFrom, finalState, answerOf, Right}
 use Rattle.strategy.specs.Fixing.{ReadsOnly, RightFixing}
 use Rattle.strategy.specs.Trace.{due, trace}
 use Rattle.strategy.specs.DueLaws.{due-law, idle}
-use Rattle.strategy.specs.Ours.{recall, passedAsNo, after, ours}
+use Rattle.strategy.specs.Ours.{recall, passedAsNo, laterThan, ours}
 
 -- a probe adds its outcome to what the state tells
 recall-last : (a : Assignment) (s : State) (c : ℕ) (b : Bool) → recall a (s ++ ((c, b) ∷ [])) ≡ update (recall a s) c b
@@ -19,18 +19,18 @@ unfolding recall
 recall-last a [] c b = refl
 recall-last a (x ∷ s) c b = recall-last (update a (x .0) (x .1)) s c b
 
--- at each turn of `cs`, `after c order` is what follows
+-- at each turn of `cs`, `laterThan c order` is what follows
 abbrev Turns : List ℕ → List ℕ → Type 0
 Turns order [] = Unit {0}
-Turns order (c ∷ cs) = (after c order ≡ cs) × Turns order cs
+Turns order (c ∷ cs) = (laterThan c order ≡ cs) × Turns order cs
 
 turns-more : (x : ℕ) (order cs : List ℕ) → (Among x cs → ⊥) → Turns order cs → Turns (x ∷ order) cs
-unfolding after
+unfolding laterThan
 turns-more x order [] n u = tt
 turns-more x order (c ∷ cs) n u = (rw (eqb-ne c x (λ e. n (inl (sym e)))) (u .0), turns-more x order cs (λ m. n (inr m)) (u .1))
 
 turns : (order : List ℕ) → Once order → Turns order order
-unfolding after
+unfolding laterThan
 turns [] o = tt
 turns (c ∷ cs) o = (rw (eqb-self c), turns-more c cs cs (o .0) (turns cs (o .1)))
 
@@ -115,7 +115,7 @@ turn-append S a c s b e t = rw e (go b)
 
 module _ (f : Formula) (order : List ℕ) (a : Assignment) where
   -- one turn of ours: it probes where the predicate is due on the true assignment, and keeps the invariant
-  module _ (c : ℕ) (cs : List ℕ) (s : State) (u : after c order ≡ cs) (n : Among c cs → ⊥) (S : Same f (c ∷ cs) a (passedAsNo s)) where
+  module _ (c : ℕ) (cs : List ℕ) (s : State) (u : laterThan c order ≡ cs) (n : Among c cs → ⊥) (S : Same f (c ∷ cs) a (passedAsNo s)) where
     our-probe : (ours f order) .probe c s ≡ due f c cs a
     unfolding ours
     our-probe = rw u (due-eq f c cs n a (passedAsNo s) S)
@@ -129,8 +129,8 @@ module _ (f : Formula) (order : List ℕ) (a : Assignment) where
         go false e = same-pass f c cs n a (passedAsNo s) S e
 
   ours-from : (cs : List ℕ) (s : State) → Turns order cs → Once cs → Same f cs a (passedAsNo s)
-      → (runFrom (ours f order) a cs s ≡ s ++ trace f a cs) × (f (passedAsNo (runFrom (ours f order) a cs s)) ≡ f a)
-  unfolding runFrom trace
+      → (finalStateFrom (ours f order) a cs s ≡ s ++ trace f a cs) × (f (passedAsNo (finalStateFrom (ours f order) a cs s)) ≡ f a)
+  unfolding finalStateFrom trace
   ours-from [] s u o S = (sym (append-nil s), sym (S a (passedAsNo s) (λ d k. refl) (λ d k. refl) (λ d m. absurd m)))
   ours-from (c ∷ cs) s u o S =
       let ih = ours-from cs (turn (ours f order) a c s) (u .1) (o .1) (same-turn c cs s (u .0) (o .0) S) in
@@ -148,12 +148,12 @@ module _ (f : Formula) (order : List ℕ) (a : Assignment) where
       go d (inr k) = g d k ∙ z d k ∙ sym (h d k)
 
   module _ (o : Once order) where
-    both-of : Same f order a allNo → (run (ours f order) a order ≡ trace f a order) × (answerOf (ours f order) a order ≡ f a)
+    both-of : Same f order a allNo → (finalState (ours f order) a order ≡ trace f a order) × (answerOf (ours f order) a order ≡ f a)
     unfolding ours recall
     both-of S = ours-from order [] (turns order o) o S
 
 -- OURS IS A STRATEGY: on every assignment its probes, with their outcomes and in the order's sequence, are those of demand 2
-pub ours-trace : (f : Formula) (order : List ℕ) → Once order → ReadsOnly f order → (a : Assignment) → run (ours f order) a order ≡ trace f a order
+pub ours-trace : (f : Formula) (order : List ℕ) → Once order → ReadsOnly f order → (a : Assignment) → finalState (ours f order) a order ≡ trace f a order
 ours-trace f order o v a = both-of f order a o (start-reads f order a v) .0
 
 -- AND RIGHT: its answer is the formula's value on every assignment
@@ -161,7 +161,7 @@ pub ours-right : (f : Formula) (order : List ℕ) → Once order → ReadsOnly f
 ours-right f order o v a = both-of f order a o (start-reads f order a v) .1
 
 -- both for an order that leaves predicates out, those being no
-pub ours-trace-fixing : (f : Formula) (order : List ℕ) → Once order → (a : Assignment) → AgreeOff order a allNo → run (ours f order) a order ≡ trace f a order
+pub ours-trace-fixing : (f : Formula) (order : List ℕ) → Once order → (a : Assignment) → AgreeOff order a allNo → finalState (ours f order) a order ≡ trace f a order
 ours-trace-fixing f order o a z = both-of f order a o (start-fixed f order a z) .0
 
 pub ours-right-fixing : (f : Formula) (order : List ℕ) → Once order → RightFixing allNo f order (ours f order)

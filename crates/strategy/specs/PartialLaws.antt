@@ -9,8 +9,8 @@ use lib.Dec.{eqb, ltb}
 use Rattle.strategy.specs.Bools.{which, clash, each, eqb-self, eqb-eq, eqb-ne, same?, ltb-lt, ltb-le}
 use Rattle.strategy.specs.Assignment.{Assignment, Among}
 use Rattle.strategy.specs.AssignmentLaws.{among?}
-use Rattle.strategy.specs.Tree.{Tree, leaf, group, Forest, none, more, join, eval, evals, size, sizes, Numbered, Numbereds, HasMember, NonEmpty, NonEmpties, InRun}
-use Rattle.strategy.specs.TreeLaws.{join-unit-left, join-left, join-right, join-not, join-cases, eval-run, evals-run}
+use Rattle.strategy.specs.Tree.{Tree, leaf, group, Forest, none, more, join, eval, evals, size, sizes, Numbered, Numbereds, HasMember, NonEmpty, NonEmpties, InSpan}
+use Rattle.strategy.specs.TreeLaws.{join-unit-left, join-left, join-right, join-not, join-cases, eval-span, evals-span}
 use Rattle.strategy.specs.Alone.{Status, unseen, seen, Partial, hide, isUnseen, statusAs, unseenAs, alone, aloneIn}
 use Rattle.strategy.specs.AloneLaws.{Either, alone-places, alone-at, hide-in, hide-off}
 
@@ -39,11 +39,11 @@ pub unseen-of : (x : Status) → isUnseen x ≡ true → x ≡ unseen
 unseen-of unseen h = refl
 unseen-of (seen b) h = absurd (false≢true h)
 
--- the same is seen in a run
+-- the same is seen in a span
 abbrev pub SameIn : ℕ → ℕ → Partial → Partial → Type 0
-SameIn i n m m′ = (d : ℕ) → InRun i n d → m d ≡ m′ d
+SameIn i n m m′ = (d : ℕ) → InSpan i n d → m d ≡ m′ d
 
--- whether a predicate is alone hangs on what is seen in the tree's run
+-- whether a predicate is alone hangs on what is seen in the tree's span
 mutual
   unfolding alone eval size
 
@@ -54,13 +54,13 @@ mutual
   pub aloneIn-same : (f : Forest ℕ) (k : Bool) (i : ℕ) → Numbereds f i → (c : ℕ) (m m′ : Partial) → SameIn i (sizes f) m m′ → aloneIn f k c m ≡ aloneIn f k c m′
   aloneIn-same none k i n c m m′ g = refl
   aloneIn-same (more t f) k i n c m m′ g =
-      let low : (d : ℕ) → InRun i (size t) d → m d ≡ m′ d = λ d h. g d (omega arith) in
-      let high : (d : ℕ) → InRun (i + size t) (sizes f) d → m d ≡ m′ d = λ d h. g d (omega arith) in
+      let low : (d : ℕ) → InSpan i (size t) d → m d ≡ m′ d = λ d h. g d (omega arith) in
+      let high : (d : ℕ) → InSpan (i + size t) (sizes f) d → m d ≡ m′ d = λ d h. g d (omega arith) in
       rw (
         alone-same t i (n .0) c m m′ low,
         aloneIn-same f k (i + size t) (n .1) c m m′ high,
-        eval-run t i (n .0) (unseenAs (not k) m) (unseenAs (not k) m′) (λ d h. ap (statusAs (not k)) (low d h)),
-        evals-run f k (i + size t) (n .1) (unseenAs (not k) m) (unseenAs (not k) m′) (λ d h. ap (statusAs (not k)) (high d h)),
+        eval-span t i (n .0) (unseenAs (not k) m) (unseenAs (not k) m′) (λ d h. ap (statusAs (not k)) (low d h)),
+        evals-span f k (i + size t) (n .1) (unseenAs (not k) m) (unseenAs (not k) m′) (λ d h. ap (statusAs (not k)) (high d h)),
       )
 
 -- where an unseen predicate is alone the tree can come to either value
@@ -86,7 +86,7 @@ mutual
 
 -- where the tree can come to either value some unseen predicate of it is alone
 abbrev pub SomeAlone : ℕ → ℕ → Partial → (ℕ → Bool) → Type 0
-SomeAlone i n m A = (d : ℕ) × InRun i n d × (m d ≡ unseen) × (A d ≡ true)
+SomeAlone i n m A = (d : ℕ) × InSpan i n d × (m d ≡ unseen) × (A d ≡ true)
 
 either-unseen : (x : Status) → ((v : Bool) → statusAs v x ≡ v) → x ≡ unseen
 either-unseen unseen h = refl
@@ -136,11 +136,11 @@ mutual
 mutual
   unfolding alone size Either
 
-  pub first-alone : (t : Tree ℕ) (i : ℕ) → Numbered t i → NonEmpty t → (d : ℕ) → InRun i (size t) d → alone t d nothingSeen ≡ true
+  pub first-alone : (t : Tree ℕ) (i : ℕ) → Numbered t i → NonEmpty t → (d : ℕ) → InSpan i (size t) d → alone t d nothingSeen ≡ true
   first-alone (leaf c) i n u d r = let e : c ≡ d = omega arith in rw e (eqb-self d)
   first-alone (group k f) i n u d r = first-aloneIn f k i n (u .1) d r
 
-  first-aloneIn : (f : Forest ℕ) (k : Bool) (i : ℕ) → Numbereds f i → NonEmpties f → (d : ℕ) → InRun i (sizes f) d → aloneIn f k d nothingSeen ≡ true
+  first-aloneIn : (f : Forest ℕ) (k : Bool) (i : ℕ) → Numbereds f i → NonEmpties f → (d : ℕ) → InSpan i (sizes f) d → aloneIn f k d nothingSeen ≡ true
   first-aloneIn none k i n u d r = absurd (omega arith)
   first-aloneIn (more t f) k i n u d r =
       let go : (ltb d (i + size t) ≡ true) ⊎ (ltb d (i + size t) ≡ false) → Either t f k d nothingSeen

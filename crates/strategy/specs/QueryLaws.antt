@@ -5,13 +5,13 @@ use mathlib.Core.Path.{_≡_}
 use mathlib.Core.Bool.{true}
 use mathlib.Core.List.{List}
 use Rattle.strategy.specs.Assignment.{Assignment}
-use Rattle.strategy.specs.Strategy.{run, Right}
+use Rattle.strategy.specs.Strategy.{finalState, Right}
 use Rattle.strategy.specs.Trace.{trace}
 use Rattle.strategy.specs.Fixing.{ReadsOnly}
 use Rattle.strategy.specs.Ours.{ours}
 use Rattle.strategy.specs.OursLaws.{ours-trace, ours-right}
 use Rattle.strategy.specs.Tree.{Tree, eval, size, Numbered}
-use Rattle.strategy.specs.TreeLaws.{eval-run}
+use Rattle.strategy.specs.TreeLaws.{eval-span}
 use Rattle.strategy.specs.Order.{isOrder, Order}
 use Rattle.strategy.specs.OrderLaws.{order-law}
 
@@ -21,10 +21,10 @@ module _ (t : Tree ℕ) (n : Numbered t 0) (order : List ℕ) (accepted : isOrde
 
   -- the tree's value hangs on the predicates of its order
   pub query-reads : ReadsOnly (eval t) order
-  query-reads q r g = eval-run t 0 n q r (λ d j. g d (held .every d (omega arith)))
+  query-reads q r g = eval-span t 0 n q r (λ d j. g d (held .every d (omega arith)))
 
   -- ours is a strategy: its probes are those of demand 2
-  pub query-ours : (a : Assignment) → run (ours (eval t) order) a order ≡ trace (eval t) a order
+  pub query-ours : (a : Assignment) → finalState (ours (eval t) order) a order ≡ trace (eval t) a order
   query-ours = ours-trace (eval t) order (held .once) query-reads
 
   -- and right whatever the assignment

@@ -6,39 +6,39 @@ use mathlib.Core.Bool.{Bool, true, false, _&&_, not, cond}
 use mathlib.Core.Logic.{_⊎_, inl, inr}
 use lib.Dec.{ltb}
 use Rattle.strategy.specs.Bools.{which, clash, not-true, iff-eq, each, self-or-not, not-self, not-of-true, not-of-false, and-parts, eqb-eq, ltb-yes, ltb-no, ltb-lt, ltb-le}
-use Rattle.strategy.specs.Tree.{Tree, leaf, group, Forest, none, more, eval, evals, size, sizes, Numbered, Numbereds, InRun}
-use Rattle.strategy.specs.TreeLaws.{join-unit-left, join-left, join-right, Toward, evals-toward, eval-run, evals-run}
+use Rattle.strategy.specs.Tree.{Tree, leaf, group, Forest, none, more, eval, evals, size, sizes, Numbered, Numbereds, InSpan}
+use Rattle.strategy.specs.TreeLaws.{join-unit-left, join-left, join-right, Toward, evals-toward, eval-span, evals-span}
 use Rattle.strategy.specs.Alone.{Status, unseen, seen, Partial, isUnseen, statusAs, unseenAs, alone, aloneIn}
-use Rattle.strategy.specs.AloneLaws.{Either, alone-places, alone-at, alone-run, aloneIn-run}
+use Rattle.strategy.specs.AloneLaws.{Either, alone-places, alone-at, alone-span, aloneIn-span}
 use Rattle.strategy.specs.PartialLaws.{see, see-same, see-other, SameIn, alone-same, aloneIn-same, alone-either, aloneIn-either, eithers-alone, unseen-of}
 use Rattle.strategy.specs.Live.{Live, meets, Step, through, settle, settleIn}
 use Rattle.strategy.specs.LiveLaws.{without-in, without-off, meets-gives, meets-none, through-settles, through-asks, through-stopped}
 
--- THE INVARIANT: of a run just the unseen predicates that are alone are live
-abbrev pub Holds : ℕ → ℕ → (ℕ → Bool) → Partial → Live → Type 0
-Holds i n A m live = (d : ℕ) → InRun i n d → live d ≡ (isUnseen (m d) && A d)
+-- THE INVARIANT: of a span just the unseen predicates that are alone are live
+abbrev pub LiveAlone : ℕ → ℕ → (ℕ → Bool) → Partial → Live → Type 0
+LiveAlone i n A m live = (d : ℕ) → InSpan i n d → live d ≡ (isUnseen (m d) && A d)
 
 -- what a probe with the outcome `v` does to a tree: all seen that is needed for the value `v`, or either value still possible
 pub record TreeAfter (t : Tree ℕ) (i : ℕ) (v : Bool) (m : Partial) (live : Live) (s : Step) : Type 0 where
-  pub off : (d : ℕ) → (InRun i (size t) d → ⊥) → s .live d ≡ live d
-  pub holds : Holds i (size t) (λ d. alone t d m) m (s .live)
+  pub off : (d : ℕ) → (InSpan i (size t) d → ⊥) → s .live d ≡ live d
+  pub holds : LiveAlone i (size t) (λ d. alone t d m) m (s .live)
   pub settled : s .settled ≡ true → (w : Bool) → eval t (unseenAs w m) ≡ v
   pub unsettled : s .settled ≡ false → (w : Bool) → eval t (unseenAs w m) ≡ w
 
 -- what it does to a group's members: the group may still go on, or `v` has settled it
 record Going (f : Forest ℕ) (k : Bool) (i : ℕ) (v : Bool) (m : Partial) (s : Step) : Type 0 where
   free : evals f k (unseenAs (not k) m) ≡ not k
-  holds : Holds i (sizes f) (λ d. aloneIn f k d m) m (s .live)
+  holds : LiveAlone i (sizes f) (λ d. aloneIn f k d m) m (s .live)
   settled : s .settled ≡ true → v ≡ not k
   unsettled : s .settled ≡ false → evals f k (unseenAs k m) ≡ k
 
 record Stopped (f : Forest ℕ) (k : Bool) (v : Bool) (m : Partial) (s : Step) : Type 0 where
   member : s .settled ≡ true
-  absorbs : v ≡ k
+  settling : v ≡ k
   stops : evals f k (unseenAs (not k) m) ≡ k
 
 record ForestAfter (f : Forest ℕ) (k : Bool) (i : ℕ) (v : Bool) (m : Partial) (live : Live) (s : Step) : Type 0 where
-  off : (d : ℕ) → (InRun i (sizes f) d → ⊥) → s .live d ≡ live d
+  off : (d : ℕ) → (InSpan i (sizes f) d → ⊥) → s .live d ≡ live d
   after : Going f k i v m s ⊎ Stopped f k v m s
 
 -- the more that is taken as `w`, the more a tree comes to it
@@ -51,15 +51,15 @@ unseenAs-toward w m d h = go (m d) h
 
 -- one group: from what the probe did to the members to what it did to the group
 module _ (f : Forest ℕ) (k : Bool) (i : ℕ) (n : Numbereds f i) (v : Bool) (m : Partial) (live : Live) (s : Step)
-    (off : (d : ℕ) → (InRun i (sizes f) d → ⊥) → s .live d ≡ live d) where
+    (off : (d : ℕ) → (InSpan i (sizes f) d → ⊥) → s .live d ≡ live d) where
   group-stopped : Stopped f k v m s → TreeAfter (group k f) i v m live (through k v i (sizes f) s)
   unfolding eval alone size
-  group-stopped st = rw (through-settles k v i (sizes f) s (st .member) (st .absorbs)) (record {
+  group-stopped st = rw (through-settles k v i (sizes f) s (st .member) (st .settling)) (record {
     off = λ d r. without-off i (sizes f) d (s .live) r ∙ off d r;
     holds = λ d r. without-in i (sizes f) d (s .live) r ∙ sym (not-true (isUnseen (m d) && aloneIn f k d m) (never d));
     settled = λ _. each (λ w. evals f k (unseenAs w m) ≡ v) k
-        (evals-toward f k k (unseenAs (not k) m) (unseenAs k m) (unseenAs-toward k m) (st .stops) ∙ sym (st .absorbs))
-        (st .stops ∙ sym (st .absorbs));
+        (evals-toward f k k (unseenAs (not k) m) (unseenAs k m) (unseenAs-toward k m) (st .stops) ∙ sym (st .settling))
+        (st .stops ∙ sym (st .settling));
     unsettled = λ e. clash refl e;
   })
     where
@@ -73,7 +73,7 @@ module _ (f : Forest ℕ) (k : Bool) (i : ℕ) (n : Numbereds f i) (v : Bool) (m
   group-going g = go (which (s .settled))
     where
       -- nothing live in the group: its value is `not k` whatever the unseen outcomes
-      none-live : ((d : ℕ) → InRun i (sizes f) d → s .live d ≡ false) → evals f k (unseenAs k m) ≡ not k
+      none-live : ((d : ℕ) → InSpan i (sizes f) d → s .live d ≡ false) → evals f k (unseenAs k m) ≡ not k
       none-live z = at (self-or-not k (evals f k (unseenAs k m)))
         where
           at : (evals f k (unseenAs k m) ≡ k) ⊎ (evals f k (unseenAs k m) ≡ not k) → evals f k (unseenAs k m) ≡ not k
@@ -105,12 +105,12 @@ module _ (f : Forest ℕ) (k : Bool) (i : ℕ) (n : Numbereds f i) (v : Bool) (m
       })
 
 -- a part of the tree where nothing was probed keeps its invariant
-holds-keep : (i n : ℕ) (A A′ : ℕ → Bool) (m m′ : Partial) (live live′ : Live) → SameIn i n m m′ → ((d : ℕ) → InRun i n d → A d ≡ A′ d)
-    → ((d : ℕ) → InRun i n d → live′ d ≡ live d) → Holds i n A m live → Holds i n A′ m′ live′
+holds-keep : (i n : ℕ) (A A′ : ℕ → Bool) (m m′ : Partial) (live live′ : Live) → SameIn i n m m′ → ((d : ℕ) → InSpan i n d → A d ≡ A′ d)
+    → ((d : ℕ) → InSpan i n d → live′ d ≡ live d) → LiveAlone i n A m live → LiveAlone i n A′ m′ live′
 holds-keep i n A A′ m m′ live live′ p q r h d j = r d j ∙ h d j ∙ ap₂ (λ x y. isUnseen x && y) (p d j) (q d j)
 
-see-off : (i n : ℕ) (m : Partial) (c : ℕ) (v : Bool) → (InRun i n c → ⊥) → SameIn i n m (see m c v)
-see-off i n m c v r d j = sym (see-other m c v d (λ e. r (subst (λ x. InRun i n x) e j)))
+see-off : (i n : ℕ) (m : Partial) (c : ℕ) (v : Bool) → (InSpan i n c → ⊥) → SameIn i n m (see m c v)
+see-off i n m c v r d j = sym (see-other m c v d (λ e. r (subst (λ x. InSpan i n x) e j)))
 
 module _ (t : Tree ℕ) (f : Forest ℕ) (k : Bool) (i : ℕ) (n : Numbereds (more t f) i) where
   -- in a group whose other members are not settled, alone in the member is alone in the group
@@ -121,24 +121,24 @@ module _ (t : Tree ℕ) (f : Forest ℕ) (k : Bool) (i : ℕ) (n : Numbereds (mo
       where
         go : Either t f k d m → alone t d m ≡ true
         go (inl w) = w .0
-        go (inr w) = let r = aloneIn-run f k (i + size t) (n .1) d m (w .1) in absurd (omega arith)
+        go (inr w) = let r = aloneIn-span f k (i + size t) (n .1) d m (w .1) in absurd (omega arith)
 
     aloneIn-high : i + size t ≤ d → eval t (unseenAs (not k) m) ≡ not k → aloneIn (more t f) k d m ≡ aloneIn f k d m
     unfolding Either
     aloneIn-high l e = iff-eq (aloneIn (more t f) k d m) (aloneIn f k d m) (λ h. go (alone-places t f k d m h)) (λ h. alone-at t f k d m (inr (e, h)))
       where
         go : Either t f k d m → aloneIn f k d m ≡ true
-        go (inl w) = let r = alone-run t i (n .0) d m (w .0) in absurd (omega arith)
+        go (inl w) = let r = alone-span t i (n .0) d m (w .0) in absurd (omega arith)
         go (inr w) = w .1
 
   abbrev HoldsFirst : Partial → Live → Type 0
-  HoldsFirst m live = Holds i (size t) (λ d. alone t d m) m live
+  HoldsFirst m live = LiveAlone i (size t) (λ d. alone t d m) m live
 
   abbrev HoldsOthers : Partial → Live → Type 0
-  HoldsOthers m live = Holds (i + size t) (sizes f) (λ d. aloneIn f k d m) m live
+  HoldsOthers m live = LiveAlone (i + size t) (sizes f) (λ d. aloneIn f k d m) m live
 
   abbrev HoldsBoth : Partial → Live → Type 0
-  HoldsBoth m live = Holds i (sizes (more t f)) (λ d. aloneIn (more t f) k d m) m live
+  HoldsBoth m live = LiveAlone i (sizes (more t f)) (λ d. aloneIn (more t f) k d m) m live
 
   module _ (m : Partial) (live : Live) where
     holds-first : evals f k (unseenAs (not k) m) ≡ not k → HoldsBoth m live → HoldsFirst m live
@@ -165,14 +165,14 @@ module _ (t : Tree ℕ) (f : Forest ℕ) (k : Bool) (i : ℕ) (n : Numbereds (mo
     unfolding size eval
     after-first al F r = record { off = λ d j. r .off d (λ l. j (omega arith)); after = go (which (s .settled)) }
       where
-        ci : InRun i (size t) c
-        ci = alone-run t i (n .0) c m al
+        ci : InSpan i (size t) c
+        ci = alone-span t i (n .0) c m al
 
         same : SameIn (i + size t) (sizes f) m (see m c v)
         same = see-off (i + size t) (sizes f) m c v (λ j. omega (arith, ci))
 
         F′ : evals f k (unseenAs (not k) (see m c v)) ≡ not k
-        F′ = sym (evals-run f k (i + size t) (n .1) (unseenAs (not k) m) (unseenAs (not k) (see m c v)) (λ d j. ap (statusAs (not k)) (same d j))) ∙ F
+        F′ = sym (evals-span f k (i + size t) (n .1) (unseenAs (not k) m) (unseenAs (not k) (see m c v)) (λ d j. ap (statusAs (not k)) (same d j))) ∙ F
 
         others : HoldsOthers (see m c v) (s .live)
         others = holds-keep (i + size t) (sizes f) (λ d. aloneIn f k d m) (λ d. aloneIn f k d (see m c v)) m (see m c v) live (s .live) same
@@ -192,7 +192,7 @@ module _ (t : Tree ℕ) (f : Forest ℕ) (k : Bool) (i : ℕ) (n : Numbereds (mo
         go (inl e) = at (self-or-not k v)
           where
             at : (v ≡ k) ⊎ (v ≡ not k) → Going (more t f) k i v (see m c v) s ⊎ Stopped (more t f) k v (see m c v) s
-            at (inl x) = inr (record { member = e; absorbs = x; stops = join-left k (eval t (unseenAs (not k) (see m c v))) (evals f k (unseenAs (not k) (see m c v))) (r .settled e (not k) ∙ x) })
+            at (inl x) = inr (record { member = e; settling = x; stops = join-left k (eval t (unseenAs (not k) (see m c v))) (evals f k (unseenAs (not k) (see m c v))) (r .settled e (not k) ∙ x) })
             at (inr x) = inl (going (r .settled e (not k) ∙ x) (λ _. x))
 
     -- the probe was in another member
@@ -200,14 +200,14 @@ module _ (t : Tree ℕ) (f : Forest ℕ) (k : Bool) (i : ℕ) (n : Numbereds (mo
     unfolding size eval
     after-others T al r = record { off = λ d j. r .off d (λ l. j (omega arith)); after = go (r .after) }
       where
-        ci : InRun (i + size t) (sizes f) c
-        ci = aloneIn-run f k (i + size t) (n .1) c m al
+        ci : InSpan (i + size t) (sizes f) c
+        ci = aloneIn-span f k (i + size t) (n .1) c m al
 
         same : SameIn i (size t) m (see m c v)
         same = see-off i (size t) m c v (λ j. omega (arith, ci))
 
         T′ : eval t (unseenAs (not k) (see m c v)) ≡ not k
-        T′ = sym (eval-run t i (n .0) (unseenAs (not k) m) (unseenAs (not k) (see m c v)) (λ d j. ap (statusAs (not k)) (same d j))) ∙ T
+        T′ = sym (eval-span t i (n .0) (unseenAs (not k) m) (unseenAs (not k) (see m c v)) (λ d j. ap (statusAs (not k)) (same d j))) ∙ T
 
         first : HoldsFirst (see m c v) (s .live)
         first = holds-keep i (size t) (λ d. alone t d m) (λ d. alone t d (see m c v)) m (see m c v) live (s .live) same
@@ -221,14 +221,14 @@ module _ (t : Tree ℕ) (f : Forest ℕ) (k : Bool) (i : ℕ) (n : Numbereds (mo
           settled = g .settled;
           unsettled = λ e. join-right k (eval t (unseenAs k (see m c v))) (evals f k (unseenAs k (see m c v))) (g .unsettled e);
         })
-        go (inr g) = inr (record { member = g .member; absorbs = g .absorbs; stops = join-right k (eval t (unseenAs (not k) (see m c v))) (evals f k (unseenAs (not k) (see m c v))) (g .stops) })
+        go (inr g) = inr (record { member = g .member; settling = g .settling; stops = join-right k (eval t (unseenAs (not k) (see m c v))) (evals f k (unseenAs (not k) (see m c v))) (g .stops) })
 
 -- A PROBE OF A LIVE PREDICATE keeps the invariant and tells whether the tree is settled
 mutual
   unfolding settle size alone eval Either
 
   pub settle-after : (t : Tree ℕ) (i : ℕ) → Numbered t i → (c : ℕ) (v : Bool) (m : Partial) (live : Live) → m c ≡ unseen → alone t c m ≡ true
-      → Holds i (size t) (λ d. alone t d m) m live → TreeAfter t i v (see m c v) live (settle t i c v live)
+      → LiveAlone i (size t) (λ d. alone t d m) m live → TreeAfter t i v (see m c v) live (settle t i c v live)
   settle-after (leaf d) i n c v m live u al h =
       let e : d ≡ c = eqb-eq d c al in
       record {
@@ -248,16 +248,16 @@ mutual
       go (r .after)
 
   settleIn-after : (f : Forest ℕ) (k : Bool) (i : ℕ) → Numbereds f i → (c : ℕ) (v : Bool) (m : Partial) (live : Live) → m c ≡ unseen → aloneIn f k c m ≡ true
-      → Holds i (sizes f) (λ d. aloneIn f k d m) m live → ForestAfter f k i v (see m c v) live (settleIn f i c v live)
+      → LiveAlone i (sizes f) (λ d. aloneIn f k d m) m live → ForestAfter f k i v (see m c v) live (settleIn f i c v live)
   settleIn-after none k i n c v m live u al h = clash al refl
   settleIn-after (more t f) k i n c v m live u al h =
       let go : Either t f k c m → ForestAfter (more t f) k i v (see m c v) live (cond (ltb c (i + size t)) (settle t i c v live) (settleIn f (i + size t) c v live))
       = elim [
-        | inl w ↦ (let r = alone-run t i (n .0) c m (w .0) in
+        | inl w ↦ (let r = alone-span t i (n .0) c m (w .0) in
             rw (ltb-yes c (i + size t) (r .1))
             (after-first t f k i n c v m live (settle t i c v live) u h (w .0) (w .1)
             (settle-after t i (n .0) c v m live u (w .0) (holds-first t f k i n m live (w .1) h))))
-        | inr w ↦ (let r = aloneIn-run f k (i + size t) (n .1) c m (w .1) in
+        | inr w ↦ (let r = aloneIn-span f k (i + size t) (n .1) c m (w .1) in
             rw (ltb-no c (i + size t) (r .0))
             (after-others t f k i n c v m live (settleIn f (i + size t) c v live) u h (w .0) (w .1)
             (settleIn-after f k (i + size t) (n .1) c v m live u (w .1) (holds-others t f k i n m live (w .0) h))))

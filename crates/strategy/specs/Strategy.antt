@@ -28,13 +28,13 @@ pub record Strategy : Type 0 where
 unfoldable pub turn : Strategy → Assignment → ℕ → State → State
 turn S a c s = cond (S .probe c s) (s ++ ((c, a c) ∷ [])) s
 
--- the turns of a list in sequence, from a state; and of the whole order, from nothing seen
-unfoldable pub runFrom : Strategy → Assignment → List ℕ → State → State
-runFrom S a [] s = s
-runFrom S a (c ∷ cs) s = runFrom S a cs (turn S a c s)
+-- the state after the turns of a list, from a state; and after the whole order, from nothing seen
+unfoldable pub finalStateFrom : Strategy → Assignment → List ℕ → State → State
+finalStateFrom S a [] s = s
+finalStateFrom S a (c ∷ cs) s = finalStateFrom S a cs (turn S a c s)
 
-abbrev pub run : Strategy → Assignment → List ℕ → State
-run S a order = runFrom S a order []
+abbrev pub finalState : Strategy → Assignment → List ℕ → State
+finalState S a order = finalStateFrom S a order []
 
 -- the predicates it probes, and its answer
 unfoldable pub predicates : State → List ℕ
@@ -42,10 +42,10 @@ predicates [] = []
 predicates (x ∷ s) = x .0 ∷ predicates s
 
 abbrev pub probes : Strategy → Assignment → List ℕ → List ℕ
-probes S a order = predicates (run S a order)
+probes S a order = predicates (finalState S a order)
 
 abbrev pub answerOf : Strategy → Assignment → List ℕ → Bool
-answerOf S a order = S .answer (run S a order)
+answerOf S a order = S .answer (finalState S a order)
 
 -- right whatever the assignment
 abbrev pub Right : Formula → List ℕ → Strategy → Type 0

@@ -85,6 +85,6 @@ unfoldable mutual
   relabels g none = none
   relabels g (more t f) = more (relabel g t) (relabels g f)
 
--- the run of `n` numbers from `i` on
-abbrev pub InRun : ℕ → ℕ → ℕ → Type 0
-InRun i n d = (i ≤ d) × (d < i + n)
+-- the span of `n` numbers from `i` on
+abbrev pub InSpan : ℕ → ℕ → ℕ → Type 0
+InSpan i n d = (i ≤ d) × (d < i + n)

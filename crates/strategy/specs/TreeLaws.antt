@@ -6,7 +6,7 @@ use mathlib.Core.Bool.{Bool, true, false, _&&_, _||_, not, true≢false}
 use mathlib.Core.Logic.{_⊎_, inl, inr}
 use Rattle.strategy.specs.Bools.{both, and-parts, and-fails, or-cases, or-fails, or-right}
 use Rattle.strategy.specs.Assignment.{Assignment}
-use Rattle.strategy.specs.Tree.{Tree, leaf, group, Forest, none, more, all, any, join, settles, eval, evals, size, sizes, Numbered, Numbereds, relabel, relabels, InRun}
+use Rattle.strategy.specs.Tree.{Tree, leaf, group, Forest, none, more, all, any, join, settles, eval, evals, size, sizes, Numbered, Numbereds, relabel, relabels, InSpan}
 
 -- the value of a group in plain words
 module _ {A : Type 0} (a : A → Bool) where
@@ -100,21 +100,21 @@ mutual
   evals-toward (more t f) k v a b g h =
       join-mono k v (eval t a) (evals f k a) (eval t b) (evals f k b) (λ e. eval-toward t v a b g e) (λ e. evals-toward f k v a b g e) h
 
--- the value hangs on the outcomes in the tree's run of numbers
+-- the value hangs on the outcomes in the tree's span of numbers
 abbrev pub AgreeIn : ℕ → ℕ → Assignment → Assignment → Type 0
-AgreeIn i n a b = (d : ℕ) → InRun i n d → a d ≡ b d
+AgreeIn i n a b = (d : ℕ) → InSpan i n d → a d ≡ b d
 
 mutual
   unfolding eval size
 
-  pub eval-run : (t : Tree ℕ) (i : ℕ) → Numbered t i → (a b : Assignment) → AgreeIn i (size t) a b → eval t a ≡ eval t b
-  eval-run (leaf c) i n a b g = g c (omega arith)
-  eval-run (group k f) i n a b g = evals-run f k i n a b g
+  pub eval-span : (t : Tree ℕ) (i : ℕ) → Numbered t i → (a b : Assignment) → AgreeIn i (size t) a b → eval t a ≡ eval t b
+  eval-span (leaf c) i n a b g = g c (omega arith)
+  eval-span (group k f) i n a b g = evals-span f k i n a b g
 
-  pub evals-run : (f : Forest ℕ) (k : Bool) (i : ℕ) → Numbereds f i → (a b : Assignment) → AgreeIn i (sizes f) a b → evals f k a ≡ evals f k b
-  evals-run none k i n a b g = refl
-  evals-run (more t f) k i n a b g =
-      ap₂ (join k) (eval-run t i (n .0) a b (λ d h. g d (omega arith))) (evals-run f k (i + size t) (n .1) a b (λ d h. g d (omega arith)))
+  pub evals-span : (f : Forest ℕ) (k : Bool) (i : ℕ) → Numbereds f i → (a b : Assignment) → AgreeIn i (sizes f) a b → evals f k a ≡ evals f k b
+  evals-span none k i n a b g = refl
+  evals-span (more t f) k i n a b g =
+      ap₂ (join k) (eval-span t i (n .0) a b (λ d h. g d (omega arith))) (evals-span f k (i + size t) (n .1) a b (λ d h. g d (omega arith)))
 
 -- a relabelled tree reads the outcomes through the labels
 mutual

@@ -12,19 +12,19 @@ use Rattle.strategy.specs.Trace.{due, trace}
 use Rattle.strategy.specs.DueLaws.{due-passed}
 use Rattle.strategy.specs.Turns.{trace-settled}
 use Rattle.strategy.specs.Order.{Order}
-use Rattle.strategy.specs.Tree.{Tree, eval, size, Numbered, NonEmpty, InRun}
-use Rattle.strategy.specs.TreeLaws.{eval-toward, eval-run}
+use Rattle.strategy.specs.Tree.{Tree, eval, size, Numbered, NonEmpty, InSpan}
+use Rattle.strategy.specs.TreeLaws.{eval-toward, eval-span}
 use Rattle.strategy.specs.Alone.{unseen, seen, hide, isUnseen, statusAs, unseenAs, alone}
 use Rattle.strategy.specs.AloneLaws.{hide-in, hide-off, due-alone}
 use Rattle.strategy.specs.PartialLaws.{see, see-hide, SameIn, alone-same, alone-either, either-alone, nothingSeen, first-either, first-alone}
-use Rattle.strategy.specs.Live.{Live, Step, probed, settle}
-use Rattle.strategy.specs.SettleLaws.{Holds, TreeAfter, settle-after}
-use Rattle.strategy.specs.Climb.{enclosing, climb}
-use Rattle.strategy.specs.ClimbLaws.{climb-settle}
+use Rattle.strategy.specs.Live.{Live, Step, leafStep, settle}
+use Rattle.strategy.specs.SettleLaws.{LiveAlone, TreeAfter, settle-after}
+use Rattle.strategy.specs.Propagation.{enclosing, propagate}
+use Rattle.strategy.specs.PropagationLaws.{propagate-settle}
 
 -- `live` is right for the turns of `cs` to come, and the tree can still come to either value
 pub record Walk (t : Tree ℕ) (a : Assignment) (cs : List ℕ) (live : Live) : Type 0 where
-  pub holds : Holds 0 (size t) (λ d. alone t d (hide cs a)) (hide cs a) live
+  pub holds : LiveAlone 0 (size t) (λ d. alone t d (hide cs a)) (hide cs a) live
   pub unsettled : (v : Bool) → eval t (unseenAs v (hide cs a)) ≡ v
   pub once : Once cs
   pub inside : (d : ℕ) → Among d cs → d < size t
@@ -34,7 +34,7 @@ pub walk-start : (t : Tree ℕ) → Numbered t 0 → NonEmpty t → (a : Assignm
     → (live : Live) → ((d : ℕ) → d < size t → live d ≡ true) → Walk t a order live
 walk-start t n u a order O live h = record {
   holds = λ d j. h d (omega arith) ∙ sym (rw (hide-in order a d (O .every d (omega arith)), sym (alone-same t 0 n d nothingSeen (hide order a) same)) (first-alone t 0 n u d j));
-  unsettled = λ v. sym (eval-run t 0 n (unseenAs v nothingSeen) (unseenAs v (hide order a)) (λ d j. ap (statusAs v) (same d j))) ∙ first-either t u v;
+  unsettled = λ v. sym (eval-span t 0 n (unseenAs v nothingSeen) (unseenAs v (hide order a)) (λ d j. ap (statusAs v) (same d j))) ∙ first-either t u v;
   once = O .once;
   inside = O .inside;
 }
@@ -74,7 +74,7 @@ settled-value t cs a v h q g = eval-toward t v (unseenAs (not v) (hide cs a)) q 
     go d (inr k) e = g d k ∙ (rw (hide-off cs a d k) at e)
 
 module _ (t : Tree ℕ) (n : Numbered t 0) (a : Assignment) (c : ℕ) (cs : List ℕ) (live : Live) (W : Walk t a (c ∷ cs) live) where
-  ci : InRun 0 (size t) c
+  ci : InSpan 0 (size t) c
   ci = let l = W .inside c (inl refl) in omega arith
 
   hidden : hide (c ∷ cs) a c ≡ unseen
@@ -105,7 +105,7 @@ module _ (t : Tree ℕ) (n : Numbered t 0) (a : Assignment) (c : ℕ) (cs : List
     pub walk-pass : Walk t a cs live
     walk-pass = record { holds = λ d j. at d j (among? d cs) (same? d c); unsettled = open-still; once = W .once .1; inside = rest }
       where
-        at : (d : ℕ) → InRun 0 (size t) d → Among d cs ⊎ (Among d cs → ⊥) → (d ≡ c) ⊎ (d ≡ c → ⊥) → live d ≡ (isUnseen (hide cs a d) && alone t d (hide cs a))
+        at : (d : ℕ) → InSpan 0 (size t) d → Among d cs ⊎ (Among d cs → ⊥) → (d ≡ c) ⊎ (d ≡ c → ⊥) → live d ≡ (isUnseen (hide cs a d) && alone t d (hide cs a))
         at d j (inl m) e = W .holds d j ∙ rw (hide-in (c ∷ cs) a d (inr m), hide-in cs a d m) (still d m)
         at d j (inr k) (inl e) = ap live e ∙ h ∙ sym (rw (hide-off cs a d k))
         at d j (inr k) (inr e) = W .holds d j ∙ rw (hide-off (c ∷ cs) a d (elim [ inl y ↦ e y | inr y ↦ k y ]), hide-off cs a d k)
@@ -119,25 +119,25 @@ module _ (t : Tree ℕ) (n : Numbered t 0) (a : Assignment) (c : ℕ) (cs : List
             go d y (inl e) = clash y (ap (λ z. alone t z (hide (c ∷ cs) a)) e ∙ sym live-alone ∙ h)
             go d y (inr m) = alone-either t d (hide cs a) (hide-in cs a d m) (sym (still d m) ∙ y)
 
-  -- probed, and the climb gives `s`
+  -- probed, and the propagation gives `s`
   module _ (h : live c ≡ true) where
     pub trace-probe : trace (eval t) a (c ∷ cs) ≡ (c, a c) ∷ trace (eval t) a cs
     unfolding trace
     trace-probe = rw (sym walk-due ∙ h)
 
-    module _ (s : Step) (e : climb (a c) (enclosing t 0 c) (probed c live) ≡ s) where
+    module _ (s : Step) (e : propagate (a c) (enclosing t 0 c) (leafStep c live) ≡ s) where
       after : TreeAfter t 0 (a c) (hide cs a) live s
       after =
           let r : TreeAfter t 0 (a c) (see (hide (c ∷ cs) a) c (a c)) live (settle t 0 c (a c) live)
           = settle-after t 0 n c (a c) (hide (c ∷ cs) a) live hidden (sym live-alone ∙ h) (W .holds) in
-          subst (λ x. TreeAfter t 0 (a c) (hide cs a) live x) (sym (climb-settle t 0 c ci (a c) live) ∙ e)
+          subst (λ x. TreeAfter t 0 (a c) (hide cs a) live x) (sym (propagate-settle t 0 c ci (a c) live) ∙ e)
           (subst (λ m. TreeAfter t 0 (a c) m live (settle t 0 c (a c) live)) (see-hide c cs a (W .once .0)) r)
 
-      -- the climb stopped: the row goes on with what it left
+      -- the propagation stopped: the row goes on with what it left
       pub walk-probe : s .settled ≡ false → Walk t a cs (s .live)
       walk-probe d = record { holds = after .holds; unsettled = after .unsettled d; once = W .once .1; inside = rest }
 
-      -- the climb passed the root: the outcome is the answer, and nothing more is due
+      -- the propagation passed the root: the outcome is the answer, and nothing more is due
       pub walk-last : s .settled ≡ true → (a c ≡ eval t a) × (trace (eval t) a cs ≡ [])
       walk-last d = (sym (value a (λ x k. refl)), trace-settled (eval t) a cs (a c) value)
         where

@@ -1,14 +1,14 @@
 // All rows of a request, worked into tables of the run's own.
 use input::begin::Beginning;
 use plan::table::Plan;
-use run::rows::Extent;
+use rows::all::Extent;
 ghost use mathlib.Core.Path.{_≡_};
 ghost use mathlib.Core.Bool.{true};
 ghost use Rattle.strategy.specs.Order.{isOrder};
 ghost use Rattle.query.specs.Format.{predicateLimit};
 ghost use Rattle.reader.specs.Tables.{tables};
-ghost use Rattle.run.specs.Worked.{Empty};
-ghost use Rattle.input.specs.Begun.{Begun};
+ghost use Rattle.rows.specs.Worked.{HasNoBits};
+ghost use Rattle.input.specs.Beginning.{HasInput};
 ghost use Rattle.work.specs.Worked.{RunWorked};
 
 // Fills the plan from what was read, then works the rows block after block.
@@ -20,11 +20,11 @@ pub fn work(
     offsets: &[usize],
     ancestors: &[u8],
     selected: &mut [u8],
-    probes: &mut [u8],
+    probed: &mut [u8],
 )
-    requires { ⌜ Begun (now catalogue) (now question) begun (tables (now offsets) (now ancestors)) × (isOrder (begun .n) (now order) ≡ true) ⌝ }
-    requires { ⌜ Empty 1 (now selected) × Empty predicateLimit (now probes) ⌝ }
-    ensures { λ _. ⌜ RunWorked (now (catalogue .entry)) (now (question .entry)) (now (order .entry)) (begun .n) (now (selected .exit)) (now (probes .exit)) ⌝ }
+    requires { ⌜ HasInput (now catalogue) (now question) begun (tables (now offsets) (now ancestors)) × (isOrder (begun .n) (now order) ≡ true) ⌝ }
+    requires { ⌜ HasNoBits 1 (now selected) × HasNoBits predicateLimit (now probed) ⌝ }
+    ensures { λ _. ⌜ RunWorked (now (catalogue .entry)) (now (question .entry)) (now (order .entry)) (begun .n) (now (selected .exit)) (now (probed .exit)) ⌝ }
 {
     let n = begun.n;
     let tags = begun.tags;
@@ -35,7 +35,7 @@ pub fn work(
         rows: begun.rows,
         start: sets::below(fields::number::narrow(n)),
     };
-    run::rows::work_rows(
+    rows::all::work_rows(
         catalogue,
         question,
         order,
@@ -43,6 +43,6 @@ pub fn work(
         ancestors,
         extent,
         selected,
-        probes,
+        probed,
     );
 }

@@ -33,7 +33,7 @@ const SAME: [(&str, &str); 24] = [
     ("BAD_ORDER", "Refusal::NOT_ORDER"),
     ("SHORT_TABLE", "Refusal::TABLE_TOO_SHORT"),
     ("BAD_TALLY", "Refusal::COUNTER_REFUSED"),
-    ("NO_SUCH_PLACE", "Refusal::NO_SUCH_PLACE"),
+    ("NO_SUCH_PLACE", "Refusal::NO_SUCH_ROW_OR_PREDICATE"),
 ];
 
 /// Refusal 19 is the program's, and no call of the library gives it.

@@ -1,8 +1,8 @@
--- `outcome_accepted` meets its contract: 18 where there is no such place, else the answer that the plan gives.
+-- `outcome_accepted` meets its contract: 18 where there is no such row or predicate, else the outcome that the plan gives.
 use native.Mathlib.Omega.{arith}
 use mathlib.Core.Path.{refl}
 use Rattle.records.proofs.Tabulated.{has-record}
-use Rattle.input.proofs.InHand.{begun-columns, begun-accessed}
+use Rattle.input.proofs.InHand.{input-columns, input-accessed}
 use Rattle.outcome.proofs.Outcomes.{no-such-row, no-such-predicate, has-such-row, outcome-told}
 use borrow.Author.Needs.{needs}
 use Rattle.outcome.proofs.outcome_accepted.Statement.{statement}
@@ -27,22 +27,22 @@ plan-predicate-requires : tie.Need-plan-predicate-requires
 plan-predicate-requires c κs =
     let a = c .before .before .before .before .before .before .before .before .before .before in
     let G = a .pre .1 in
-    (has-record _ _ _ (a .args .condition) (G .tabled .located) (omega arith), refl, begun-columns G (a .args .condition) (omega arith))
+    (has-record _ _ _ (a .args .condition) (G .tabled .located) (omega arith), refl, input-columns G (a .args .condition) (omega arith))
 
 fold-table-requires : tie.Need-fold-table-requires
 fold-table-requires c κs = search needs
 
-slice-aggregate-answer-of : tie.Need-slice-aggregate-answer-of
-slice-aggregate-answer-of c = search needs
+slice-aggregate-outcome-of : tie.Need-slice-aggregate-outcome-of
+slice-aggregate-outcome-of c = search needs
 
-slice-aggregate-answer-of-2 : tie.Need-slice-aggregate-answer-of-2
-slice-aggregate-answer-of-2 c = search needs
+slice-aggregate-outcome-of-2 : tie.Need-slice-aggregate-outcome-of-2
+slice-aggregate-outcome-of-2 c = search needs
 
-answer-of-requires : tie.Need-answer-of-requires
-answer-of-requires c κs =
+outcome-of-requires : tie.Need-outcome-of-requires
+outcome-of-requires c κs =
     let a = c .before .before .before .before .before .before .before .before .before .before .before .before .before .before .before in
     let G = a .pre .1 in
-    let shown = begun-accessed G _ (a .args .condition) (omega arith) (c .before .before .before .before .plan-predicate .ensures) in (
+    let shown = input-accessed G _ (a .args .condition) (omega arith) (c .before .before .before .before .plan-predicate .ensures) in (
       c .before .before .fold-table .ensures,
       omega (arith, G .tabled .few),
       c .before .before .before .plan2 .given,
@@ -56,11 +56,11 @@ returns-3 : tie.Need-returns-3
 returns-3 c =
     let a = c .before .before .before .before .before .before .before .before .before .before .before .before .before .before .before .before .before in
     let G = a .pre .1 in
-    let shown = begun-accessed G _ (a .args .condition) (omega arith) (c .before .before .before .before .before .before .plan-predicate .ensures) in
+    let shown = input-accessed G _ (a .args .condition) (omega arith) (c .before .before .before .before .before .before .plan-predicate .ensures) in
     let row = c .before .before .before .before .before .before .before .before .before .before .before .if1 .left in
     let predicate = c .before .before .before .before .before .before .before .before .before .before .if2 .left in
     let inside = has-such-row G (a .args .entry) (a .args .condition) (omega (arith, row)) in
-    outcome-told G _ _ (omega (arith, row)) (omega (arith, predicate)) _ _ (c .before .answer-of .ensures _ _ shown inside) (c .number-of .ensures)
+    outcome-told G _ _ (omega (arith, row)) (omega (arith, predicate)) _ _ (c .before .outcome-of .ensures _ _ shown inside) (c .number-of .ensures)
 
 pub outcome-accepted-spec : {M : Type 1} → statement M
 outcome-accepted-spec =
@@ -73,8 +73,8 @@ outcome-accepted-spec =
     slice-aggregate-plan-predicate-3
     plan-predicate-requires
     fold-table-requires
-    slice-aggregate-answer-of
-    slice-aggregate-answer-of-2
-    answer-of-requires
+    slice-aggregate-outcome-of
+    slice-aggregate-outcome-of-2
+    outcome-of-requires
     number-of-requires
     returns-3)

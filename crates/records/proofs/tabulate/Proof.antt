@@ -50,7 +50,7 @@ use denote.Triple.Table.{entered, cited}
 use denote.Triple.Walked.{says, needs, Stays, stay-slice, stay-none-slice, stay-none, walkOf, goes-slice, goes-none-slice, goes-none, Walks, ends-at, walked, walk-meets}
 use denote.Exit.{yes}
 use Rattle.records.specs.declared.PredicateRecord.{PredicateRecord}
-use Rattle.records.specs.Offsets.{Located}
+use Rattle.records.specs.Offsets.{HasFields}
 use Rattle.records.specs.Table.{recordAt, noRecord, HasRecord}
 use Rattle.records.proofs.Tabulated.{has-record, filled, filled-none, filled-next, length-filled}
 use Rattle.records.proofs.PredicateRecord as T
@@ -187,7 +187,7 @@ module _ {M : Type 1} (𝓤 : URA M) (H : Heap 𝓤) (A : Atoms 𝓤) (W : Given
   Nearer-wf = InvImage·wf (λ (c : Upto). n - c .0) (Nat·lt-wfRel .wf)
 
   module _ (𝓣 : Tables 𝓤 H) (known : Triple 𝓤 (𝓣 .C #records·record-at) (RecordAt 𝓤 H A mem′ run))
-      (small : n < 2 ^ 64) (room : Room R (length xs)) (located : Located (now q) (now offsets) n) (within : n ≤ length xs) (l₀ l₁ l₂ l₃ l₄ l₅ l₆ l₇ l₈ l₉ : ℕ) where
+      (small : n < 2 ^ 64) (room : Room R (length xs)) (located : HasFields (now q) (now offsets) n) (within : n ≤ length xs) (l₀ l₁ l₂ l₃ l₄ l₅ l₆ l₇ l₈ l₉ : ℕ) where
     abbrev C : Calls 𝓤 H
     C = 𝓣 .C
 
@@ -290,7 +290,7 @@ module _ {M : Type 1} (𝓤 : URA M) (H : Heap 𝓤) (A : Atoms 𝓤) (W : Given
 
   -- the MIR up to the loop
   walk : (𝓣 : Tables 𝓤 H) → Triple 𝓤 (𝓣 .C #records·record-at) (RecordAt 𝓤 H A mem′ run) → length (now q) < 2 ^ 64 → length (now offsets) < 2 ^ 64 → n < 2 ^ 64 → Room R (length xs)
-      → Located (now q) (now offsets) n × (n ≤ length xs)
+      → HasFields (now q) (now offsets) n × (n ≤ length xs)
       → ent 𝓤 (onEntry 𝓤 H A tabulate.signature (κ, (κ′, (κ″, tt))) (p, (p′, (p″, tt))) a vals) (WpFn 𝓤 H (𝓣 .C) (𝓣 .Λ) code.function (q-mach ∷ offsets-mach ∷ vint w64 n ∷ table-mach ∷ []) Post)
   walk 𝓣 known q-fits offsets-fits small room asked =
       qed W ((‵ (flft κ p) ⊛ ‵ (flft κ′ p′) ⊛ ‵ (flft κ″ p″) ⊛ ‵ ftrue) ∷ ‵ (owns (ShrSlice (named 0) κ u8 ∷ ShrSlice (named 1) κ′ usize ∷ usize ∷ MutSlice (named 2) κ″ R ∷ []) a vals) ∷ []) ∵
@@ -314,7 +314,7 @@ module _ {M : Type 1} (𝓤 : URA M) (H : Heap 𝓤) (A : Atoms 𝓤) (W : Given
   tabulate-walks = walked 𝓤 H A tabulate.ended stayed (tabulate.clauses 𝓤 H A mem′ run) (WpFn 𝓤 H (𝓣 .C) (𝓣 .Λ) code.function)
       (λ κs. (slice-vals, (slice-vals, (uint-vals w64, (slice-vals, tt)))))
       (λ κs. (shr-slice-tells (named 0) (κs .0) u8, (shr-slice-tells (named 1) (κs .1 .0) usize, (uint-tells w64, (mut-slice-tells (named 2) (κs .1 .1 .0) R, tt)))))
-      (λ κs qs bounds a g are. needs 𝓤 (Located (now (a .0)) (now (a .1 .0)) (a .1 .1 .0) × (a .1 .1 .0 ≤ length (a .1 .1 .1 .0 .now))) _
+      (λ κs qs bounds a g are. needs 𝓤 (HasFields (now (a .0)) (now (a .1 .0)) (a .1 .1 .0) × (a .1 .1 .0 ≤ length (a .1 .1 .1 .0 .now))) _
       (walk 𝓤 H A W mem′ run (κs .0) (κs .1 .0) (κs .1 .1 .0) (qs .0) (qs .1 .0) (qs .1 .1 .0) (a .0) (a .1 .0) (a .1 .1 .0) (a .1 .1 .1 .0 .ptr .0) (a .1 .1 .1 .0 .ptr .1) (a .1 .1 .1 .0 .name) (a .1 .1 .1 .0 .now) 𝓣 known
       (are .0 .0 .1 .0) (are .1 .0 .0 .1 .0) (are .1 .1 .0 .1) (are .1 .1 .1 .0 .0 .1)))
 

@@ -1,6 +1,6 @@
 -- `is_marked` meets its contract: a bit of a byte is its quotient by the weight, odd or even.
 use borrow.Author.Needs.{needs}
-use Rattle.sets.specs.Set.{member}
+use Rattle.sets.specs.Set.{has}
 use Rattle.bitmaps.specs.Bit.{bit}
 use Rattle.bitmaps.proofs.bit.is_marked.Statement.{statement}
 use Rattle.bitmaps.proofs.bit.is_marked.Tie as tie
@@ -15,7 +15,7 @@ shr-result : tie.Need-shr-result
 shr-result c = search needs
 
 returns : tie.Need-returns
-unfolding bit member
+unfolding bit has
 returns c = search needs
 
 pub is-marked-spec : {M : Type 1} → statement M

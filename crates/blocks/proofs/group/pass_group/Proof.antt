@@ -23,7 +23,7 @@ returns c =
     let a = b .before .before .before .before .args in
     let s = b .before .before .settled-rows in
     let t = b .take-out in
-    group-passed (record { absorbing = a .absorbing; first = a .a; count = a .e - a .a }) (a .active) (a .met) (s .result) (t .result) (c .minus .result) (a .live .now) (t .last .0)
+    group-passed (record { settling = a .settling; first = a .a; count = a .e - a .a }) (a .active) (a .met) (s .result) (t .result) (c .minus .result) (a .live .now) (t .last .0)
     (s .ensures) (t .ensures) (c .minus .ensures)
 
 pub pass-group-spec : {M : Type 1} → statement M

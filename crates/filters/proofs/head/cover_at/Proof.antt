@@ -26,8 +26,8 @@ shared-slice-read-fold-byte c = search needs
 fold-byte-requires : tie.Need-fold-byte-requires
 fold-byte-requires c κs = search needs
 
-look-of-requires : tie.Need-look-of-requires
-look-of-requires c κs = search needs
+byte-test-of-requires : tie.Need-byte-test-of-requires
+byte-test-of-requires c κs = search needs
 
 cover-of-requires : tie.Need-cover-of-requires
 cover-of-requires c κs = search needs
@@ -35,7 +35,7 @@ cover-of-requires c κs = search needs
 returns-4 : tie.Need-returns-4
 returns-4 c =
     let k = c .cover-of .ensures in
-    cover-byte _ _ (omega arith) (omega arith) (c .before .before .fold-byte .ensures) (c .before .look-of .ensures) (k .0) (k .1) (k .2)
+    cover-byte _ _ (omega arith) (omega arith) (c .before .before .fold-byte .ensures) (c .before .byte-test-of .ensures) (k .0) (k .1) (k .2)
 
 pub cover-at-spec : {M : Type 1} → statement M
 cover-at-spec =
@@ -48,6 +48,6 @@ cover-at-spec =
     sub-fold-byte
     shared-slice-read-fold-byte
     fold-byte-requires
-    look-of-requires
+    byte-test-of-requires
     cover-of-requires
     returns-4)

@@ -1,7 +1,7 @@
 -- `pair_at` meets its contract: two flags.
 use lib.ListN.{getD}
-use Rattle.filters.specs.Look.{looks}
-use Rattle.filters.proofs.Looks.{both-flags}
+use Rattle.filters.specs.ByteTest.{testPasses}
+use Rattle.filters.proofs.ByteTests.{both-flags}
 use borrow.Author.Needs.{needs}
 use Rattle.filters.proofs.pair.pair_at.Statement.{statement}
 use Rattle.filters.proofs.pair.pair_at.Tie as tie
@@ -19,7 +19,7 @@ passes-requires-2 : tie.Need-passes-requires-2
 passes-requires-2 c κs = search needs
 
 returns : tie.Need-returns
-returns c = let a = c .before .before .before .before .before .args in both-flags (looks (a .k .first) (getD (a .b .now) (a .p) 0)) (looks (a .k .second) (getD (a .b .now) (a .q) 0)) (c .before .before .passes .ensures) (c .passes2 .ensures)
+returns c = let a = c .before .before .before .before .before .args in both-flags (testPasses (a .k .first) (getD (a .b .now) (a .p) 0)) (testPasses (a .k .second) (getD (a .b .now) (a .q) 0)) (c .before .before .passes .ensures) (c .passes2 .ensures)
 
 pub pair-at-spec : {M : Type 1} → statement M
 pair-at-spec =

@@ -19,11 +19,11 @@ shared-slice-read-fold-byte-2 c = search needs
 fold-byte-requires-2 : tie.Need-fold-byte-requires-2
 fold-byte-requires-2 c κs = search needs
 
-look-of-requires : tie.Need-look-of-requires
-look-of-requires c κs = search needs
+byte-test-of-requires : tie.Need-byte-test-of-requires
+byte-test-of-requires c κs = search needs
 
-look-of-requires-2 : tie.Need-look-of-requires-2
-look-of-requires-2 c κs = search needs
+byte-test-of-requires-2 : tie.Need-byte-test-of-requires-2
+byte-test-of-requires-2 c κs = search needs
 
 returns : tie.Need-returns
 returns c =
@@ -32,8 +32,8 @@ returns c =
       gap-is = g .0;
       inside = g .1;
       near = g .2;
-      first-may = λ x s e. c .before .look-of .ensures x s (e ∙ sym (c .before .before .before .before .fold-byte .ensures));
-      second-may = λ x s e. c .look-of2 .ensures x s (e ∙ sym (c .before .before .fold-byte2 .ensures));
+      first-may = λ x s e. c .before .byte-test-of .ensures x s (e ∙ sym (c .before .before .before .before .fold-byte .ensures));
+      second-may = λ x s e. c .byte-test-of2 .ensures x s (e ∙ sym (c .before .before .fold-byte2 .ensures));
     }
 
 pub pair-of-spec : {M : Type 1} → statement M
@@ -45,6 +45,6 @@ pair-of-spec =
     fold-byte-requires
     shared-slice-read-fold-byte-2
     fold-byte-requires-2
-    look-of-requires
-    look-of-requires-2
+    byte-test-of-requires
+    byte-test-of-requires-2
     returns)

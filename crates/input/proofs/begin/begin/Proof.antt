@@ -2,7 +2,7 @@
 use native.Mathlib.Omega.{arith}
 use mathlib.Core.Path.{refl}
 use Rattle.catalogue.specs.Decode.{decodeCatalogue}
-use Rattle.input.proofs.Inputs.{laid-columns-few, laid-tags-length, layout-refuses, question-refuses, input-begun}
+use Rattle.input.proofs.Inputs.{laid-columns-few, laid-tags-length, layout-refuses, question-refuses, input-accepted}
 use borrow.Author.Needs.{needs}
 use Rattle.input.proofs.begin.begin.Statement.{statement}
 use Rattle.input.proofs.begin.begin.Tie as tie
@@ -53,7 +53,7 @@ returns-3 c =
     let l = a .before .before .before .before .before .before .before .lay-out in
     record {
       refuses = λ ne. absurd (ne refl);
-      accepts = λ z. input-begun _ _ (l .result) _ refl _ _ (l .ensures) (a .before .before .before .before .if1 .left) (a .read-query .ensures) _ (c .before .n .given .1);
+      accepts = λ z. input-accepted _ _ (l .result) _ refl _ _ (l .ensures) (a .before .before .before .before .if1 .left) (a .read-query .ensures) _ (c .before .n .given .1);
     }
 
 pub begin-spec : {M : Type 1} → statement M

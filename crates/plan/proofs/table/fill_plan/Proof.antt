@@ -48,7 +48,7 @@ use denote.Triple.Walked.{says, needs, Stays, stay-dropped, gave-slice, walkOf, 
 use denote.Exit.{yes}
 use Rattle.records.specs.declared.PredicateRecord.{PredicateRecord}
 use Rattle.query.specs.Format.{predicateLimit}
-use Rattle.records.specs.Offsets.{Located}
+use Rattle.records.specs.Offsets.{HasFields}
 use Rattle.records.specs.Table.{noRecord, recordAt, recordIn, recordsOf}
 use Rattle.records.proofs.PredicateRecord as T
 use Rattle.records.proofs.PredicateRecord.Laws as T′
@@ -110,7 +110,7 @@ module _ {M : Type 1} (𝓤 : URA M) (H : Heap 𝓤) (A : Atoms 𝓤) (mem′ : 
 module _ {M : Type 1} (𝓤 : URA M) (H : Heap 𝓤) (A : Atoms 𝓤) (W : Given 𝓤 H A) (mem′ : Memory → SProp 𝓤) (run : Routine → Fun 𝓤) (κ₀ κ₁ κ₂ κ₃ κ₄ : Lft) (q₀ q₁ q₂ q₃ q₄ : Share) (tags starts q offsets : RefT (List ℕ)) (n : ℕ) (plan : RefT (List ℕ)) where
   -- ---- what the three contracts say: the `requires` of `fill_plan`, the `ensures` of `tabulate` and of `plan_records` at the table ts, and the `ensures` of `fill_plan`
   abbrev Asked : Type 0
-  Asked = Located (q .now) (offsets .now) n × (length (plan .now) ≡ planSize) × HaveColumns (tags .now) (starts .now) (recordAt (q .now) (offsets .now)) n
+  Asked = HasFields (q .now) (offsets .now) n × (length (plan .now) ≡ planSize) × HaveColumns (tags .now) (starts .now) (recordAt (q .now) (offsets .now)) n
 
   abbrev Tabulated : List PredicateRecord → Type 0
   Tabulated ts = ts ≡ recordsOf (q .now) (offsets .now) n ++ dropN n blank
@@ -122,7 +122,7 @@ module _ {M : Type 1} (𝓤 : URA M) (H : Heap 𝓤) (A : Atoms 𝓤) (W : Given
   Answered ps = Planned (tags .now) (starts .now) (recordAt (q .now) (offsets .now)) ps n
 
   -- and how each follows from those before it: the `requires` of `tabulate`, of `plan_records`, and the `ensures` of `fill_plan` (`Recorded.antt`)
-  can-tabulate : Asked → Located (q .now) (offsets .now) n × (n ≤ length blank)
+  can-tabulate : Asked → HasFields (q .now) (offsets .now) n × (n ≤ length blank)
   can-tabulate f = (f .0, subst (λ (m : ℕ). n ≤ m) (sym blank-size) (f .0 .few))
 
   can-plan : (ts : List PredicateRecord) → Asked → Tabulated ts → length ts ≡ predicateLimit

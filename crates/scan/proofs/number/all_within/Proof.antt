@@ -7,18 +7,18 @@ use Rattle.strategy.specs.Bools.{ltb-lt}
 use Rattle.catalogue.specs.Format.{numberTag}
 use Rattle.catalogue.proofs.Rows.{has-number}
 use Rattle.sets.specs.Set.{belowSet}
-use Rattle.sets.specs.SetLaws.{member-below, below-has}
+use Rattle.sets.specs.SetLaws.{has-below, below-has}
 use Rattle.sets.specs.Gathered.{Octets, gathered-same, octets-none, octets-small, octets-next, octets-end}
-use Rattle.filters.specs.Block.{DueRows}
+use Rattle.filters.specs.Block.{HasDueRows}
 use Rattle.scan.specs.Met.{within}
 use Rattle.scan.proofs.Shown.{numberOf}
 use Rattle.scan.proofs.number.all_within.Statement.{statement}
 use Rattle.scan.proofs.number.all_within.Tie as tie
 
 -- the eight rows from 8 k on
-eight-rows : (b : List ℕ) (start base k : ℕ) → k < 8 → DueRows b numberTag start base (belowSet 64) → DueRows b numberTag start (base + 8 * k) (belowSet 8)
+eight-rows : (b : List ℕ) (start base k : ℕ) → k < 8 → HasDueRows b numberTag start base (belowSet 64) → HasDueRows b numberTag start (base + 8 * k) (belowSet 8)
 eight-rows b start base k l D d m =
-    let h : d < 8 = ltb-lt d 8 (sym (member-below 8 d) ∙ m) in
+    let h : d < 8 = ltb-lt d 8 (sym (has-below 8 d) ∙ m) in
     let e : base + (8 * k + d) ≡ base + 8 * k + d = omega arith in
     rw e at (D (8 * k + d) (below-has 64 (8 * k + d) (omega arith)))
 

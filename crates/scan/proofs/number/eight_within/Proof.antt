@@ -10,17 +10,17 @@ use Rattle.catalogue.proofs.Rows.{has-number}
 use Rattle.sets.specs.Set.{belowSet}
 use Rattle.sets.specs.SetLaws.{below-has}
 use Rattle.sets.specs.Gathered.{bitOf, gathered-lt, gathered-eight}
-use Rattle.filters.specs.Block.{DueRows}
+use Rattle.filters.specs.Block.{HasDueRows}
 use Rattle.scan.specs.Met.{within}
 use Rattle.scan.proofs.Shown.{numberOf}
 use borrow.Author.Needs.{needs}
 use Rattle.scan.proofs.number.eight_within.Statement.{statement}
 use Rattle.scan.proofs.number.eight_within.Tie as tie
 
-has : (b : List ℕ) (start row : ℕ) → DueRows b numberTag start row (belowSet 8) → (k : ℕ) → k < 8 → HasRow b numberTag start (row + k)
+has : (b : List ℕ) (start row : ℕ) → HasDueRows b numberTag start row (belowSet 8) → (k : ℕ) → k < 8 → HasRow b numberTag start (row + k)
 has b start row D k l = D k (below-has 8 k l)
 
-has-first : (b : List ℕ) (start row : ℕ) → DueRows b numberTag start row (belowSet 8) → HasRow b numberTag start row
+has-first : (b : List ℕ) (start row : ℕ) → HasDueRows b numberTag start row (belowSet 8) → HasRow b numberTag start row
 has-first b start row D = rw (add-zero row) at (has b start row D 0 (omega arith))
 
 bit-within-requires : tie.Need-bit-within-requires

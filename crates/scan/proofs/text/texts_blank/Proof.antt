@@ -11,14 +11,14 @@ use Rattle.predicate.specs.Meaning.{textBlank}
 use Rattle.sets.specs.Kept.{KeptBy}
 use Rattle.sets.specs.KeptLaws.{kept-same}
 use Rattle.filters.specs.declared.head.Head.{Head}
-use Rattle.filters.specs.Block.{DueRows, slotOf, textOf}
+use Rattle.filters.specs.Block.{HasDueRows, slotOf, textOf}
 use Rattle.filters.specs.Head.{headPasses, BlankHead}
 use Rattle.filters.proofs.Found.{text-size}
 use borrow.Author.Needs.{needs}
 use Rattle.scan.proofs.text.texts_blank.Statement.{statement}
 use Rattle.scan.proofs.text.texts_blank.Tie as tie
 
-blanks-kept : (b : List ℕ) → Bytes b → (start base due r : ℕ) (k : Head) → DueRows b textTag start base due → BlankHead k → KeptBy (λ d. headPasses b (slotOf start (base + d)) k) due r
+blanks-kept : (b : List ℕ) → Bytes b → (start base due r : ℕ) (k : Head) → HasDueRows b textTag start base due → BlankHead k → KeptBy (λ d. headPasses b (slotOf start (base + d)) k) due r
     → KeptBy (λ d. textBlank (textOf b start (base + d))) due r
 blanks-kept b bytes start base due r k D K =
     kept-same (λ d. headPasses b (slotOf start (base + d)) k) (λ d. textBlank (textOf b start (base + d))) due r

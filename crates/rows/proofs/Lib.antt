@@ -1,0 +1,5 @@
+pub mod Fills
+pub mod Blocks
+pub mod BlockLoop
+pub mod RowsLoop
+pub mod Prepared

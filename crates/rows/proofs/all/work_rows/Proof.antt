@@ -1,0 +1,86 @@
+-- `work_rows` meets its contract. Invariant: of the rows before base the tables hold what they are to hold, and nothing of the others.
+use Prim.Native.Nat.{_-_}
+use native.Mathlib.Omega.{arith}
+use mathlib.Core.Path.{sym, _∙_}
+use borrow.Author.Needs.{needs}
+use Rattle.rows.specs.Ready.{slices}
+use Rattle.rows.proofs.RowsLoop.{Blocking, blocking-start, blocking-next, blocking-end, block-ready, block-no-marks, block-room}
+use Rattle.rows.proofs.all.work_rows.Statement.{statement}
+use Rattle.rows.proofs.all.work_rows.Tie as tie
+
+abbrev Inv-loop : tie.InvT-loop
+Inv-loop catalogue question turns plan ancestors selected₀ probed₀ fold rows start base₀ selected probed base =
+    Blocking (slices catalogue question turns plan ancestors) (record { rows = rows; start = start }) base selected probed
+
+abbrev μ-loop : tie.MeasureT-loop
+μ-loop catalogue question turns plan ancestors selected₀ probed₀ fold rows start base₀ selected probed base = rows - base
+
+fold-table-requires : tie.Need-fold-table-requires Inv-loop μ-loop
+fold-table-requires c κs = search needs
+
+loop-holds : tie.Need-loop-holds Inv-loop μ-loop
+loop-holds c = let p = c .before .before .before .before .before .before .before .before .pre .1 in blocking-start (p .0) (p .1)
+
+sub-rows-of : tie.Need-sub-rows-of Inv-loop μ-loop
+sub-rows-of c = search needs
+
+rows-of-requires : tie.Need-rows-of-requires Inv-loop μ-loop
+rows-of-requires c κs = search needs
+
+slice-aggregate-work-block : tie.Need-slice-aggregate-work-block Inv-loop μ-loop
+slice-aggregate-work-block c = search needs
+
+work-block-requires : tie.Need-work-block-requires Inv-loop μ-loop
+work-block-requires c κs =
+    let l = c .before .before .before .before .loop .inv in
+    let p = c .before .before .before .before .before .before .before .before .before .before .before .before .before .pre .0 in
+    let e = c .before .before .rows-of .ensures in
+    (c .before .before .before .before .before .fold-table .ensures, rw e (block-ready l (omega arith) p), rw e (block-no-marks l (omega arith) p))
+
+put-word-requires : tie.Need-put-word-requires Inv-loop μ-loop
+put-word-requires c κs = block-room (c .before .before .before .before .before .before .before .before .loop .inv) (omega arith) (c .before .before .before .before .before .before .before .before .before .before .before .before .before .before .before .before .before .pre .0)
+
+add-base : tie.Need-add-base Inv-loop μ-loop
+add-base c =
+    let p = c .before .before .before .before .before .before .before .before .before .before .before .before .before .before .before .before .before .before .before .before .pre .0 in
+    let s = p .2 .short in
+    let r = p .3 .rows in
+    search needs
+
+loop-less : tie.Need-loop-less Inv-loop μ-loop
+loop-less c = search needs
+
+loop-again : tie.Need-loop-again Inv-loop μ-loop
+loop-again c =
+    let w = c .before .before .before .before .before .before .work-block in
+    let e = c .before .before .before .before .before .before .before .before .before .rows-of .ensures in
+    blocking-next (c .before .before .before .before .before .before .before .before .before .before .before .loop .inv) (omega arith) (w .result) (c .before .before .put-word .last .0) (w .last .1 .1 .1 .1 .1 .1 .1 .0) (w .kept .1 .1 .1 .1 .1 .1 .1 .0) (rw e at (w .ensures)) (c .before .before .put-word .ensures)
+
+same-length : tie.Need-same-length Inv-loop μ-loop
+same-length c = c .before .loop .inv .selected-size ∙ sym (search needs)
+
+same-length-2 : tie.Need-same-length-2 Inv-loop μ-loop
+same-length-2 c = c .before .loop .inv .probed-size ∙ sym (c .before .before .before .before .before .before .before .before .before .before .pre .1 .1 .size)
+
+returns : tie.Need-returns Inv-loop μ-loop
+returns c = blocking-end (omega arith) (c .before .loop .inv)
+
+pub work-rows-spec : {M : Type 1} → statement M
+work-rows-spec =
+    tie.close
+    (tie.spec
+    Inv-loop
+    μ-loop
+    fold-table-requires
+    loop-holds
+    sub-rows-of
+    rows-of-requires
+    slice-aggregate-work-block
+    work-block-requires
+    put-word-requires
+    add-base
+    loop-less
+    loop-again
+    same-length
+    same-length-2
+    returns)

@@ -1,0 +1,54 @@
+// All rows of a run, into tables of its own.
+use crate::block::Block;
+use bitmaps::word::Word;
+ghost use Rattle.query.specs.Format.{predicateLimit};
+ghost use Rattle.rows.specs.Ready.{slices};
+ghost use Rattle.rows.specs.Worked.{HasNoBits, RowsReady, RowsWorked};
+
+// How many rows there are, and the predicates that are live at first.
+pub struct Extent {
+    pub rows: usize,
+    pub start: u64,
+}
+
+// Marks the rows that are selected, and of each predicate the rows at which it is probed, each in its line.
+pub fn work_rows(
+    catalogue: &[u8],
+    question: &[u8],
+    turns: &[u8],
+    plan: &[usize],
+    ancestors: &[u8],
+    extent: Extent,
+    selected: &mut [u8],
+    probed: &mut [u8],
+)
+    requires { ⌜ RowsReady (slices (now catalogue) (now question) (now turns) (now plan) (now ancestors)) extent ⌝ }
+    requires { ⌜ HasNoBits 1 (now selected) × HasNoBits predicateLimit (now probed) ⌝ }
+    ensures { λ _. ⌜ RowsWorked (slices (now (catalogue .entry)) (now (question .entry)) (now (turns .entry)) (now (plan .entry)) (now (ancestors .entry))) extent (now (selected .exit)) (now (probed .exit)) ⌝ }
+{
+    let fold = predicate::fold::fold_table();
+    let rows = extent.rows;
+    let start = extent.start;
+    let mut base: usize = 0;
+    while base < rows {
+        // The last block has fewer rows.
+        let part = bitmaps::word::rows_of(rows - base);
+        let block = Block {
+            base,
+            rows: part,
+            start,
+        };
+        let found = crate::block::work_block(
+            &fold,
+            catalogue,
+            question,
+            turns,
+            plan,
+            ancestors,
+            block,
+            probed,
+        );
+        bitmaps::word::put_word(selected, base / 8, found);
+        base += Word::ROWS;
+    }
+}

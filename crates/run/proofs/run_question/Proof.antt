@@ -1,0 +1,112 @@
+-- `run_question` meets its contract: the first check that fails, or the run of what was read.
+use native.Mathlib.Omega.{arith}
+use mathlib.Core.Path.{_∙_}
+use lib.ListN.{length}
+use Rattle.bitmaps.specs.TableLaws.{holds-none}
+use Rattle.input.proofs.InHand.{input-short}
+use Rattle.request.proofs.Request.{request-order, request-room}
+use Rattle.run.proofs.Running.{run-refused, run-declined, run-finished}
+use borrow.Author.Needs.{needs}
+use Rattle.run.proofs.run_question.Statement.{statement}
+use Rattle.run.proofs.run_question.Tie as tie
+
+slice-aggregate-begin : tie.Need-slice-aggregate-begin
+slice-aggregate-begin c = search needs
+
+slice-aggregate-begin-2 : tie.Need-slice-aggregate-begin-2
+slice-aggregate-begin-2 c = search needs
+
+begin-requires : tie.Need-begin-requires
+begin-requires c κs = search needs
+
+returns : tie.Need-returns
+returns c = run-refused _ _ (c .before .before .before .begin .ensures .refuses (c .if1 .taken))
+
+bytes-for-requires : tie.Need-bytes-for-requires
+bytes-for-requires c κs = let G = c .before .before .before .begin .ensures .accepts (c .if1 .left) in omega (arith, input-short G)
+
+check-request-requires : tie.Need-check-request-requires
+check-request-requires c κs =
+    let G = c .before .before .before .before .begin .ensures .accepts (c .before .if1 .left) in
+    (G .tabled .few, omega (arith, input-short G, c .bytes-for .ensures))
+
+returns-2 : tie.Need-returns-2
+returns-2 c =
+    let G = c .before .before .before .before .before .before .begin .ensures .accepts (c .before .before .before .if1 .left) in
+    (run-declined G _ _ _ _ _ (c .before .before .bytes-for .ensures) _ (c .before .check-request .ensures) (c .if2 .taken), omega arith)
+
+slice-aggregate-work : tie.Need-slice-aggregate-work
+slice-aggregate-work c = search needs
+
+slice-aggregate-work-2 : tie.Need-slice-aggregate-work-2
+slice-aggregate-work-2 c = search needs
+
+slice-aggregate-work-3 : tie.Need-slice-aggregate-work-3
+slice-aggregate-work-3 c = search needs
+
+slice-aggregate-work-4 : tie.Need-slice-aggregate-work-4
+slice-aggregate-work-4 c = search needs
+
+work-requires : tie.Need-work-requires
+work-requires c κs =
+    let a = c .before .before .before .before in
+    let x = a .before .before .before .before .before .before .before .before .before .before .before .before .before .before .before .args in
+    let G = a .before .before .before .before .before .before .begin .ensures .accepts (a .before .before .before .if1 .left) in
+    let order = request-order _ (a .before .before .bytes-for .result) (x .order .now) (length (x .listed .now)) (length (x .looks .now)) _ (a .before .check-request .ensures) (a .if2 .left) in
+    ((G, order), (holds-none 1, holds-none 64))
+
+slice-aggregate-finish : tie.Need-slice-aggregate-finish
+slice-aggregate-finish c = search needs
+
+slice-aggregate-finish-2 : tie.Need-slice-aggregate-finish-2
+slice-aggregate-finish-2 c = search needs
+
+finish-requires : tie.Need-finish-requires
+finish-requires c κs =
+    let a = c .before .before .before .before .before .before .before .before .before .before .before .before in
+    let x = a .before .before .before .before .before .before .before .before .before .before .before .before .before .before .before .args in
+    let G = a .before .before .before .before .before .before .begin .ensures .accepts (a .before .before .before .if1 .left) in
+    let W = c .before .before .before .before .before .before .before .work .ensures (G .input) (G .decoded) in (
+      (W .selected-size, W .probed-size, G .tabled .few, omega (arith, input-short G, a .before .before .bytes-for .ensures)),
+      request-room _ _ (x .order .now) _ _ _ (a .before .check-request .ensures) (a .if2 .left),
+    )
+
+same-length : tie.Need-same-length
+same-length c = search needs
+
+same-length-2 : tie.Need-same-length-2
+same-length-2 c = search needs
+
+same-length-3 : tie.Need-same-length-3
+same-length-3 c = search needs
+
+returns-3 : tie.Need-returns-3
+returns-3 c =
+    let a = c .before .before .before .before .before .before .before .before .before .before .before .before .before .before .before .before .before .before .before in
+    let G = a .before .before .before .before .before .before .begin .ensures .accepts (a .before .before .before .if1 .left) in
+    let end = c .before .before .before .before .before .before .finish .ensures in
+    (end .0 ∙ run-finished G _ _ _ _ _ (a .before .before .bytes-for .ensures) _ (a .before .check-request .ensures) (a .if2 .left) _ _ (c .before .before .before .before .before .before .before .before .before .before .before .before .before .before .work .ensures), end .1)
+
+pub run-question-spec : {M : Type 1} → statement M
+run-question-spec =
+    tie.close
+    (tie.spec
+    slice-aggregate-begin
+    slice-aggregate-begin-2
+    begin-requires
+    returns
+    bytes-for-requires
+    check-request-requires
+    returns-2
+    slice-aggregate-work
+    slice-aggregate-work-2
+    slice-aggregate-work-3
+    slice-aggregate-work-4
+    work-requires
+    slice-aggregate-finish
+    slice-aggregate-finish-2
+    finish-requires
+    same-length
+    same-length-2
+    same-length-3
+    returns-3)
