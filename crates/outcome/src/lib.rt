@@ -50,7 +50,7 @@ fn outcome_accepted(
         &mut plan,
     );
     let fold = predicate::fold::fold_table();
-    let outcome = plan::outcome::outcome_of(
+    let outcome = access::outcome_of(
         &fold,
         catalogue,
         question,

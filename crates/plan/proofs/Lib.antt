@@ -1,5 +1,4 @@
 pub mod Plans
-pub mod Outcomes
 pub mod Again
 pub mod RecordArray
 pub mod Recorded

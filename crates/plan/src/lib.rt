@@ -1,3 +1,2 @@
-// The plan of a run: of each predicate where its outcome comes from, and what that gives.
-pub mod outcome;
+// The plan of a run: of each predicate where its outcome comes from.
 pub mod table;

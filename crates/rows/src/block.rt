@@ -56,7 +56,7 @@ pub fn work_block(
         if due == 0 {
             continue;
         }
-        let met = plan::outcome::met_of(fold, catalogue, question, plan, c, base, due);
+        let met = access::met_of(fold, catalogue, question, plan, c, base, due);
         bitmaps::word::put_word(probed, c * Line::SIZE + base / 8, due);
         live[c] = 0;
         let passed = blocks::propagation::propagate_rows(ancestors, c, &mut live, due, met);

@@ -1,13 +1,13 @@
 // What a planned predicate gives: its outcome at a row, and the due rows of a block at which it is met.
-use crate::table::Plan;
+use plan::table::Plan;
 use predicate::outcome::Outcome;
 ghost use mathlib.Core.Path.{_≡_};
 ghost use Prim.Native.Nat.{_<_};
 ghost use lib.ListN.{length};
 ghost use Rattle.predicate.specs.Outcome.{Folds};
 ghost use Rattle.query.specs.Format.{predicateLimit};
 ghost use Rattle.plan.specs.Plan.{planSize, accessAt};
 ghost use Rattle.plan.specs.Access.{HasOutcome, AccessGives, HasOutcomes, MetIs};
 
 // The outcome of predicate c at a row.
 pub fn outcome_of(

@@ -1,8 +1,8 @@
 -- `met_of` meets its contract: what it hands on is what the access of the predicate shows.
 use borrow.Author.Needs.{needs}
-use Rattle.plan.proofs.Outcomes.{kind-small, operand-in, has-rows, met-is}
-use Rattle.plan.proofs.outcome.met_of.Statement.{statement}
-use Rattle.plan.proofs.outcome.met_of.Tie as tie
+use Rattle.access.proofs.Outcomes.{kind-small, operand-in, has-rows, met-is}
+use Rattle.access.proofs.met_of.Statement.{statement}
+use Rattle.access.proofs.met_of.Tie as tie
 
 mul-i : tie.Need-mul-i
 mul-i c = search needs

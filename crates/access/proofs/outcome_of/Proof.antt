@@ -1,9 +1,9 @@
 -- `outcome_of` meets its contract: what it hands on is what the access of the predicate shows.
 use native.Mathlib.Omega.{arith}
-use Rattle.plan.proofs.Outcomes.{tag-byte, kind-byte, operand-inside, has-row, has-range, access-gives}
+use Rattle.access.proofs.Outcomes.{tag-byte, kind-byte, operand-inside, has-row, has-range, access-gives}
 use borrow.Author.Needs.{needs}
-use Rattle.plan.proofs.outcome.outcome_of.Statement.{statement}
-use Rattle.plan.proofs.outcome.outcome_of.Tie as tie
+use Rattle.access.proofs.outcome_of.Statement.{statement}
+use Rattle.access.proofs.outcome_of.Tie as tie
 
 mul-i : tie.Need-mul-i
 mul-i c = search needs
