@@ -17,14 +17,14 @@ use Rattle.predicate.specs.Meaning.{fold}
 use Rattle.filters.specs.declared.byte_test.ByteTest.{ByteTest}
 use Rattle.filters.specs.declared.byte_test.Cover.{Cover}
 use Rattle.filters.specs.declared.head.Head.{Head}
-use Rattle.filters.specs.ByteTest.{coverOf, covers, MayFold}
+use Rattle.filters.specs.ByteTest.{anyByte, coverOf, covers, MayFold}
 use Rattle.filters.specs.Head.{headSize, Starts, CoverAt, HeadFor, BlankHead}
 use Rattle.filters.proofs.ByteTests.{any-covered}
 
 -- what byte j may be
 
 module _ (kind : ℕ) (o : List ℕ) where
-  pub cover-any : (j : ℕ) → CoverAt kind o j (record { mask = 255; value = 255 })
+  pub cover-any : (j : ℕ) → CoverAt kind o j anyByte
   cover-any j = record { mask-small = omega arith; value-small = omega arith; passes = λ b p S. any-covered (getD b (p + j) 0) (S .bytes (p + j)) }
 
   pub cover-size : {j size : ℕ} → j ≡ 0 → kind ≡ equalsKind → size ≡ length o → length o ≤ textLimit → CoverAt kind o j (record { mask = 0; value = size })

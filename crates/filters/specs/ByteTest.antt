@@ -16,6 +16,10 @@ testPasses k x = eqb (bitOr x (k .mask)) (k .value) || eqb (bitOr x (k .mask2)) 
 abbrev pub covers : Cover → (x : ℕ) → Bool
 covers k x = eqb (bitOr x (k .mask)) (k .value)
 
+-- every byte passes
+abbrev pub anyByte : Cover
+anyByte = record { mask = 255; value = 255 }
+
 -- what is open in either pair or told apart by them is open
 abbrev pub coverOf : ByteTest → Cover
 coverOf k = record { mask = openBits; value = bitOr (k .value) openBits }

@@ -2,7 +2,7 @@
 ghost use mathlib.Core.Path.{_≡_};
 ghost use mathlib.Core.Bool.{cond};
 ghost use Prim.Native.Nat.{_<_};
-ghost use Rattle.filters.specs.ByteTest.{testPasses, coverOf, MayFold};
+ghost use Rattle.filters.specs.ByteTest.{testPasses, anyByte, coverOf, MayFold};
 
 // A byte passes where, with the mask's bits set, it is the value; so for either pair.
 pub struct ByteTest {
@@ -42,6 +42,16 @@ pub fn byte_test_of(c: u8) -> ByteTest
         value: c,
         mask2: mask,
         value2: c,
+    }
+}
+
+// The pair that every byte passes.
+pub fn any_byte() -> Cover
+    ensures { λ r. ⌜ r ≡ anyByte ⌝ }
+{
+    Cover {
+        mask: 255,
+        value: 255,
     }
 }
 

@@ -14,6 +14,11 @@ pub struct Head {
     pub value: u32,
 }
 
+impl Head {
+    // The bytes of a head.
+    pub const SIZE: usize = 4;
+}
+
 // What byte j of the slot may be. Equals asks for the operand's length; a byte of the text may be any that folds as the
 // operand's; nothing else is asked.
 fn cover_at(table: &[u8], kind: u8, operand: &[u8], j: usize) -> Cover
@@ -27,16 +32,10 @@ fn cover_at(table: &[u8], kind: u8, operand: &[u8], j: usize) -> Cover
                 value: fields::number::narrow(operand.len()),
             };
         }
-        return Cover {
-            mask: 255,
-            value: 255,
-        };
+        return crate::byte_test::any_byte();
     }
     if operand.len() < j {
-        return Cover {
-            mask: 255,
-            value: 255,
-        };
+        return crate::byte_test::any_byte();
     }
     let c = predicate::text::fold_byte(table, operand[j - 1]);
     crate::byte_test::cover_of(crate::byte_test::byte_test_of(c))
@@ -49,7 +48,7 @@ pub fn head_of(table: &[u8], kind: u8, operand: &[u8]) -> Head
     let mut mask: u32 = 0;
     let mut value: u32 = 0;
     let mut j: usize = 0;
-    while j < 4 {
+    while j < Head::SIZE {
         let next = cover_at(table, kind, operand, j);
         mask = 256 * mask + next.mask as u32;
         value = 256 * value + next.value as u32;

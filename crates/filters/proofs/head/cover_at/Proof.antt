@@ -11,11 +11,17 @@ narrow-requires c κs = search needs
 returns : tie.Need-returns
 returns c = cover-size _ _ (c .before .before .if1 .taken) (c .before .if2 .taken) (c .narrow .ensures) (c .before .before .before .before .before .pre .1)
 
+any-byte-requires : tie.Need-any-byte-requires
+any-byte-requires c κs = search needs
+
 returns-2 : tie.Need-returns-2
-returns-2 c = cover-any _ _ _
+returns-2 c = rw (c .any-byte .ensures) (cover-any _ _ _)
+
+any-byte-requires-2 : tie.Need-any-byte-requires-2
+any-byte-requires-2 c κs = search needs
 
 returns-3 : tie.Need-returns-3
-returns-3 c = cover-any _ _ _
+returns-3 c = rw (c .any-byte2 .ensures) (cover-any _ _ _)
 
 sub-fold-byte : tie.Need-sub-fold-byte
 sub-fold-byte c = search needs
@@ -43,7 +49,9 @@ cover-at-spec =
     (tie.spec
     narrow-requires
     returns
+    any-byte-requires
     returns-2
+    any-byte-requires-2
     returns-3
     sub-fold-byte
     shared-slice-read-fold-byte
