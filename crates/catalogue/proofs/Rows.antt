@@ -13,7 +13,7 @@ use Rattle.catalogue.specs.Format.{numberTag, numberSize, textTag}
 use Rattle.catalogue.specs.Catalogue.{numbers, texts}
 use Rattle.slots.specs.Slots.{slotSize, textLimit, textAt, textsAt, zerosAt, validSlot, validSlots}
 use Rattle.catalogue.specs.Decode.{numbersAt}
-use Rattle.catalogue.specs.Layout.{HasRow, NumberIs, TextIs}
+use Rattle.catalogue.specs.InPlace.{HasRow, NumberIs, TextIs}
 
 numbers-at : (b : List ℕ) (s rows row : ℕ) → row < rows → getD (numbersAt b s rows) row 0 ≡ numberAt b (s + numberSize * row) numberSize
 unfolding numbersAt

@@ -11,7 +11,7 @@ ghost use Rattle.fields.specs.Header.{headerAt};
 ghost use Rattle.catalogue.specs.Format.{numberTag, textTag, rowLimit};
 ghost use Rattle.catalogue.specs.Decode.{columnOf};
 ghost use Rattle.catalogue.specs.Sound.{SoundColumn};
-ghost use Rattle.catalogue.specs.Layout.{HasRow, NumberIs, TextIs};
+ghost use Rattle.catalogue.specs.InPlace.{HasRow, NumberIs, TextIs};
 
 // What stands where a column is expected, every check of it done; the payload is the bytes from start up to end.
 pub enum ColumnField {

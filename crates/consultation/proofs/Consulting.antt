@@ -11,8 +11,8 @@ use Rattle.fields.specs.Decoded.{Decoded, refused, accepted}
 use Rattle.catalogue.specs.Catalogue.{Catalogue}
 use Rattle.catalogue.specs.Format.{rowLimit}
 use Rattle.catalogue.specs.Decode.{decodeCatalogue}
-use Rattle.catalogue.specs.declared.layout.Layout.{Layout}
-use Rattle.catalogue.specs.Layout.{Laid, LaidOut}
+use Rattle.layout.specs.declared.Layout.{Layout}
+use Rattle.layout.specs.Layout.{Laid, LaidOut}
 use Rattle.query.specs.Format.{predicateLimit}
 use Rattle.strategy.specs.Order.{isOrder}
 use Rattle.bitmaps.specs.Bitmap.{bytesFor}

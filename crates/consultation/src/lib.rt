@@ -32,7 +32,7 @@ pub fn write_consultation(catalogue: &[u8], question: &[u8], order: &[u8], out: 
         &mut tally,
     );
     // The word of a run has no number of entries; a refused catalogue has none.
-    let layout = catalogue::layout::lay_out(catalogue);
+    let layout = layout::lay_out(catalogue);
     let rows = layout.rows;
     register::text::write_register(
         answers::word::number_in(word),

@@ -4,7 +4,7 @@ use mathlib.Core.Path.{_≡_}
 use mathlib.Core.Bool.{true}
 use mathlib.Core.List.{List}
 use Rattle.slots.specs.Slots.{slotSize, textAt}
-use Rattle.catalogue.specs.Layout.{HasRow}
+use Rattle.catalogue.specs.InPlace.{HasRow}
 use Rattle.sets.specs.Set.{has}
 
 -- every due row is one of the column shown there

@@ -7,10 +7,10 @@ use lib.ListN.{length, getD, take, length-take}
 use lib.Seq.{ext-getD, getD-take}
 use Rattle.fields.specs.Decoded.{Decoded, refused, accepted, andThen}
 use Rattle.catalogue.specs.Catalogue.{numbers, Catalogue}
-use Rattle.catalogue.specs.declared.layout.Layout.{Layout}
-use Rattle.catalogue.specs.Layout.{Laid, LaidOut}
 use Rattle.catalogue.specs.Decode.{decodeCatalogue}
-use Rattle.catalogue.proofs.Columns.{column-shown}
+use Rattle.layout.specs.declared.Layout.{Layout}
+use Rattle.layout.specs.Layout.{Laid, LaidOut}
+use Rattle.layout.proofs.Laid.{column-shown}
 use Rattle.predicate.specs.Payload.{tagsOf}
 use Rattle.predicate.proofs.PayloadLaws.{tags-length, tags-at, shown-tag}
 use Rattle.reader.specs.declared.whole.Reading.{Reading}

@@ -3,8 +3,8 @@ use Prim.Native.Nat.{ℕ, _<_}
 use mathlib.Core.Path.{_≡_}
 use mathlib.Core.List.{List}
 use Rattle.fields.specs.Decoded.{refused, accepted}
-use Rattle.catalogue.specs.declared.layout.Layout.{Layout}
-use Rattle.catalogue.specs.Layout.{Laid}
+use Rattle.layout.specs.declared.Layout.{Layout}
+use Rattle.layout.specs.Layout.{Laid}
 use Rattle.predicate.specs.Payload.{tagsOf}
 use Rattle.reader.specs.Tables.{Tables, tables}
 use Rattle.reader.specs.QueryRead.{Tabled}

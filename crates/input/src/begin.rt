@@ -23,7 +23,7 @@ pub fn begin(
     requires { ⌜ HasTables (tables (now offsets) (now ancestors)) ⌝ }
     ensures { λ r. ⌜ InputRead (now (catalogue .entry)) (now (question .entry)) r (tables (now (offsets .exit)) (now (ancestors .exit))) ⌝ }
 {
-    let layout = catalogue::layout::lay_out(catalogue);
+    let layout = layout::lay_out(catalogue);
     let refusal = layout.refusal;
     let rows = layout.rows;
     let columns = layout.columns;

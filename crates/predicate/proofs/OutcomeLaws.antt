@@ -7,7 +7,7 @@ use mathlib.Core.List.{List}
 use borrow.Author.Tests.{lt-ltb, le-ltb}
 use Rattle.catalogue.specs.Format.{numberTag, textTag}
 use Rattle.catalogue.specs.Catalogue.{numbers, texts}
-use Rattle.catalogue.specs.Layout.{HasRow, NumberIs, TextIs}
+use Rattle.catalogue.specs.InPlace.{HasRow, NumberIs, TextIs}
 use Rattle.predicate.specs.declared.outcome.Outcome.{Outcome}
 use Rattle.predicate.specs.Kinds.{oppositeFrom, plainKind}
 use Rattle.predicate.specs.Meaning.{numberTest, textTest, yesIf, opposite, outcomeOf}

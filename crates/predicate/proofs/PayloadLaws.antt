@@ -8,7 +8,7 @@ use lib.ListN.{length, getD}
 use lib.Dec.{ltb, leb}
 use borrow.Author.Tests.{eq-eqb, ltb-true, leb-true, eqb-true}
 use Rattle.catalogue.specs.Catalogue.{Column, numbers, texts}
-use Rattle.catalogue.specs.Layout.{Shows}
+use Rattle.catalogue.specs.InPlace.{Shows}
 use Rattle.predicate.specs.Kinds.{plainKind}
 use Rattle.predicate.specs.Outcome.{HasRange}
 use Rattle.predicate.specs.Payload.{tagOf, tagsIn, payloadHead, columnByte, kindByte, operandOf, kindFits, rangeFits, operandFits, validPayload}

@@ -4,7 +4,7 @@ use mathlib.Core.Path.{_≡_}
 use mathlib.Core.List.{List}
 use lib.ListN.{length, getD}
 use Rattle.catalogue.specs.Catalogue.{Column}
-use Rattle.catalogue.specs.Layout.{Shows}
+use Rattle.catalogue.specs.InPlace.{Shows}
 use Rattle.predicate.specs.declared.outcome.Outcome.{Outcome}
 use Rattle.predicate.specs.Kinds.{rangeKind}
 use Rattle.predicate.specs.Meaning.{fold, rangeSize, plainOf, outcomeOf}

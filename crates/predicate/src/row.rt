@@ -2,7 +2,7 @@
 use crate::kind::Kind;
 use crate::outcome::Outcome;
 use catalogue::format::Column;
-ghost use Rattle.catalogue.specs.Layout.{HasRow};
+ghost use Rattle.catalogue.specs.InPlace.{HasRow};
 ghost use Rattle.predicate.specs.Kinds.{plainKind};
 ghost use Rattle.predicate.specs.Outcome.{Folds, HasRange, PlainIs, OutcomeIs};
 

@@ -5,11 +5,12 @@ use mathlib.Core.Path.{_≡_, refl, sym, ap, _∙_}
 use mathlib.Core.Bool.{true}
 use mathlib.Core.List.{List, []}
 use lib.ListN.{length, getD}
-use Rattle.catalogue.specs.declared.layout.Layout.{Layout}
 use Rattle.catalogue.specs.Format.{columnLimit}
 use Rattle.catalogue.specs.Catalogue.{Column, Catalogue, numbers}
-use Rattle.catalogue.specs.Layout.{Shows, Laid}
-use Rattle.catalogue.proofs.Columns.{column-shown}
+use Rattle.catalogue.specs.InPlace.{Shows}
+use Rattle.layout.specs.declared.Layout.{Layout}
+use Rattle.layout.specs.Layout.{Laid}
+use Rattle.layout.proofs.Laid.{column-shown}
 use Rattle.predicate.specs.Kinds.{plainKind}
 use Rattle.predicate.specs.Payload.{tagsOf, kindFits}
 use Rattle.predicate.proofs.PayloadLaws.{Valid, valid-payload, tags-length, tags-at, shown-tag, tag-small}

@@ -13,7 +13,7 @@ use Rattle.fields.specs.Numbers.{numberAt}
 use Rattle.catalogue.specs.Format.{numberTag, numberSize, textTag}
 use Rattle.catalogue.specs.Catalogue.{Column, numbers, texts}
 use Rattle.slots.specs.Slots.{textLimit, textAt}
-use Rattle.catalogue.specs.Layout.{Shows, HasRow, NumberIs, TextIs}
+use Rattle.catalogue.specs.InPlace.{Shows, HasRow, NumberIs, TextIs}
 use Rattle.catalogue.proofs.Rows.{number-is, text-is}
 use Rattle.predicate.specs.declared.outcome.Outcome.{Outcome}
 use Rattle.predicate.specs.declared.outcome.Outcome.the-variants.{No, Yes}

@@ -6,7 +6,7 @@ use mathlib.Core.List.{List}
 use lib.Dec.{leb}
 use Rattle.catalogue.specs.Format.{blankNumber}
 use Rattle.catalogue.specs.Catalogue.{Column}
-use Rattle.catalogue.specs.Layout.{Shows}
+use Rattle.catalogue.specs.InPlace.{Shows}
 use Rattle.predicate.specs.Kinds.{rangeKind, numberBlankKind, plainKind}
 use Rattle.predicate.specs.Meaning.{lowOf, highOf, plainOf, outcomeOf, truth}
 use Rattle.predicate.specs.Payload.{kindFits, operandFits}

@@ -3,7 +3,7 @@ ghost use mathlib.Core.Path.{_≡_};
 ghost use Prim.Native.Nat.{_+_, _*_, _^_, _≤_, _<_};
 ghost use Rattle.fields.specs.Numbers.{numberAt};
 ghost use Rattle.catalogue.specs.Format.{numberTag, numberSize};
-ghost use Rattle.catalogue.specs.Layout.{HasRow};
+ghost use Rattle.catalogue.specs.InPlace.{HasRow};
 ghost use Rattle.sets.specs.Set.{belowSet};
 ghost use Rattle.sets.specs.Kept.{KeptBy};
 ghost use Rattle.sets.specs.Gathered.{bitOf, gathered};

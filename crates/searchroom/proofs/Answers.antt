@@ -5,8 +5,8 @@ use mathlib.Core.Path.{_≡_}
 use mathlib.Core.List.{List}
 use Rattle.fields.specs.Decoded.{Decoded, refused, accepted}
 use Rattle.catalogue.specs.Catalogue.{Catalogue}
-use Rattle.catalogue.specs.declared.layout.Layout.{Layout}
-use Rattle.catalogue.specs.Layout.{LaidOut}
+use Rattle.layout.specs.declared.Layout.{Layout}
+use Rattle.layout.specs.Layout.{LaidOut}
 use Rattle.reader.specs.Tables.{Tables}
 use Rattle.input.specs.declared.begin.Beginning.{Beginning}
 use Rattle.input.specs.Input.{Input, decodeInput}

@@ -8,7 +8,7 @@ ghost use Rattle.answers.specs.Answers.{catalogueAnswer, Answered};
 fn check_catalogue(catalogue: &[u8]) -> Answer
     ensures { λ r. ⌜ Answered (catalogueAnswer (decodeCatalogue (now (catalogue .entry)))) r ⌝ }
 {
-    let layout = catalogue::layout::lay_out(catalogue);
+    let layout = layout::lay_out(catalogue);
     let refusal = layout.refusal;
     let rows = layout.rows;
     let columns = layout.columns;

@@ -5,7 +5,7 @@ use native.Mathlib.Omega.{arith}
 use mathlib.Core.Path.{sym, ap, _∙_}
 use mathlib.Core.List.{List}
 use Rattle.catalogue.specs.Format.{numberTag}
-use Rattle.catalogue.specs.Layout.{HasRow}
+use Rattle.catalogue.specs.InPlace.{HasRow}
 use Rattle.catalogue.proofs.Rows.{has-number}
 use Rattle.sets.specs.Set.{belowSet}
 use Rattle.sets.specs.SetLaws.{below-has}

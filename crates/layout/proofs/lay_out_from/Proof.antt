@@ -1,8 +1,8 @@
 -- `lay_out_from` meets its contract: the columns, then the end.
-use Rattle.catalogue.proofs.Columns.{laid-refusal, laid-left, laid-all}
+use Rattle.layout.proofs.Laid.{laid-refusal, laid-left, laid-all}
 use borrow.Author.Needs.{needs}
-use Rattle.catalogue.proofs.layout.lay_out_from.Statement.{statement}
-use Rattle.catalogue.proofs.layout.lay_out_from.Tie as tie
+use Rattle.layout.proofs.lay_out_from.Statement.{statement}
+use Rattle.layout.proofs.lay_out_from.Tie as tie
 
 lay-out-columns-requires : tie.Need-lay-out-columns-requires
 lay-out-columns-requires c κs = search needs

@@ -1,9 +1,9 @@
 -- `lay_out` meets its contract: by the first field, refused or laid out from the columns on.
 use native.Mathlib.Omega.{arith}
-use Rattle.catalogue.proofs.Columns.{laid-refused, laid-from}
+use Rattle.layout.proofs.Laid.{laid-refused, laid-from}
 use borrow.Author.Needs.{needs}
-use Rattle.catalogue.proofs.layout.lay_out.Statement.{statement}
-use Rattle.catalogue.proofs.layout.lay_out.Tie as tie
+use Rattle.layout.proofs.lay_out.Statement.{statement}
+use Rattle.layout.proofs.lay_out.Tie as tie
 
 read-first-requires : tie.Need-read-first-requires
 read-first-requires c κs = search needs

@@ -1,15 +1,15 @@
 // A whole catalogue checked, and where its columns lie.
-use crate::column::ColumnField;
-use crate::first::First;
-use crate::format::Column;
-use crate::format::Refusal;
+use catalogue::column::ColumnField;
+use catalogue::first::First;
+use catalogue::format::Column;
+use catalogue::format::Refusal;
 ghost use mathlib.Core.Path.{_≡_};
 ghost use Prim.Native.Nat.{_≤_};
 ghost use lib.ListN.{length};
 ghost use Rattle.fields.specs.Decoded.{andThen};
 ghost use Rattle.catalogue.specs.Format.{rowLimit, columnLimit};
 ghost use Rattle.catalogue.specs.Decode.{columnsAt, catalogueOf, decodeCatalogue};
-ghost use Rattle.catalogue.specs.Layout.{ColumnsLaidOut, LaidOut};
+ghost use Rattle.layout.specs.Layout.{ColumnsLaidOut, LaidOut};
 
 // A refusal, or 0 and the layout: of each column its tag and where its payload starts.
 pub struct Layout {
@@ -50,7 +50,7 @@ fn lay_out_columns(b: &[u8], rows: usize, columns: usize, first: usize) -> Colum
     let mut at = first;
     let mut i: usize = 0;
     while i < columns {
-        match crate::column::read_column(b, rows, at) {
+        match catalogue::column::read_column(b, rows, at) {
             ColumnField::Refused(e) => {
                 return ColumnsLayout {
                     refusal: e,
@@ -107,7 +107,7 @@ fn lay_out_from(b: &[u8], rows: usize, columns: usize, first: usize) -> Layout
 pub fn lay_out(b: &[u8]) -> Layout
     ensures { λ r. ⌜ LaidOut (now (b .entry)) r (decodeCatalogue (now (b .entry))) ⌝ }
 {
-    match crate::first::read_first(b) {
+    match catalogue::first::read_first(b) {
         First::Refused(e) => refuse(e),
         First::Counts {
             rows,

@@ -4,9 +4,9 @@ use Prim.Native.Nat.{_-_}
 use mathlib.Core.Path.{refl}
 use mathlib.Core.Logic.{⊎-elim}
 use borrow.Author.Needs.{needs}
-use Rattle.catalogue.proofs.Columns.{Reading, reading-none, reading-numbers, reading-texts, reading-refused, reading-all}
-use Rattle.catalogue.proofs.layout.lay_out_columns.Statement.{statement}
-use Rattle.catalogue.proofs.layout.lay_out_columns.Tie as tie
+use Rattle.layout.proofs.Columns.{Reading, reading-none, reading-numbers, reading-texts, reading-refused, reading-all}
+use Rattle.layout.proofs.lay_out_columns.Statement.{statement}
+use Rattle.layout.proofs.lay_out_columns.Tie as tie
 
 abbrev Inv-loop : tie.InvT-loop
 Inv-loop b rows columns first tags₀ starts₀ at₀ i₀ tags starts at i = Reading b rows columns first tags starts at i

@@ -1,25 +1,22 @@
 -- The loop over the columns: the layout shows those read so far, and whatever the rest gives, the whole gives.
 use Prim.Native.Nat.{ℕ, zero, suc, _+_, _-_, _≤_, _<_}
 use native.Mathlib.Omega.{arith}
-use mathlib.Core.Path.{_≡_, refl, sym, ap, _∙_}
+use mathlib.Core.Path.{_≡_, refl, ap, _∙_}
 use mathlib.Core.List.{List, [], _∷_, _++_, append-assoc, append-nil}
 use lib.ListN.{length, getD, set, length-append, length-set}
 use lib.Seq.{getD-set-same, getD-set-other}
-use borrow.Author.Tests.{eq-eqb, ne-eqb}
-use Rattle.fields.specs.Decoded.{Decoded, refused, accepted, mapped, andThen}
+use Rattle.fields.specs.Decoded.{Decoded, refused, accepted, mapped}
 use Rattle.fields.specs.Header.{headerAt}
-use Rattle.catalogue.specs.declared.column.ColumnField.{ColumnField}
-use Rattle.catalogue.specs.declared.column.ColumnField.the-variants.{Refused, Numbers, Texts}
-use Rattle.catalogue.specs.declared.first.First.{First}
-use Rattle.catalogue.specs.declared.first.First.the-variants as first
-use Rattle.catalogue.specs.declared.layout.ColumnsLayout.{ColumnsLayout}
-use Rattle.catalogue.specs.declared.layout.Layout.{Layout}
-use Rattle.catalogue.specs.Format.{numberTag, textTag, rowLimit, columnLimit, bytesAfterColumns}
-use Rattle.catalogue.specs.Catalogue.{Column, numbers, texts, Catalogue}
 use Rattle.slots.specs.Slots.{textsAt}
-use Rattle.catalogue.specs.Decode.{numbersAt, Columns, columnBefore, columnThen, columnOf, columnsAt, catalogueOf, firstFieldOf, decodeCatalogue}
+use Rattle.catalogue.specs.declared.column.ColumnField.{ColumnField}
+use Rattle.catalogue.specs.declared.column.ColumnField.the-variants.{Refused, Numbers, Texts}
+use Rattle.catalogue.specs.Format.{numberTag, textTag, columnLimit}
+use Rattle.catalogue.specs.Catalogue.{Column, numbers, texts}
+use Rattle.catalogue.specs.Decode.{numbersAt, Columns, columnBefore, columnThen, columnOf, columnsAt}
 use Rattle.catalogue.specs.Sound.{IsRefusal, SoundColumn}
-use Rattle.catalogue.specs.Layout.{Shows, ShowsAll, ColumnsLaid, ColumnsLaidOut, Laid, LaidOut}
+use Rattle.catalogue.specs.InPlace.{Shows}
+use Rattle.layout.specs.declared.ColumnsLayout.{ColumnsLayout}
+use Rattle.layout.specs.Layout.{ShowsAll, ColumnsLaidOut}
 
 -- what the field at a place is
 abbrev fieldAt : List ℕ → (rows at : ℕ) → ColumnField
@@ -61,11 +58,6 @@ module _ (b : List ℕ) (rows : ℕ) where
       → ShowsAll b rows tags starts j (cs ++ (c ∷ []))
   shows-last tags starts j i [] c e s h = let z : j ≡ i = omega arith in (rw z h, tt)
   shows-last tags starts j i (d ∷ cs) c e s h = (s .0, shows-last tags starts (j + 1) i cs c (omega arith) (s .1) h)
-
-  shows-at : (tags starts : List ℕ) (j i : ℕ) (cs : List Column) → ShowsAll b rows tags starts j cs → i < length cs → Shows b rows (getD tags (j + i) 0) (getD starts (j + i) 0) (getD cs i (numbers []))
-  shows-at tags starts j i [] s l = absurd (omega arith)
-  shows-at tags starts j zero (c ∷ cs) s l = let z : j + 0 ≡ j = omega arith in rw z (s .0)
-  shows-at tags starts j (suc i) (c ∷ cs) s l = let z : j + suc i ≡ j + 1 + i = omega arith in rw z (shows-at tags starts (j + 1) i cs (s .1) (omega arith))
 
 -- where the loop stands: i columns are read from `from` on, the next begins at `at`
 pub record Reading (b : List ℕ) (rows columns from : ℕ) (tags starts : List ℕ) (at i : ℕ) : Type 0 where
@@ -137,57 +129,3 @@ module _ (b : List ℕ) (rows columns from : ℕ) (tags starts : List ℕ) (at i
         tags-size = g .tags-size;
         starts-size = g .starts-size;
       })
-
--- what the columns' layout tells of the columns
-module _ (b : List ℕ) (rows n : ℕ) (l : ColumnsLayout) where
-  columns-refused : (d : Decoded Columns) → ColumnsLaidOut b rows n l d → (l .refusal ≡ 0 → ⊥) → (d ≡ refused (l .refusal)) × IsRefusal (l .refusal)
-  columns-refused (refused e) k ne = rw (k .0) (refl, k .1)
-  columns-refused (accepted C) k ne = absurd (ne (k .accepts))
-
-  columns-accepted : (d : Decoded Columns) → ColumnsLaidOut b rows n l d → l .refusal ≡ 0 → (C : Columns) × (d ≡ accepted C) × ColumnsLaid b rows n l C
-  columns-accepted (refused e) k z = absurd (omega arith)
-  columns-accepted (accepted C) k z = (C, refl, k)
-
-module _ (b : List ℕ) (rows columns from : ℕ) (l : ColumnsLayout) (o : ColumnsLaidOut b rows columns l (columnsAt b rows columns from)) where
-  -- a column is refused
-  pub laid-refusal : (r : Layout) → (l .refusal ≡ 0 → ⊥) → r .refusal ≡ l .refusal → r .rows ≡ 0 → r .columns ≡ 0 → LaidOut b r (andThen (columnsAt b rows columns from) (catalogueOf b rows))
-  laid-refusal r ne c u v = let (d, k) = columns-refused b rows columns l (columnsAt b rows columns from) o ne in rw d (c, k .0, k .1, u, v)
-
-  -- the columns are all there: their end decides
-  pub laid-left : (r : Layout) → l .refusal ≡ 0 → (l .end ≡ length b → ⊥) → r .refusal ≡ bytesAfterColumns → r .rows ≡ 0 → r .columns ≡ 0
-      → LaidOut b r (andThen (columnsAt b rows columns from) (catalogueOf b rows))
-  laid-left r z ne c u v =
-      let (C, d, k) = columns-accepted b rows columns l (columnsAt b rows columns from) o z in rw (d, ← (k .end), ne-eqb _ _ ne) (c, omega arith, omega arith, u, v)
-
-  pub laid-all : rows ≤ rowLimit → columns ≤ columnLimit → l .refusal ≡ 0 → l .end ≡ length b
-      → LaidOut b (record { refusal = 0; rows = rows; columns = columns; tags = l .tags; starts = l .starts }) (andThen (columnsAt b rows columns from) (catalogueOf b rows))
-  laid-all short few z e =
-      let (C, d, k) = columns-accepted b rows columns l (columnsAt b rows columns from) o z in
-      rw (d, ← (k .end), eq-eqb _ _ e)
-      (record {
-        accepts = refl;
-        rows = refl;
-        columns = sym (k .count);
-        short = short;
-        few = few;
-        shown = k .shown;
-        tags-size = k .tags-size;
-        starts-size = k .starts-size;
-      })
-
--- the whole catalogue, from its first field
-pub laid-refused : (b : List ℕ) (f : First) (e : ℕ) (r : Layout) → f ≡ firstFieldOf b (headerAt b 0 (length b)) → f ≡ first.Refused e → IsRefusal e → r .refusal ≡ e → r .rows ≡ 0 → r .columns ≡ 0 → LaidOut b r (decodeCatalogue b)
-unfolding decodeCatalogue
-laid-refused b f e r q i o c u v = rw (← q, i) (c, o .0, o .1, u, v)
-
-pub laid-from : (b : List ℕ) (f : First) (rows columns next : ℕ) (r : Layout) → f ≡ firstFieldOf b (headerAt b 0 (length b)) → f ≡ first.Counts rows columns next
-    → LaidOut b r (andThen (columnsAt b rows columns next) (catalogueOf b rows)) → LaidOut b r (decodeCatalogue b)
-unfolding decodeCatalogue
-laid-from b f rows columns next r q i l = rw (← q, i) l
-
--- column i of an accepted catalogue, as the layout shows it
-pub column-shown : {b : List ℕ} {l : Layout} {C : Catalogue} (i : ℕ) → Laid b l C → i < l .columns
-    → Shows b (C .rows) (getD (l .tags) i 0) (getD (l .starts) i 0) (getD (C .columns) i (numbers []))
-column-shown {b} {l} {C} i h k =
-    let y : 0 + i ≡ i = omega arith in
-    rw y at (shows-at b (C .rows) (l .tags) (l .starts) 0 i (C .columns) (h .shown) (omega (arith, h .columns)))
