@@ -13,15 +13,12 @@ use Rattle.predicate.specs.Meaning.{Predicate, outcomeOf, truth}
 use Rattle.predicate.specs.Outcome.{HasRange, OutcomeIs}
 use Rattle.predicate.proofs.PayloadLaws.{range-size}
 use Rattle.sets.specs.Set.{has}
-use Rattle.scan.specs.Met.{ShownRows, HasRows, MetAt}
-use Rattle.plan.specs.Plan.{Access, accessWidth, accessAt}
-use Rattle.plan.specs.Access.{Accessed, HasOutcome, AccessGives, RowsIn, HasOutcomes, MetIs}
+use Rattle.scan.specs.Met.{ShownRows, HasRows, MetFor}
+use Rattle.plan.specs.Plan.{accessWidth, accessAt}
+use Rattle.access.specs.Access.{Accessed, HasOutcome, AccessGives, RowsIn, HasOutcomes, MetIs}
 
 -- the outcome by the plan: what the code hands to `outcome_at` is what the access shows
 module _ (b q P : List ℕ) (c row : ℕ) where
-  abbrev x : Access
-  x = accessAt P c
-
   -- the fields as the code reads them
   pub tag-byte : HasOutcome b q (accessAt P c) row → getD P (accessWidth * c) 0 < 256
   unfolding accessAt
@@ -87,7 +84,7 @@ module _ (b q P : List ℕ) (c base due : ℕ) where
     pub has-rows : HasOutcomes b q (accessAt P c) base due → HasRows b (getD P (accessWidth * c + 1) 0) base kind (take (place + len - place) (drop place q)) due
     has-rows h = (h .0 .rows, getD P (accessWidth * c) 0, getD (h .0 .columns) (h .1 .column) (numbers []), shown-rows (h .0) (h .1) (h .2) (h .3))
 
-    pub met-is : (r : ℕ) → MetAt b (getD P (accessWidth * c + 1) 0) base kind (take (place + len - place) (drop place q)) due r → MetIs b q (accessAt P c) base due r
+    pub met-is : (r : ℕ) → MetFor b (getD P (accessWidth * c + 1) 0) base kind (take (place + len - place) (drop place q)) due r → MetIs b q (accessAt P c) base due r
     unfolding accessAt
     met-is r m C p A R d =
         m (C .rows) (getD P (accessWidth * c) 0) (getD (C .columns) (p .column) (numbers [])) (shown-rows C p A R) d

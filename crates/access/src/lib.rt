@@ -7,7 +7,7 @@ ghost use lib.ListN.{length};
 ghost use Rattle.predicate.specs.Outcome.{Folds};
 ghost use Rattle.query.specs.Format.{predicateLimit};
 ghost use Rattle.plan.specs.Plan.{planSize, accessAt};
-ghost use Rattle.plan.specs.Access.{HasOutcome, AccessGives, HasOutcomes, MetIs};
+ghost use Rattle.access.specs.Access.{HasOutcome, AccessGives, HasOutcomes, MetIs};
 
 // The outcome of predicate c at a row.
 pub fn outcome_of(

@@ -15,12 +15,12 @@ impl Ancestors {
     pub const TAG: usize = 2;
 
     // The bytes of one ancestor.
-    pub const SIZE: usize = 3;
+    pub const ANCESTOR_SIZE: usize = 3;
 
     // A line: the number of ancestors, then each.
-    pub const WIDTH: usize = 1 + Ancestors::SIZE * Group::DEPTH_LIMIT;
+    pub const LINE_SIZE: usize = 1 + Ancestors::ANCESTOR_SIZE * Group::DEPTH_LIMIT;
 
-    pub const TABLE: usize = Ancestors::WIDTH * Predicate::LIMIT;
+    pub const TABLE_SIZE: usize = Ancestors::LINE_SIZE * Predicate::LIMIT;
 }
 
 // Closes the group of the predicates from a up to m: one ancestor more for each of them.
@@ -32,9 +32,9 @@ pub fn close_group(ancestors: &mut [u8], a: usize, m: usize, tag: u8)
     let end = fields::number::narrow(m);
     let mut c = a;
     while c < m {
-        let line = Ancestors::WIDTH * c;
+        let line = Ancestors::LINE_SIZE * c;
         let height = ancestors[line];
-        let i = line + 1 + Ancestors::SIZE * fields::number::widen(height);
+        let i = line + 1 + Ancestors::ANCESTOR_SIZE * fields::number::widen(height);
         ancestors[i + Ancestors::FIRST] = first;
         ancestors[i + Ancestors::END] = end;
         ancestors[i + Ancestors::TAG] = tag;

@@ -10,8 +10,6 @@ pub struct Line;
 
 impl Line {
     pub const SIZE: usize = 256;
-
-    pub const BITS: usize = 8 * Line::SIZE;
 }
 
 // The first bytes of each of the first n lines, to the front of a table, which keeps its further bytes.

@@ -16,7 +16,7 @@ use Rattle.ancestors.specs.Ancestors.{ancestorsWidth, ancestorPlace, heightAt}
 abbrev pub rowLive : (live : List ℕ) → (d : ℕ) → Live
 rowLive L d = λ c. has (getD L c 0) d
 
--- a probe on its way outward at row d: it goes on at the rows of `active`
+-- the propagation at row d: it goes on at the rows of `active`
 abbrev pub rowStep : (live : List ℕ) → (active d : ℕ) → Step
 rowStep L active d = record { live = rowLive L d; settled = has active d }
 

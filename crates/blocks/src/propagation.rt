@@ -22,12 +22,18 @@ pub fn propagate_rows(ancestors: &[u8], c: usize, live: &mut [u64], due: u64, me
     requires { ⌜ HasAncestors (now ancestors) c (length (now live)) ⌝ }
     ensures { λ r. ⌜ Propagated (ancestorsOf (now (ancestors .entry)) c) met due r (now (live .entry)) (now (live .exit)) ⌝ }
 {
-    let line = Ancestors::WIDTH * c;
+    let line = Ancestors::LINE_SIZE * c;
     let height = fields::number::widen(ancestors[line]);
     let mut active = due;
     let mut k: usize = 0;
     while k < height {
-        active = pass_ancestor(ancestors, line + 1 + Ancestors::SIZE * k, live, active, met);
+        active = pass_ancestor(
+            ancestors,
+            line + 1 + Ancestors::ANCESTOR_SIZE * k,
+            live,
+            active,
+            met,
+        );
         if active == 0 {
             return active;
         }

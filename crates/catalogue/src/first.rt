@@ -1,6 +1,6 @@
 // The first field of a catalogue: how many rows and columns it has.
 use crate::format::Column;
-use crate::format::Opening;
+use crate::format::FirstField;
 use crate::format::Refusal;
 use crate::format::Row;
 use fields::header::Header;
@@ -26,10 +26,10 @@ pub fn read_first(b: &[u8]) -> First
     match fields::header::read_header(b, 0, b.len()) {
         Header::Cut => First::Refused(Refusal::FIELD_CUT),
         Header::Field { tag, start, end } => {
-            if tag != Opening::TAG {
+            if tag != FirstField::TAG {
                 return First::Refused(Refusal::NOT_CATALOGUE);
             }
-            if end - start != Opening::SIZE {
+            if end - start != FirstField::SIZE {
                 return First::Refused(Refusal::NOT_CATALOGUE);
             }
             let rows = fields::number::two_bytes(b, start);

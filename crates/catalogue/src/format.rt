@@ -26,9 +26,9 @@ impl Number {
 }
 
 // The first field.
-pub struct Opening;
+pub struct FirstField;
 
-impl Opening {
+impl FirstField {
     pub const TAG: u8 = 67;
 
     pub const SIZE: usize = 3;

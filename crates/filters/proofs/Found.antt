@@ -13,7 +13,7 @@ use Rattle.slots.specs.Slots.{slotSize, textLimit, textAt}
 use Rattle.predicate.specs.Meaning.{fold, folded, begins, occurs, equals, beginsWith, contains}
 use Rattle.predicate.proofs.TextLaws.{equals-begins, equals-other}
 use Rattle.filters.specs.declared.pair.Pair.{Pair}
-use Rattle.filters.specs.Filter.{PairFor, pairAt}
+use Rattle.filters.specs.Windows.{PairFor, pairAt}
 
 -- a text that begins with the operand is not shorter, and has its bytes, folded
 

@@ -3,10 +3,8 @@ use Prim.Native.Nat.{ℕ, zero, suc, _+_, _-_, _*_, _%_, _^_, _≤_, _<_}
 use native.Mathlib.Nat.{pow-suc}
 use native.Mathlib.Omega.{arith}
 use mathlib.Core.Path.{_≡_, refl, sym, ap, ap₂, _∙_}
-use mathlib.Core.Bool.{true}
 use mathlib.Core.List.{List}
 use lib.ListN.{length, getD}
-use lib.Dec.{eqb}
 use lib.Bits.{bitAnd, bitOr, or-zero-r, or-add-and, and-mask, or-block}
 use borrow.Author.Tests.{eq-eqb}
 use Rattle.strategy.specs.Bools.{eqb-eq, iff-eq}
@@ -16,18 +14,17 @@ use Rattle.predicate.specs.Kinds.{equalsKind}
 use Rattle.predicate.specs.Meaning.{fold}
 use Rattle.filters.specs.declared.byte_test.ByteTest.{ByteTest}
 use Rattle.filters.specs.declared.byte_test.Cover.{Cover}
-use Rattle.filters.specs.declared.head.Head.{Head}
 use Rattle.filters.specs.ByteTest.{anyByte, coverOf, covers, MayFold}
-use Rattle.filters.specs.Head.{headSize, Starts, CoverAt, HeadFor, BlankHead}
+use Rattle.filters.specs.Head.{headSize, Starts, CoverFor, HeadFor, BlankHeadIs}
 use Rattle.filters.proofs.ByteTests.{any-covered}
 
 -- what byte j may be
 
 module _ (kind : ℕ) (o : List ℕ) where
-  pub cover-any : (j : ℕ) → CoverAt kind o j anyByte
+  pub cover-any : (j : ℕ) → CoverFor kind o j anyByte
   cover-any j = record { mask-small = omega arith; value-small = omega arith; passes = λ b p S. any-covered (getD b (p + j) 0) (S .bytes (p + j)) }
 
-  pub cover-size : {j size : ℕ} → j ≡ 0 → kind ≡ equalsKind → size ≡ length o → length o ≤ textLimit → CoverAt kind o j (record { mask = 0; value = size })
+  pub cover-size : {j size : ℕ} → j ≡ 0 → kind ≡ equalsKind → size ≡ length o → length o ≤ textLimit → CoverFor kind o j (record { mask = 0; value = size })
   cover-size {j} {size} z e n l = record {
     mask-small = omega arith;
     value-small = omega arith;
@@ -36,7 +33,7 @@ module _ (kind : ℕ) (o : List ℕ) where
         eq-eqb _ _ (or-zero-r (getD b (p + j) 0) ∙ ap (λ (i : ℕ). getD b i 0) q ∙ S .sized e ∙ sym n);
   }
 
-  pub cover-byte : {j c : ℕ} {test : ByteTest} {k : Cover} → 0 < j → j ≤ length o → c ≡ fold (getD o (j - 1) 0) → MayFold c test → k ≡ coverOf test → k .mask < 256 → k .value < 256 → CoverAt kind o j k
+  pub cover-byte : {j c : ℕ} {test : ByteTest} {k : Cover} → 0 < j → j ≤ length o → c ≡ fold (getD o (j - 1) 0) → MayFold c test → k ≡ coverOf test → k .mask < 256 → k .value < 256 → CoverFor kind o j k
   cover-byte {j} {c} {test} {k} some inside c-is L e m v = record {
     mask-small = m;
     value-small = v;
@@ -74,7 +71,7 @@ module _ {kind : ℕ} {o : List ℕ} {j mask value : ℕ} (H : Heading kind o j 
         let v = H .value-small in
         (omega arith, omega arith)
 
-    pub heading-next : {k : Cover} {m v : ℕ} → CoverAt kind o j k → m ≡ k .mask → v ≡ k .value → Heading kind o (j + 1) (256 * mask + m) (256 * value + v)
+    pub heading-next : {k : Cover} {m v : ℕ} → CoverFor kind o j k → m ≡ k .mask → v ≡ k .value → Heading kind o (j + 1) (256 * mask + m) (256 * value + v)
     unfolding numberAt
     heading-next {k} {m} {v} K me ve = record {
       inside = omega arith;
@@ -102,7 +99,7 @@ module _ {kind : ℕ} {o : List ℕ} {j mask value : ℕ} (H : Heading kind o j 
       eq-eqb _ _ (rw e at (H .passes b p S))
 
 -- with its last three bytes filled up, a head shows its length alone
-pub blank-head : BlankHead (record { mask = 16777215; value = 16777215 })
+pub blank-head : BlankHeadIs (record { mask = 16777215; value = 16777215 })
 unfolding numberAt
 blank-head b p h = iff-eq _ _ (λ e. eq-eqb n 0 (there (eqb-eq _ _ e))) (λ e. eq-eqb _ _ (back (eqb-eq n 0 e)))
   where

@@ -1,7 +1,7 @@
 -- The filters pass every slot whose text passes the test.
 use Prim.Native.Nat.{ℕ, _+_, _-_, _≤_, _<_}
 use native.Mathlib.Omega.{arith}
-use mathlib.Core.Path.{_≡_, sym, ap, _∙_}
+use mathlib.Core.Path.{_≡_, sym, _∙_}
 use mathlib.Core.Bool.{true}
 use mathlib.Core.Logic.{_⊎_, inl, inr}
 use mathlib.Core.List.{List}
@@ -20,7 +20,7 @@ use Rattle.sets.specs.KeptLaws.{kept-sifts}
 use Rattle.filters.specs.declared.pair.Pair.{Pair}
 use Rattle.filters.specs.declared.head.Head.{Head}
 use Rattle.filters.specs.Block.{HasDueRows, slotOf, textOf}
-use Rattle.filters.specs.Filter.{PairFor, windowsPass}
+use Rattle.filters.specs.Windows.{PairFor, windowsPass}
 use Rattle.filters.specs.Head.{headPasses, Starts, HeadFor}
 use Rattle.filters.proofs.Pairs.{windows-see}
 use Rattle.filters.proofs.Found.{contains-from, equals-whole, text-size, found-size, found-byte, found-pair}

@@ -27,11 +27,12 @@ coverOf k = record { mask = openBits; value = bitOr (k .value) openBits }
     openBits : ℕ
     openBits = bitOr (bitOr (k .mask) (k .mask2)) (bitXor (k .value) (k .value2))
 
--- every byte that folds to c passes, and passes the one pair
+-- a byte passes the test, and the one pair of it
 pub record Passes (k : ByteTest) (x : ℕ) : Type 0 where
   pub tested : testPasses k x ≡ true
   pub covered : covers (coverOf k) x ≡ true
 
+-- every byte that folds to c passes both
 abbrev pub MayFold : (c : ℕ) → ByteTest → Type 0
 MayFold c k = (x : ℕ) → x < 256 → fold x ≡ c → Passes k x
 

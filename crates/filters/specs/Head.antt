@@ -1,5 +1,5 @@
 -- The filter of equals and begins: a slot's head as one number, most significant byte first.
-use Prim.Native.Nat.{ℕ, zero, suc, _+_, _<_}
+use Prim.Native.Nat.{ℕ, _+_, _<_}
 use mathlib.Core.Path.{_≡_}
 use mathlib.Core.Bool.{Bool, true}
 use mathlib.Core.List.{List}
@@ -27,7 +27,7 @@ pub record Starts (kind : ℕ) (o b : List ℕ) (p : ℕ) : Type 0 where
   pub alike : (i : ℕ) → i < length o → fold (getD b (p + 1 + i) 0) ≡ fold (getD o i 0)
 
 -- byte j of every such slot passes
-pub record CoverAt (kind : ℕ) (o : List ℕ) (j : ℕ) (k : Cover) : Type 0 where
+pub record CoverFor (kind : ℕ) (o : List ℕ) (j : ℕ) (k : Cover) : Type 0 where
   pub mask-small : k .mask < 256
   pub value-small : k .value < 256
   pub passes : (b : List ℕ) (p : ℕ) → Starts kind o b p → covers k (getD b (p + j) 0) ≡ true
@@ -37,5 +37,5 @@ abbrev pub HeadFor : (kind : ℕ) → (o : List ℕ) → Head → Type 0
 HeadFor kind o k = (b : List ℕ) (p : ℕ) → Starts kind o b p → headPasses b p k ≡ true
 
 -- blanks pass, and no others
-abbrev pub BlankHead : Head → Type 0
-BlankHead k = (b : List ℕ) (p : ℕ) → Bytes b → headPasses b p k ≡ eqb (getD b p 0) 0
+abbrev pub BlankHeadIs : Head → Type 0
+BlankHeadIs k = (b : List ℕ) (p : ℕ) → Bytes b → headPasses b p k ≡ eqb (getD b p 0) 0

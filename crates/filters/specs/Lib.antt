@@ -1,4 +1,4 @@
 pub mod ByteTest
 pub mod Block
-pub mod Filter
+pub mod Windows
 pub mod Head

@@ -41,7 +41,7 @@ fn due_front(b: &[u8], start: usize, base: usize, k: Head, due: u64) -> u64
     met
 }
 
-// By the shorter way.
+// The due rows whose heads pass, by the shorter way.
 pub fn front_rows(b: &[u8], start: usize, base: usize, k: Head, due: u64) -> u64
     requires { ⌜ HasDueRows (now b) textTag start base due ⌝ }
     ensures { λ r. ⌜ KeptBy (λ d. headPasses (now (b .entry)) (slotOf start (base + d)) k) due r ⌝ }

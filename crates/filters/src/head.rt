@@ -6,7 +6,7 @@ ghost use Prim.Native.Nat.{_+_, _≤_, _<_};
 ghost use lib.ListN.{length};
 ghost use Rattle.slots.specs.Slots.{textLimit};
 ghost use Rattle.predicate.specs.Outcome.{Folds};
-ghost use Rattle.filters.specs.Head.{headSize, headPasses, CoverAt, HeadFor, BlankHead};
+ghost use Rattle.filters.specs.Head.{headSize, headPasses, CoverFor, HeadFor, BlankHeadIs};
 
 // A slot passes where its head, with the mask's bits set, is the value.
 pub struct Head {
@@ -23,7 +23,7 @@ impl Head {
 // operand's; nothing else is asked.
 fn cover_at(table: &[u8], kind: u8, operand: &[u8], j: usize) -> Cover
     requires { ⌜ Folds (now table) × (length (now operand) ≤ textLimit) ⌝ }
-    ensures { λ r. ⌜ CoverAt kind (now (operand .entry)) j r ⌝ }
+    ensures { λ r. ⌜ CoverFor kind (now (operand .entry)) j r ⌝ }
 {
     if j == 0 {
         if kind == Kind::EQUALS {
@@ -59,7 +59,7 @@ pub fn head_of(table: &[u8], kind: u8, operand: &[u8]) -> Head
 
 // The head that blanks have, and no others: a length of 0.
 pub fn blank_head() -> Head
-    ensures { λ r. ⌜ BlankHead r ⌝ }
+    ensures { λ r. ⌜ BlankHeadIs r ⌝ }
 {
     Head {
         mask: 0xff_ffff,

@@ -5,7 +5,7 @@ ghost use mathlib.Core.Bool.{cond};
 ghost use Prim.Native.Nat.{_≤_, _<_};
 ghost use lib.ListN.{length};
 ghost use Rattle.predicate.specs.Outcome.{Folds};
-ghost use Rattle.filters.specs.Filter.{gapOf, pairAt, PairFor};
+ghost use Rattle.filters.specs.Windows.{gapOf, pairAt, PairFor};
 
 pub struct Pair {
     pub gap: usize,

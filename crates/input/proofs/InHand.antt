@@ -6,8 +6,8 @@ use mathlib.Core.List.{List}
 use Rattle.catalogue.specs.Format.{rowLimit}
 use Rattle.records.specs.Table.{recordAt}
 use Rattle.reader.specs.Tables.{Tables}
-use Rattle.plan.specs.Plan.{accessAt, accessOf, HaveColumns}
-use Rattle.plan.specs.Access.{Accessed}
+use Rattle.plan.specs.Plan.{accessAt, accessOf, HasColumns}
+use Rattle.access.specs.Access.{Accessed}
 use Rattle.rows.specs.Task.{predicateAt}
 use Rattle.rows.proofs.Prepared.{have-columns, planned-accessed}
 use Rattle.input.specs.declared.begin.Beginning.{Beginning}
@@ -17,7 +17,7 @@ module _ {b q : List ℕ} {r : Beginning} {T : Tables} (G : HasInput b q r T) wh
   pub input-short : r .rows ≤ rowLimit
   input-short = omega (arith, G .rows, G .laid .short)
 
-  pub input-columns : HaveColumns (r .tags) (r .starts) (recordAt q (T .offsets)) (r .n)
+  pub input-columns : HasColumns (r .tags) (r .starts) (recordAt q (T .offsets)) (r .n)
   input-columns = rw (G .tags, G .starts) (have-columns (G .laid) (G .tabled))
 
   pub input-accessed : (P : List ℕ) (c : ℕ) → c < r .n → accessAt P c ≡ accessOf (r .tags) (r .starts) (recordAt q (T .offsets) c)

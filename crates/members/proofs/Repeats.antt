@@ -1,4 +1,4 @@
--- The check for an earlier payload: byte by byte, and place by place.
+-- The check for an earlier payload: byte by byte, and predicate by predicate.
 use Prim.Native.Nat.{ℕ, zero, suc, _+_, _-_, _*_, _≤_, _<_}
 use native.Mathlib.Numerals.{add-one}
 use native.Mathlib.Omega.{arith}
@@ -78,7 +78,7 @@ module _ (payload q : List ℕ) (start end : ℕ) (some : 2 ≤ length payload) 
   unfolding payloadAt
   same-part r e = e
 
--- the payload at a predicate's place is its own
+-- the payload at a predicate's offset is its own
 module _ (q os : List ℕ) (c : ℕ) (has : HasPayload q os c) where
   shown : payloadOf (predicateIn q (recordAt q os c)) ≡ payloadAt q (startAt os c) (endAt q os c)
   shown =

@@ -40,7 +40,7 @@ fn outcome_accepted(
     if n as u64 <= condition {
         return Answer::Refused(Refusal::NO_SUCH_ROW_OR_PREDICATE);
     }
-    let mut plan = [0usize; Plan::TABLE];
+    let mut plan = [0usize; Plan::TABLE_SIZE];
     plan::table::plan_predicate(
         &tags,
         &starts,
@@ -70,7 +70,7 @@ pub fn outcome_at(catalogue: &[u8], question: &[u8], entry: u64, condition: u64)
     ensures { λ r. ⌜ Answered (outcomeAnswer (decodeInput (now (catalogue .entry)) (now (question .entry))) entry condition) r ⌝ }
 {
     let mut offsets = [0usize; Predicate::LIMIT];
-    let mut ancestors = [0u8; Ancestors::TABLE];
+    let mut ancestors = [0u8; Ancestors::TABLE_SIZE];
     let begun = input::begin::begin(catalogue, question, &mut offsets, &mut ancestors);
     let refusal = begun.refusal;
     if refusal != 0 {

@@ -11,7 +11,7 @@ use lib.WfN.{Nat·lt-wfRel}
 use Rattle.strategy.specs.Bools.{same?}
 use Rattle.records.specs.declared.PredicateRecord.{PredicateRecord}
 use Rattle.query.specs.Format.{predicateLimit}
-use Rattle.plan.specs.Plan.{Access, accessWidth, planSize, accessAt, accessOf, HasColumn, PutAccess, Planned}
+use Rattle.plan.specs.Plan.{Access, accessWidth, planSize, accessAt, accessOf, HasColumn, AccessPut, Planned}
 
 -- the five stores of an access
 module _ (P : List ℕ) (c a b k p s : ℕ) (sized : length P ≡ planSize) (inside : c < predicateLimit) where
@@ -78,7 +78,7 @@ module _ (P : List ℕ) (c a b k p s : ℕ) (sized : length P ≡ planSize) (ins
   apart-first d (inl h) = inl (omega arith)
   apart-first d (inr h) = inr (omega arith)
 
-  pub put-stored : (x : Access) → record { tag = a; start = b; kind = k; place = p; size = s } ≡ x → PutAccess c x P stored
+  pub put-stored : (x : Access) → record { tag = a; start = b; kind = k; place = p; size = s } ≡ x → AccessPut c x P stored
   unfolding accessAt
   put-stored x e = record {
     here = rw (stored-tag, stored-start, stored-kind, stored-place, stored-size) e;
@@ -101,7 +101,7 @@ module _ (P : List ℕ) (c a b k p s : ℕ) (sized : length P ≡ planSize) (ins
 pub planned-none : (tags starts : List ℕ) (R : ℕ → PredicateRecord) (P : List ℕ) → Planned tags starts R P 0
 planned-none tags starts R P c l = absurd (omega arith)
 
-pub planned-more : (tags starts : List ℕ) (R : ℕ → PredicateRecord) (P P′ : List ℕ) (n : ℕ) → PutAccess n (accessOf tags starts (R n)) P P′
+pub planned-more : (tags starts : List ℕ) (R : ℕ → PredicateRecord) (P P′ : List ℕ) (n : ℕ) → AccessPut n (accessOf tags starts (R n)) P P′
     → Planned tags starts R P n → Planned tags starts R P′ (n + 1)
 planned-more tags starts R P P′ n p h c l = go (same? c n)
   where
@@ -114,7 +114,7 @@ module _ (tags starts : List ℕ) (r r′ : PredicateRecord) (e : r ≡ r′) wh
   pub record-column : HasColumn tags starts r′ → HasColumn tags starts r
   record-column h = rw e h
 
-  pub record-put : (P P′ : List ℕ) (c : ℕ) → PutAccess c (accessOf tags starts r) P P′ → accessAt P′ c ≡ accessOf tags starts r′
+  pub record-put : (P P′ : List ℕ) (c : ℕ) → AccessPut c (accessOf tags starts r) P P′ → accessAt P′ c ≡ accessOf tags starts r′
   record-put P P′ c p = rw (← e) (p .here)
 
 -- how far the loop over the predicates is: the list has the accesses of the first `count` of n
@@ -131,7 +131,7 @@ module _ {tags starts : List ℕ} {R : ℕ → PredicateRecord} {n : ℕ} where
 
   -- one more access is put
   abbrev pub put-on : (s : Stage tags starts R n) → s .count < n → (P : List ℕ) → length P ≡ length (s .list)
-      → PutAccess (s .count) (accessOf tags starts (R (s .count))) (s .list) P → Stage tags starts R n
+      → AccessPut (s .count) (accessOf tags starts (R (s .count))) (s .list) P → Stage tags starts R n
   put-on s l P e p = record {
     count = s .count + 1;
     list = P;

@@ -6,14 +6,14 @@ use lib.ListN.{drop}
 use Rattle.records.specs.declared.PredicateRecord.{PredicateRecord}
 use Rattle.records.specs.Table.{recordAt, recordIn, recordsOf}
 use Rattle.records.proofs.Tabulated.{record-in}
-use Rattle.plan.specs.Plan.{accessOf, HasColumn, HaveColumns, Planned}
+use Rattle.plan.specs.Plan.{accessOf, HasColumn, HasColumns, Planned}
 
 module _ (q offsets : List ℕ) (T T₀ : List PredicateRecord) (n : ℕ) (filled : T ≡ recordsOf q offsets n ++ drop n T₀) where
   same : (c : ℕ) → c < n → recordIn T c ≡ recordAt q offsets c
   same c l = ap (λ (t : List PredicateRecord). recordIn t c) filled ∙ record-in q offsets T₀ n c l
 
   module _ (tags starts : List ℕ) where
-    pub have-columns : HaveColumns tags starts (recordAt q offsets) n → HaveColumns tags starts (recordIn T) n
+    pub have-columns : HasColumns tags starts (recordAt q offsets) n → HasColumns tags starts (recordIn T) n
     have-columns h c l = subst (HasColumn tags starts) (sym (same c l)) (h c l)
 
     pub planned : (P : List ℕ) → Planned tags starts (recordIn T) P n → Planned tags starts (recordAt q offsets) P n

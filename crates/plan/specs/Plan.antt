@@ -1,4 +1,4 @@
--- The plan of a run: of each predicate all that its outcome at a row asks for, so that no row looks up a column.
+-- The plan of a run: of each predicate all that its outcomes ask for, so that no block looks up a column.
 use Prim.Native.Nat.{ℕ, _+_, _*_, _<_}
 use mathlib.Core.Path.{_≡_}
 use mathlib.Core.List.{List}
@@ -38,11 +38,11 @@ accessOf tags starts r = record { tag = getD tags (r .column) 0; start = getD st
 abbrev pub HasColumn : (tags starts : List ℕ) → PredicateRecord → Type 0
 HasColumn tags starts r = (r .column < length tags) × (r .column < length starts)
 
-abbrev pub HaveColumns : (tags starts : List ℕ) → (records : ℕ → PredicateRecord) → (n : ℕ) → Type 0
-HaveColumns tags starts R n = (c : ℕ) → c < n → HasColumn tags starts (R c)
+abbrev pub HasColumns : (tags starts : List ℕ) → (records : ℕ → PredicateRecord) → (n : ℕ) → Type 0
+HasColumns tags starts R n = (c : ℕ) → c < n → HasColumn tags starts (R c)
 
 -- `after` is `before` with the access of c replaced
-pub record PutAccess (c : ℕ) (x : Access) (before after : List ℕ) : Type 0 where
+pub record AccessPut (c : ℕ) (x : Access) (before after : List ℕ) : Type 0 where
   pub here : accessAt after c ≡ x
   pub elsewhere : (d : ℕ) → (d ≡ c → ⊥) → accessAt after d ≡ accessAt before d
 

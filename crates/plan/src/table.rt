@@ -1,4 +1,4 @@
-// The plan of a run: five numbers for each predicate, filled once, so that no row looks up a column.
+// The plan of a run: five numbers for each predicate, filled once, so that no block looks up a column.
 use query::format::Predicate;
 use records::PredicateRecord;
 ghost use mathlib.Core.Path.{_≡_};
@@ -7,7 +7,7 @@ ghost use lib.ListN.{length};
 ghost use Rattle.query.specs.Format.{predicateLimit};
 ghost use Rattle.records.specs.Offsets.{HasFields};
 ghost use Rattle.records.specs.Table.{recordAt, HasRecord, recordIn};
-ghost use Rattle.plan.specs.Plan.{planSize, accessAt, accessOf, HasColumn, HaveColumns, PutAccess, Planned};
+ghost use Rattle.plan.specs.Plan.{planSize, accessAt, accessOf, HasColumn, HasColumns, AccessPut, Planned};
 
 pub struct Plan;
 
@@ -15,13 +15,13 @@ impl Plan {
     // The numbers of a predicate: its column's tag and start, its kind, its operand's place and size.
     pub const WIDTH: usize = 5;
 
-    pub const TABLE: usize = Plan::WIDTH * Predicate::LIMIT;
+    pub const TABLE_SIZE: usize = Plan::WIDTH * Predicate::LIMIT;
 }
 
 // Writes down where the outcome of predicate c comes from.
 fn put_access(tags: &[u8], starts: &[usize], r: PredicateRecord, c: usize, plan: &mut [usize])
     requires { ⌜ (c < predicateLimit) × (length (now plan) ≡ planSize) × HasColumn (now tags) (now starts) r ⌝ }
-    ensures { λ _. ⌜ PutAccess c (accessOf (now (tags .entry)) (now (starts .entry)) r) (now (plan .entry)) (now (plan .exit)) ⌝ }
+    ensures { λ _. ⌜ AccessPut c (accessOf (now (tags .entry)) (now (starts .entry)) r) (now (plan .entry)) (now (plan .exit)) ⌝ }
 {
     let i = Plan::WIDTH * c;
     let column = fields::number::widen(r.column);
@@ -56,7 +56,7 @@ fn plan_records(
     n: usize,
     plan: &mut [usize],
 )
-    requires { ⌜ (n ≤ predicateLimit) × (n ≤ length (now table)) × (length (now plan) ≡ planSize) × HaveColumns (now tags) (now starts) (recordIn (now table)) n ⌝ }
+    requires { ⌜ (n ≤ predicateLimit) × (n ≤ length (now table)) × (length (now plan) ≡ planSize) × HasColumns (now tags) (now starts) (recordIn (now table)) n ⌝ }
     ensures { λ _. ⌜ Planned (now (tags .entry)) (now (starts .entry)) (recordIn (now (table .entry))) (now (plan .exit)) n ⌝ }
 {
     let mut c: usize = 0;
@@ -76,7 +76,7 @@ pub fn fill_plan(
     n: usize,
     plan: &mut [usize],
 )
-    requires { ⌜ HasFields (now q) (now offsets) n × (length (now plan) ≡ planSize) × HaveColumns (now tags) (now starts) (recordAt (now q) (now offsets)) n ⌝ }
+    requires { ⌜ HasFields (now q) (now offsets) n × (length (now plan) ≡ planSize) × HasColumns (now tags) (now starts) (recordAt (now q) (now offsets)) n ⌝ }
     ensures { λ _. ⌜ Planned (now (tags .entry)) (now (starts .entry)) (recordAt (now (q .entry)) (now (offsets .entry))) (now (plan .exit)) n ⌝ }
 {
     let mut table = [PredicateRecord {

@@ -1,6 +1,6 @@
 // The outcome of a predicate at a row.
 ghost use mathlib.Core.Path.{_≡_};
-ghost use Rattle.predicate.specs.Meaning.{yesIf, opposite, truth};
+ghost use Rattle.predicate.specs.Meaning.{yesIf, opposite};
 
 pub enum Outcome {
     No,
@@ -19,15 +19,5 @@ pub fn opposite_of(a: Outcome) -> Outcome
     match a {
         Outcome::No => Outcome::Yes,
         Outcome::Yes => Outcome::No,
-    }
-}
-
-// What a run takes an outcome for.
-pub fn truth_of(a: Outcome) -> bool
-    ensures { λ r. ⌜ r ≡ truth a ⌝ }
-{
-    match a {
-        Outcome::No => false,
-        Outcome::Yes => true,
     }
 }

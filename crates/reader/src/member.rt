@@ -33,7 +33,7 @@ pub fn read_member(
             end: stop,
         } => {
             offsets[n] = at;
-            ancestors[Ancestors::WIDTH * n] = 0;
+            ancestors[Ancestors::LINE_SIZE * n] = 0;
             Progress::Next { at: stop, n: n + 1 }
         }
         MemberField::Group {

@@ -1,4 +1,4 @@
--- The table of predicates: "a table of records: column, kind, operand's place (from the question's first byte) and length".
+-- Document 01: "a table of records: column, kind, operand's place (from the question's first byte) and length".
 use Prim.Native.Nat.{ℕ, zero, suc, _+_, _-_, _<_}
 use mathlib.Core.Path.{_≡_}
 use mathlib.Core.List.{List, [], _∷_, _++_}

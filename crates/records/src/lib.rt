@@ -1,4 +1,4 @@
-// The table of predicates: a record for each, in the order of the predicates.
+// The table of records: one for each predicate, in their order.
 use fields::header::Header;
 use payload::Payload;
 ghost use mathlib.Core.Path.{_≡_};
@@ -9,7 +9,7 @@ ghost use Rattle.predicate.specs.Payload.{payloadHead};
 ghost use Rattle.records.specs.Offsets.{HasFields};
 ghost use Rattle.records.specs.Table.{recordOf, recordAt, HasRecord, recordsOf};
 
-// Document 01's condition: the operand is the len bytes of the query from place on.
+// Document 01's record of a condition: the operand is the len bytes of the query from place on.
 pub struct PredicateRecord {
     pub column: u8,
     pub kind: u8,

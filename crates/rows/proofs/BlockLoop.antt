@@ -24,7 +24,7 @@ use Rattle.query.specs.Format.{predicateLimit}
 use Rattle.ancestors.specs.Ancestors.{ancestorsOf}
 use Rattle.blocks.specs.Block.{rowLive, rowStep, Propagated, HasAncestors}
 use Rattle.plan.specs.Plan.{accessAt}
-use Rattle.plan.specs.Access.{HasOutcomes, MetIs}
+use Rattle.access.specs.Access.{HasOutcomes, MetIs}
 use Rattle.rows.specs.declared.block.Block.{Block}
 use Rattle.rows.specs.Task.{Task, predicateAt, turnsOf, told}
 use Rattle.rows.specs.Ready.{Slices, Ready}
@@ -64,7 +64,7 @@ module _ {G : Slices} {B : Block} where
     pub turning-end : length (G .turns) ≤ i → BlockWorked G B sel P₀ P
     turning-end h n T R I = block-end T B (subst (λ (l : List ℕ). length l ≤ i) (R .turns) h) (W .working n T R I)
 
-    -- the turn of place i is predicate c's
+    -- turn i is predicate c's
     module _ (c : ℕ) (c-is : c ≡ getD (G .turns) i 0) (lt : i < length (G .turns)) where
       pub turn-few : BlockReady G B → c < predicateLimit
       turn-few (n, T, R, I) = let f = R .few in let l = ready-turn i R lt in omega arith

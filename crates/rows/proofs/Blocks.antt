@@ -81,7 +81,7 @@ module _ (T : Task) (B : Block) where
       done d l =
           ap (λ (cs : List ℕ). work (T .query .tree) (told T (B .base + d)) cs (rowNow B L sel P d)) (sym (drop-of-length-le (turnsOf T) h)) ∙ W .rows d l
 
-  -- the turn of place i
+  -- turn i
   module _ {i sel : ℕ} {L P₀ P : List ℕ} (W : Working T B i L sel P₀ P) (lt : i < length (turnsOf T)) where
     abbrev c : ℕ
     c = getD (turnsOf T) i 0

@@ -22,8 +22,8 @@ use Rattle.records.specs.Table.{recordAt, predicateIn}
 use Rattle.reader.specs.Tables.{Tables}
 use Rattle.reader.specs.QueryRead.{Tabled}
 use Rattle.records.proofs.Records.{predicates-at}
-use Rattle.plan.specs.Plan.{planSize, accessAt, accessOf, HaveColumns, Planned}
-use Rattle.plan.specs.Access.{Accessed}
+use Rattle.plan.specs.Plan.{planSize, accessAt, accessOf, HasColumns, Planned}
+use Rattle.access.specs.Access.{Accessed}
 use Rattle.rows.specs.Task.{predicateAt}
 use Rattle.rows.specs.Ready.{slices, Ready}
 
@@ -34,7 +34,7 @@ module _ {b q : List ℕ} {l : Layout} {C : Catalogue} {Q : Query} {n : ℕ} {T 
   column-inside c k = omega (arith, read .each c k .column, tags-length (C .columns))
 
   -- what `fill_plan` asks of the tables
-  pub have-columns : HaveColumns (l .tags) (l .starts) (recordAt q (T .offsets)) n
+  pub have-columns : HasColumns (l .tags) (l .starts) (recordAt q (T .offsets)) n
   have-columns c k =
       let inside : recordAt q (T .offsets) c .column < columnLimit = omega (arith, column-inside c k, laid .columns, laid .few) in
       (omega (arith, laid .tags-size), omega (arith, laid .starts-size))

@@ -11,7 +11,7 @@ use Rattle.strategy.specs.Propagation.{enclosing}
 use Rattle.query.specs.Format.{predicateLimit}
 use Rattle.ancestors.specs.Ancestors.{ancestorsSize, ancestorsOf, Low, Spans}
 use Rattle.plan.specs.Plan.{accessAt, planSize}
-use Rattle.plan.specs.Access.{Accessed}
+use Rattle.access.specs.Access.{Accessed}
 use Rattle.rows.specs.Task.{Task, predicateAt, turnsOf}
 
 -- the slices that a run reads

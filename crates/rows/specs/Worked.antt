@@ -13,7 +13,7 @@ use Rattle.bitmaps.specs.Bitmap.{bytesFor, bitmap, bitmaps}
 use Rattle.bitmaps.specs.Table.{lineSize, lineBits, linesOf, HoldsBits}
 use Rattle.bitmaps.specs.Word.{blockRows}
 use Rattle.query.specs.Format.{predicateLimit}
-use Rattle.plan.specs.Access.{RowsIn}
+use Rattle.access.specs.Access.{RowsIn}
 use Rattle.rows.specs.declared.block.Block.{Block}
 use Rattle.rows.specs.declared.all.Extent.{Extent}
 use Rattle.rows.specs.Task.{Task, turnsOf, told, isSelected, isProbed}

@@ -31,7 +31,7 @@ pub fn work_rows(
     let start = extent.start;
     let mut base: usize = 0;
     while base < rows {
-        // The last block has fewer rows.
+        // The last block may have fewer rows.
         let part = bitmaps::word::rows_of(rows - base);
         let block = Block {
             base,

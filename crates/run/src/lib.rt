@@ -19,7 +19,7 @@ pub fn run_question(
     ensures { λ r. ⌜ (ran (packed r) (now (listed .exit)) (now (looks .exit)) (now (tally .exit)) ≡ runOf (lent (now (catalogue .entry)) (now (question .entry)) (now (order .entry)) (now (listed .entry)) (now (looks .entry)) (now (tally .entry)))) × FitsWord r ⌝ }
 {
     let mut offsets = [0usize; Predicate::LIMIT];
-    let mut ancestors = [0u8; Ancestors::TABLE];
+    let mut ancestors = [0u8; Ancestors::TABLE_SIZE];
     let begun = input::begin::begin(catalogue, question, &mut offsets, &mut ancestors);
     let refusal = begun.refusal;
     if refusal != 0 {

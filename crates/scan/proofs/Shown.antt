@@ -25,7 +25,7 @@ use Rattle.sets.specs.Kept.{KeptBy, Sifted}
 use Rattle.sets.specs.KeptLaws.{sift-kept, kept-same, kept-others}
 use Rattle.filters.specs.Block.{HasDueRows, slotOf, textOf}
 use Rattle.scan.specs.declared.range.Range.{Range}
-use Rattle.scan.specs.Met.{RangeFor, ShownRows, HasRows, MetAt, PlainMetAt, within}
+use Rattle.scan.specs.Met.{RangeFor, ShownRows, HasRows, MetFor, PlainMetFor, within}
 use Rattle.scan.proofs.Ranges.{text-fits, width-fits, number-means}
 
 abbrev pub numberOf : List ℕ → (start row : ℕ) → ℕ
@@ -103,7 +103,7 @@ module _ {b : List ℕ} {start base kind : ℕ} {o : List ℕ} {due plain : ℕ}
 
   -- and what they answer, as the column has it
   module _ (r : ℕ) where
-    pub numbers-met : {g : Range} → RangeFor plain o g → plain ≤ numberBlankKind → KeptBy (λ d. within (g .low) (g .width) (numberOf b start (base + d))) due r → PlainMetAt b start base kind o due r
+    pub numbers-met : {g : Range} → RangeFor plain o g → plain ≤ numberBlankKind → KeptBy (λ d. within (g .low) (g .width) (numberOf b start (base + d))) due r → PlainMetFor b start base kind o due r
     numbers-met P l K rows tag (numbers ns) R =
         kept-same _ _ due r
         (λ d m. number-means P (fits R) l (numberOf b start (base + d)) ∙ ap (λ (j : ℕ). numberTest j o (numberOf b start (base + d))) k
@@ -112,7 +112,7 @@ module _ {b : List ℕ} {start base kind : ℕ} {o : List ℕ} {due plain : ℕ}
     numbers-met P l K rows tag (texts ts) R =
         let e = number-kind tag (plainKind kind) (R .kind-fits) (omega arith) in let f : tag ≡ textTag = R .shown .0 in absurd (omega arith)
 
-    pub texts-met : numberBlankKind < plain → KeptBy (λ d. textTest plain o (textOf b start (base + d))) due r → PlainMetAt b start base kind o due r
+    pub texts-met : numberBlankKind < plain → KeptBy (λ d. textTest plain o (textOf b start (base + d))) due r → PlainMetFor b start base kind o due r
     texts-met l K rows tag (numbers ns) R =
         let e = text-kind tag (plainKind kind) (R .kind-fits) (omega arith) in let f : tag ≡ numberTag = R .shown .0 in absurd (omega arith)
     texts-met l K rows tag (texts ts) R =
@@ -121,21 +121,21 @@ module _ {b : List ℕ} {start base kind : ℕ} {o : List ℕ} {due plain : ℕ}
         ∙ ap (textTest (plainKind kind) o) (text-shown b start (base + d) rows ts (refl, R .shown .1, R .shown .2, R .shown .3) (R .inside d m))
         ∙ sym (truth-of (textTest (plainKind kind) o (getD ts (base + d) [])))) K
 
-    pub blanks-met : plain ≡ textBlankKind → KeptBy (λ d. textBlank (textOf b start (base + d))) due r → PlainMetAt b start base kind o due r
+    pub blanks-met : plain ≡ textBlankKind → KeptBy (λ d. textBlank (textOf b start (base + d))) due r → PlainMetFor b start base kind o due r
     unfolding textTest
     blanks-met e K = texts-met (omega arith) (kept-same _ (λ d. textTest plain o (textOf b start (base + d))) due r (λ d m. rw e) K)
 
     pub sifted-met : (may : ℕ) → numberBlankKind < plain → Sifted (λ d. textTest plain o (textOf b start (base + d))) due may
-        → KeptBy (λ d. textTest plain o (textOf b start (base + d))) may r → PlainMetAt b start base kind o due r
+        → KeptBy (λ d. textTest plain o (textOf b start (base + d))) may r → PlainMetFor b start base kind o due r
     sifted-met may l S K = texts-met l (sift-kept r S K)
 
 -- a kind below the opposites, and an opposite one
-module _ {b : List ℕ} {start base kind : ℕ} {o : List ℕ} {due : ℕ} (r : ℕ) (K : PlainMetAt b start base kind o due r) where
-  pub plain-met : kind < oppositeFrom → MetAt b start base kind o due r
+module _ {b : List ℕ} {start base kind : ℕ} {o : List ℕ} {due : ℕ} (r : ℕ) (K : PlainMetFor b start base kind o due r) where
+  pub plain-met : kind < oppositeFrom → MetFor b start base kind o due r
   unfolding outcomeOf
   plain-met h rows tag c R = rw (lt-ltb kind oppositeFrom h) (K rows tag c R)
 
-  pub opposite-met : oppositeFrom ≤ kind → MetAt b start base kind o due (bitXor due r)
+  pub opposite-met : oppositeFrom ≤ kind → MetFor b start base kind o due (bitXor due r)
   unfolding outcomeOf
   opposite-met h rows tag c R =
       rw (le-ltb kind oppositeFrom h)

@@ -30,14 +30,14 @@ abbrev pub HasRows : List ℕ → (start base kind : ℕ) → (operand : List �
 HasRows b start base kind o due = (rows : ℕ) × (tag : ℕ) × (c : Column) × ShownRows b start base kind o due rows tag c
 
 -- the due rows at which the outcome is yes, for whatever column is shown there
-abbrev pub MetAt : List ℕ → (start base kind : ℕ) → (operand : List ℕ) → (due r : ℕ) → Type 0
-MetAt b start base kind o due r =
+abbrev pub MetFor : List ℕ → (start base kind : ℕ) → (operand : List ℕ) → (due r : ℕ) → Type 0
+MetFor b start base kind o due r =
     (rows tag : ℕ) (c : Column) → ShownRows b start base kind o due rows tag c →
     KeptBy (λ d. truth (outcomeOf c kind o (base + d))) due r
 
 -- the same of the kind below the opposites
-abbrev pub PlainMetAt : List ℕ → (start base kind : ℕ) → (operand : List ℕ) → (due r : ℕ) → Type 0
-PlainMetAt b start base kind o due r =
+abbrev pub PlainMetFor : List ℕ → (start base kind : ℕ) → (operand : List ℕ) → (due r : ℕ) → Type 0
+PlainMetFor b start base kind o due r =
     (rows tag : ℕ) (c : Column) → ShownRows b start base kind o due rows tag c →
     KeptBy (λ d. truth (plainOf c (plainKind kind) o (base + d))) due r
 

@@ -1,7 +1,7 @@
 // The due rows at which a predicate's outcome is yes, the kind looked at once.
 use predicate::kind::Kind;
 ghost use Rattle.predicate.specs.Outcome.{Folds};
-ghost use Rattle.scan.specs.Met.{HasRows, PlainMetAt, MetAt};
+ghost use Rattle.scan.specs.Met.{HasRows, PlainMetFor, MetFor};
 
 // Of the kind below the opposites. What a leaf takes of the operand is worked out for each block: a table of it is no faster.
 fn plain_met_at(
@@ -14,7 +14,7 @@ fn plain_met_at(
     due: u64,
 ) -> u64
     requires { ⌜ Folds (now table) × HasRows (now b) start base kind (now operand) due ⌝ }
-    ensures { λ r. ⌜ PlainMetAt (now (b .entry)) start base kind (now (operand .entry)) due r ⌝ }
+    ensures { λ r. ⌜ PlainMetFor (now (b .entry)) start base kind (now (operand .entry)) due r ⌝ }
 {
     let plain = predicate::kind::plain_kind(kind);
     if plain <= Kind::NUMBER_BLANK {
@@ -38,7 +38,7 @@ pub fn met_at(
     due: u64,
 ) -> u64
     requires { ⌜ Folds (now table) × HasRows (now b) start base kind (now operand) due ⌝ }
-    ensures { λ r. ⌜ MetAt (now (b .entry)) start base kind (now (operand .entry)) due r ⌝ }
+    ensures { λ r. ⌜ MetFor (now (b .entry)) start base kind (now (operand .entry)) due r ⌝ }
 {
     let met = plain_met_at(table, b, start, base, kind, operand, due);
     if kind < Kind::OPPOSITE_FROM {

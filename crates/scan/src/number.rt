@@ -24,7 +24,7 @@ fn bit_within(b: &[u8], start: usize, row: usize, low: u32, width: u32) -> u64
     ensures { λ r. ⌜ (r ≡ bitOf (within low width (numberAt (now (b .entry)) (start + numberSize * row) numberSize))) × (r ≤ 1) ⌝ }
 {
     let n = catalogue::column::number_at(b, start, row);
-    if is_within(low, width, n) { 1 } else { 0 }
+    sets::bit(is_within(low, width, n))
 }
 
 // The eight rows from one on.
@@ -42,7 +42,7 @@ fn eight_within(b: &[u8], start: usize, row: usize, low: u32, width: u32) -> u64
         + 128 * bit_within(b, start, row + 7, low, width)
 }
 
-// The rows of a whole block, straight through: half the time of a loop over the bits of a word.
+// The rows of a whole block, straight through, eight at a time.
 fn all_within(b: &[u8], start: usize, base: usize, low: u32, width: u32) -> u64
     requires { ⌜ HasDueRows (now b) numberTag start base (belowSet 64) × (low + width < 2 ^ 32) ⌝ }
     ensures { λ r. ⌜ KeptBy (λ d. within low width (numberAt (now (b .entry)) (start + numberSize * (base + d)) numberSize)) (belowSet 64) r ⌝ }

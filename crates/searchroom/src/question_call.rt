@@ -11,7 +11,7 @@ fn check_question(catalogue: &[u8], question: &[u8]) -> Answer
     ensures { λ r. ⌜ Answered (questionAnswer (decodeInput (now (catalogue .entry)) (now (question .entry)))) r ⌝ }
 {
     let mut offsets = [0usize; Predicate::LIMIT];
-    let mut ancestors = [0u8; Ancestors::TABLE];
+    let mut ancestors = [0u8; Ancestors::TABLE_SIZE];
     let begun = input::begin::begin(catalogue, question, &mut offsets, &mut ancestors);
     let refusal = begun.refusal;
     if refusal != 0 {

@@ -72,7 +72,7 @@ fn slots_are_within(limits: &[u64], b: &[u8], at: usize, n: usize) -> bool
     true
 }
 
-// The same, with the table.
+// The same, with a table of limits of its own.
 pub fn slots_are_valid(b: &[u8], at: usize, n: usize) -> bool
     requires { ⌜ at + slotSize * n ≤ length (now b) ⌝ }
     ensures { λ r. ⌜ r ≡ validSlots (now (b .entry)) at n ⌝ }

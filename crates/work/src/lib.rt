@@ -29,7 +29,7 @@ pub fn work(
     let n = begun.n;
     let tags = begun.tags;
     let starts = begun.starts;
-    let mut plan = [0usize; Plan::TABLE];
+    let mut plan = [0usize; Plan::TABLE_SIZE];
     plan::table::fill_plan(&tags, &starts, question, offsets, n, &mut plan);
     let extent = Extent {
         rows: begun.rows,

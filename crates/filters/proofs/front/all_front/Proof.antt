@@ -1,3 +1,4 @@
+-- `all_front` meets its contract: at d, the rows from d on are gathered.
 use Prim.Native.Nat.{_+_, _-_}
 use native.Mathlib.Omega.{arith}
 use mathlib.Core.Path.{ap, _∙_}

@@ -1,3 +1,4 @@
+-- `head_of` meets its contract: the bytes put together one after the other.
 use Prim.Native.Nat.{_-_}
 use native.Mathlib.Omega.{arith}
 use mathlib.Core.Path.{refl}

@@ -1,3 +1,4 @@
+-- `all_windows` meets its contract: at d, the rows from d on are gathered.
 use Prim.Native.Nat.{_+_, _-_}
 use native.Mathlib.Omega.{arith}
 use mathlib.Core.Path.{ap, _∙_}
@@ -5,7 +6,7 @@ use Rattle.catalogue.proofs.Rows.{has-text}
 use Rattle.sets.specs.SetLaws.{below-has}
 use Rattle.sets.specs.Gathered.{bitOf, Gathering, gathering-none, gathering-small, gathering-next, gathering-end}
 use Rattle.filters.specs.Block.{slotOf}
-use Rattle.filters.specs.Filter.{windowsPass}
+use Rattle.filters.specs.Windows.{windowsPass}
 use borrow.Author.Needs.{needs}
 use Rattle.filters.proofs.windows.all_windows.Statement.{statement}
 use Rattle.filters.proofs.windows.all_windows.Tie as tie

@@ -56,7 +56,7 @@ use Rattle.records.proofs.tabulate as tabulate
 use Rattle.records.proofs.tabulate.Symbol as tabulate-def
 use Rattle.records.proofs.tabulate.Symbol.{name as #records·tabulate}
 use Rattle.records.proofs.tabulate.Met as tabulate-thm
-use Rattle.plan.specs.Plan.{planSize, HaveColumns, Planned}
+use Rattle.plan.specs.Plan.{planSize, HasColumns, Planned}
 use Rattle.plan.proofs.RecordArray.{R, Table, table-mir, mach, blank, blank-size, blank-mach, blank-is, none-is, made-typed, lies-out, lies-in, parts-out, parts-in}
 use Rattle.plan.proofs.Recorded.{have-columns, planned}
 use Rattle.plan.proofs.table.plan_records as plan-records
@@ -110,7 +110,7 @@ module _ {M : Type 1} (𝓤 : URA M) (H : Heap 𝓤) (A : Atoms 𝓤) (mem′ : 
 module _ {M : Type 1} (𝓤 : URA M) (H : Heap 𝓤) (A : Atoms 𝓤) (W : Given 𝓤 H A) (mem′ : Memory → SProp 𝓤) (run : Routine → Fun 𝓤) (κ₀ κ₁ κ₂ κ₃ κ₄ : Lft) (q₀ q₁ q₂ q₃ q₄ : Share) (tags starts q offsets : RefT (List ℕ)) (n : ℕ) (plan : RefT (List ℕ)) where
   -- ---- what the three contracts say: the `requires` of `fill_plan`, the `ensures` of `tabulate` and of `plan_records` at the table ts, and the `ensures` of `fill_plan`
   abbrev Asked : Type 0
-  Asked = HasFields (q .now) (offsets .now) n × (length (plan .now) ≡ planSize) × HaveColumns (tags .now) (starts .now) (recordAt (q .now) (offsets .now)) n
+  Asked = HasFields (q .now) (offsets .now) n × (length (plan .now) ≡ planSize) × HasColumns (tags .now) (starts .now) (recordAt (q .now) (offsets .now)) n
 
   abbrev Tabulated : List PredicateRecord → Type 0
   Tabulated ts = ts ≡ recordsOf (q .now) (offsets .now) n ++ dropN n blank
@@ -126,7 +126,7 @@ module _ {M : Type 1} (𝓤 : URA M) (H : Heap 𝓤) (A : Atoms 𝓤) (W : Given
   can-tabulate f = (f .0, subst (λ (m : ℕ). n ≤ m) (sym blank-size) (f .0 .few))
 
   can-plan : (ts : List PredicateRecord) → Asked → Tabulated ts → length ts ≡ predicateLimit
-      → (n ≤ predicateLimit) × (n ≤ length ts) × (length (plan .now) ≡ planSize) × HaveColumns (tags .now) (starts .now) (recordIn ts) n
+      → (n ≤ predicateLimit) × (n ≤ length ts) × (length (plan .now) ≡ planSize) × HasColumns (tags .now) (starts .now) (recordIn ts) n
   can-plan ts f t e = (f .0 .few, subst (λ (m : ℕ). n ≤ m) (sym e) (f .0 .few), f .1, have-columns (q .now) (offsets .now) ts blank n t (tags .now) (starts .now) (f .2))
 
   answers : (ts : List PredicateRecord) (ps : List ℕ) → Tabulated ts → Filled ts ps → Answered ps

@@ -52,7 +52,7 @@ use Rattle.query.specs.Format.{predicateLimit}
 use Rattle.records.specs.Table.{noRecord, recordIn}
 use Rattle.records.proofs.PredicateRecord as T
 use Rattle.records.proofs.PredicateRecord.Laws as T′
-use Rattle.plan.specs.Plan.{planSize, accessOf, HasColumn, HaveColumns, PutAccess, Planned}
+use Rattle.plan.specs.Plan.{planSize, accessOf, HasColumn, HasColumns, AccessPut, Planned}
 use Rattle.plan.proofs.Again.{LentAgain, lends-again, comes-back}
 use Rattle.plan.proofs.Plans.{Stage, Nearer, nearer, nearer-wf, begun, put-on, planned-end}
 use Rattle.plan.proofs.table.put_access as put-access
@@ -195,7 +195,7 @@ module _ {M : Type 1} (𝓤 : URA M) (H : Heap 𝓤) (A : Atoms 𝓤) (W : Given
 
   -- what it ensures: the list was l, and is l′
   abbrev Puts : ℕ → List ℕ → List ℕ → Type 0
-  Puts c l l′ = PutAccess c (accessOf (now tags) (now starts) (elem c)) l l′
+  Puts c l l′ = AccessPut c (accessOf (now tags) (now starts) (elem c)) l l′
 
   -- what it asks, from what is owned and its `requires`
   goes : (ν : ℕ) (δ : GName) (c : ℕ) (l : List ℕ) → c < predicateLimit → length l ≡ planSize → HasColumn (now tags) (now starts) (elem c)
@@ -209,7 +209,7 @@ module _ {M : Type 1} (𝓤 : URA M) (H : Heap 𝓤) (A : Atoms 𝓤) (W : Given
   -- what is known of `put_access`, what the types say of the parameters, and the `requires`
   module _ (𝓣 : Tables 𝓤 H) (known : Triple 𝓤 (𝓣 .C #plan·table·put-access) (Put 𝓤 H A mem run))
       (tags-room : Room u8 (length (now tags))) (starts-room : Room usize (length (now starts))) (table-room : Room R (length rs)) (n-fits : n < 2 ^ 64) (plan-room : Room usize (length ps))
-      (few : n ≤ predicateLimit) (inside : n ≤ length rs) (sized : length ps ≡ planSize) (have : HaveColumns (now tags) (now starts) (recordIn rs) n) where
+      (few : n ≤ predicateLimit) (inside : n ≤ length rs) (sized : length ps ≡ planSize) (have : HasColumns (now tags) (now starts) (recordIn rs) n) where
     abbrev C : Calls 𝓤 H
     C = 𝓣 .C
 
@@ -367,7 +367,7 @@ module _ {M : Type 1} (𝓤 : URA M) (H : Heap 𝓤) (A : Atoms 𝓤) (W : Given
   plan-records-walks 𝓣 known = walked 𝓤 H A plan-records.ended stayed (plan-records.clauses 𝓤 H A mem run) (WpFn 𝓤 H (𝓣 .C) (𝓣 .Λ) code.function)
       (λ κs. (slice-vals, (slice-vals, (slice-vals, (uint-vals w64, (slice-vals, tt))))))
       (λ κs. (shr-slice-tells (named 0) (κs .0) u8, (shr-slice-tells (named 1) (κs .1 .0) usize, (shr-slice-tells (named 2) (κs .1 .1 .0) R, (uint-tells w64, (mut-slice-tells (named 3) (κs .1 .1 .1 .0) usize, tt))))))
-      (λ κs qs bounds a g are. needs 𝓤 ((a .1 .1 .1 .0 ≤ predicateLimit) × (a .1 .1 .1 .0 ≤ length (a .1 .1 .0 .now)) × (length (a .1 .1 .1 .1 .0 .now) ≡ planSize) × HaveColumns (a .0 .now) (a .1 .0 .now) (recordIn (a .1 .1 .0 .now)) (a .1 .1 .1 .0)) _
+      (λ κs qs bounds a g are. needs 𝓤 ((a .1 .1 .1 .0 ≤ predicateLimit) × (a .1 .1 .1 .0 ≤ length (a .1 .1 .0 .now)) × (length (a .1 .1 .1 .1 .0 .now) ≡ planSize) × HasColumns (a .0 .now) (a .1 .0 .now) (recordIn (a .1 .1 .0 .now)) (a .1 .1 .1 .0)) _
       (λ asked. walk 𝓤 H A W mem run (κs .0) (κs .1 .0) (κs .1 .1 .0) (κs .1 .1 .1 .0) (qs .0) (qs .1 .0) (qs .1 .1 .0) (qs .1 .1 .1 .0) (a .0) (a .1 .0)
       (a .1 .1 .0 .ptr .0) (a .1 .1 .0 .ptr .1) (a .1 .1 .0 .name) (a .1 .1 .0 .now) (a .1 .1 .1 .0) (a .1 .1 .1 .1 .0 .ptr .0) (a .1 .1 .1 .1 .0 .ptr .1) (a .1 .1 .1 .1 .0 .name) (a .1 .1 .1 .1 .0 .now)
       𝓣 known (are .0 .0 .1) (are .1 .0 .0 .1) (are .1 .1 .0 .0 .1) (are .1 .1 .1 .0 .1) (are .1 .1 .1 .1 .0 .0 .1) (asked .0) (asked .1) (asked .2) (asked .3)))

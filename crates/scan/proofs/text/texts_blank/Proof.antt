@@ -1,7 +1,7 @@
 -- `texts_blank` meets its contract: a slot's head shows its text's length.
 use Prim.Native.Nat.{ℕ, _+_}
 use native.Mathlib.Omega.{arith}
-use mathlib.Core.Path.{_≡_, sym, ap, _∙_}
+use mathlib.Core.Path.{sym, ap, _∙_}
 use mathlib.Core.List.{List}
 use lib.Dec.{eqb}
 use Rattle.fields.specs.Numbers.{Bytes}
@@ -12,13 +12,13 @@ use Rattle.sets.specs.Kept.{KeptBy}
 use Rattle.sets.specs.KeptLaws.{kept-same}
 use Rattle.filters.specs.declared.head.Head.{Head}
 use Rattle.filters.specs.Block.{HasDueRows, slotOf, textOf}
-use Rattle.filters.specs.Head.{headPasses, BlankHead}
+use Rattle.filters.specs.Head.{headPasses, BlankHeadIs}
 use Rattle.filters.proofs.Found.{text-size}
 use borrow.Author.Needs.{needs}
 use Rattle.scan.proofs.text.texts_blank.Statement.{statement}
 use Rattle.scan.proofs.text.texts_blank.Tie as tie
 
-blanks-kept : (b : List ℕ) → Bytes b → (start base due r : ℕ) (k : Head) → HasDueRows b textTag start base due → BlankHead k → KeptBy (λ d. headPasses b (slotOf start (base + d)) k) due r
+blanks-kept : (b : List ℕ) → Bytes b → (start base due r : ℕ) (k : Head) → HasDueRows b textTag start base due → BlankHeadIs k → KeptBy (λ d. headPasses b (slotOf start (base + d)) k) due r
     → KeptBy (λ d. textBlank (textOf b start (base + d))) due r
 blanks-kept b bytes start base due r k D K =
     kept-same (λ d. headPasses b (slotOf start (base + d)) k) (λ d. textBlank (textOf b start (base + d))) due r
