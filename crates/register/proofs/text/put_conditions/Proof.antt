@@ -9,6 +9,7 @@ use Rattle.fields.specs.Output.{Wrote}
 use Rattle.register.specs.Writing.{conditionRoom}
 use Rattle.register.specs.RegisterLaws.{conditions-none, conditions-more, condition-row, row-short}
 use Rattle.bitmaps.proofs.Lines.{line-fits}
+use Rattle.register.proofs.Rooms.{one-more, conditions-left, next-row, still-long, end-inside, next-end}
 use Rattle.register.proofs.text.put_conditions.Statement.{statement}
 use Rattle.register.proofs.text.put_conditions.Tie as tie
 
@@ -43,14 +44,17 @@ add-c : tie.Need-add-c Inv-loop μ-loop
 add-c c = search needs
 
 loop-less : tie.Need-loop-less Inv-loop μ-loop
-loop-less c = search needs
+loop-less c = conditions-left (c .before .before .before .before .before .before .loop-test .taken)
 
 loop-again : tie.Need-loop-again Inv-loop μ-loop
 loop-again c =
-    let a = c .before .before .before .before .before .before .before .before .before .before .args in
-    let l = c .before .before .before .before .before .before .before .loop in
-    let wrote = condition-row (a .size) (l .c) (a .looks .now) (l .inv .1) (c .before .before .before .before .count-ones .ensures .0) (c .before .before .put-condition .ensures .0) in
-    (omega arith, omega arith, omega arith, conditions-more (a .size) (l .c) (a .looks .now) (omega arith) (l .inv .3) wrote, omega arith)
+    let t = c .before .before .before .before .before .before in
+    let l = t .before .loop in
+    let s = t .before .before .before .before in
+    let a = s .args in
+    let put = c .before .before .put-condition in
+    let wrote = condition-row (a .size) (l .c) (a .looks .now) (l .inv .1) (c .before .before .before .before .count-ones .ensures .0) (put .ensures .0) in
+    (one-more (t .loop-test .taken), next-row (l .c) (a .size) (l .inv .1), still-long (put .kept .0) (l .inv .2), conditions-more (a .size) (l .c) (a .looks .now) (end-inside (a .at) (l .c) (l .inv .4) (t .loop-test .taken) (s .pre .2)) (l .inv .3) wrote, next-end (a .at) (l .c) (l .inv .4) (put .ensures .1))
 
 same-length : tie.Need-same-length Inv-loop μ-loop
 same-length c = search needs

@@ -1,6 +1,6 @@
 -- `write_accepted` meets its contract: the five parts, one behind the other.
-use native.Mathlib.Omega.{arith}
 use Rattle.register.specs.RegisterLaws.{accepted-end}
+use Rattle.register.proofs.Rooms.{still-long, four-kept, room-left, front-inside, as-much, size-short}
 use borrow.Author.Needs.{needs}
 use Rattle.register.proofs.text.write_accepted.Statement.{statement}
 use Rattle.register.proofs.text.write_accepted.Tie as tie
@@ -27,10 +27,23 @@ bytes-for-requires : tie.Need-bytes-for-requires
 bytes-for-requires c κs = search needs
 
 put-conditions-requires : tie.Need-put-conditions-requires
-put-conditions-requires c κs = (omega arith, rw (c .bytes-for .ensures) (c .before .before .before .before .before .before .before .before .before .before .before .before .before .before .before .before .before .before .before .before .before .before .before .pre .1), omega arith)
+put-conditions-requires c κs =
+    let second-line = c .before .before .before .before in
+    let entries = second-line .before .before .before .before .before in
+    let first-line = entries .before .before .before .before in
+    let header = first-line .before .before .before .before .before in
+    let s = header .before .before .before .before .before in
+    let kept = four-kept (header .put-header .kept .0) (first-line .put-line .kept .0) (entries .put-entries .kept .0) (second-line .put-line2 .kept .0) in
+    let room = room-left _ (s .args .n) (header .put-header .ensures .place) (first-line .put-line .ensures .1) (entries .put-entries .ensures .1) (second-line .put-line2 .ensures .1) (s .pre .2) in
+    (size-short (s .args .rows) (s .args .n) (c .bytes-for .ensures) (s .pre .2) (s .good .1 .1 .1 .1 .1 .1 .0 .0), rw (c .bytes-for .ensures) (s .pre .1), as-much kept room)
 
 same-length : tie.Need-same-length
-same-length c = search needs
+same-length c =
+    let second-line = c .before .before .before .before .before .before .before in
+    let entries = second-line .before .before .before .before .before in
+    let first-line = entries .before .before .before .before in
+    let header = first-line .before .before .before .before .before in
+    still-long (c .before .before .put-conditions .kept .0) (four-kept (header .put-header .kept .0) (first-line .put-line .kept .0) (entries .put-entries .kept .0) (second-line .put-line2 .kept .0))
 
 returns : tie.Need-returns
 returns c =
@@ -38,7 +51,9 @@ returns c =
     let at-entries = at-second-line .before .before .before .before .before in
     let at-first-line = at-entries .before .before .before .before in
     let at-header = at-first-line .before .before .before .before .before in
-    accepted-end _ _ _ _ _ _ (c .before .before .before .bytes-for .ensures) (omega arith) (at-header .put-header .ensures) (at-first-line .put-line .ensures .0) (at-entries .put-entries .ensures .0) (at-second-line .put-line2 .ensures .0) (c .before .before .put-conditions .ensures .0)
+    let s = at-header .before .before .before .before .before in
+    let room = room-left _ (s .args .n) (at-header .put-header .ensures .place) (at-first-line .put-line .ensures .1) (at-entries .put-entries .ensures .1) (at-second-line .put-line2 .ensures .1) (s .pre .2) in
+    accepted-end _ _ _ _ _ _ (c .before .before .before .bytes-for .ensures) (front-inside (s .args .n) room) (at-header .put-header .ensures) (at-first-line .put-line .ensures .0) (at-entries .put-entries .ensures .0) (at-second-line .put-line2 .ensures .0) (c .before .before .put-conditions .ensures .0)
 
 pub write-accepted-spec : {M : Type 1} → statement M
 write-accepted-spec =
