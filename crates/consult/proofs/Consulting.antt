@@ -18,6 +18,10 @@ counts n space l = (l, sym (length-take-le n space l))
 pub part-inside : (at n : ℕ) (space part : List ℕ) → at ≤ length space → length part ≡ length (take (length space - at) (drop at space)) → n ≤ length part → at + n ≤ length space
 part-inside at n space part l e h = omega (arith, h, simp (length-take, length-drop) at e)
 
+-- a part of so many bytes as were read, in a space that keeps its length
+pub part-short : {n m space limit : ℕ} → n ≡ m → n ≤ space → space ≡ limit → m ≤ limit
+part-short e l k = omega arith
+
 -- a text at the front of an output is so many bytes of it
 front-counts : (text out new : List ℕ) (r : ℕ) → Printed text out r new → Counts r new
 front-counts text out new r h = counts r new (omega (arith, ap length (h .0), length-append text (drop (length text) out)))

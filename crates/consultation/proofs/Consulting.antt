@@ -33,6 +33,10 @@ pub laid-few : (b : List ℕ) (l : Layout) (d : Decoded Catalogue) → LaidOut b
 laid-few b l (refused e) h = omega arith
 laid-few b l (accepted c) h = h .short
 
+-- what keeps its length
+pub as-long : {m n : ℕ} → n ≡ m → m ≤ n
+as-long e = omega arith
+
 pub has-room : (rows n a b o : ℕ) → rows ≤ rowLimit → n ≤ predicateLimit → listedSize ≤ a → looksSize ≤ b → longest ≤ o
     → (bytesFor rows ≤ a) × (n * bytesFor rows ≤ b) × (roomFor rows n ≤ o)
 has-room rows n a b o h l e f g = (omega arith, omega (arith, mul-le-mul-right (bytesFor rows) l), omega arith)
@@ -106,9 +110,11 @@ module _ (b q order : List ℕ) where
         forms (inr (e, x)) =
             refused-text rows (length order) e after (broken-gives lent e (badForm x) .1) (broken-number lent e (badForm x) .0) ∙ sym (broken-text e (badForm x))
 
+    -- what is printed of the three numbers in the word
     pub consulted : (listed looks tally out new : List ℕ) (w n : ℕ) → ran w listed looks tally ≡ after
-        → register.Printed (registerOfRun rows (length order) (ran w listed looks tally)) out n new → register.Printed (consultationOf b q order) out n new
-    consulted listed looks tally out new w n e h =
+        → {number found looked : ℕ} → number ≡ numberIn w → found ≡ firstIn w → looked ≡ thirdIn w
+        → register.Printed (register.registerOf number found looked rows (length order) listed looks) out n new → register.Printed (consultationOf b q order) out n new
+    consulted listed looks tally out new w n e f g k h =
         let same : registerOfRun rows (length order) (ran w listed looks tally) ≡ consultationOf b q order =
         ap (registerOfRun rows (length order)) e ∙ written-is in
-        rw same at h
+        rw same at (rw (f, g, k) at h)

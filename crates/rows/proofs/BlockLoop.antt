@@ -1,5 +1,5 @@
 -- The loop over the turns of a block, as the code has it: its state, what each call asks, and what each turn leaves.
-use Prim.Native.Nat.{ℕ, _+_, _*_, _/_, _≤_, _<_}
+use Prim.Native.Nat.{ℕ, _+_, _-_, _*_, _/_, _≤_, _<_}
 use native.Mathlib.Omega.{arith}
 use mathlib.Core.Path.{_≡_, refl, sym, ap, _∙_, subst}
 use mathlib.Core.Bool.{Bool, true, false, cond}
@@ -45,6 +45,12 @@ ready-once {G} {n} {T} R = subst Once (R .turns) (order-law n (G .turns) .0 (R .
 -- a turn is a predicate's
 ready-turn : {G : Slices} {n : ℕ} {T : Task} (i : ℕ) → Ready G n T → i < length (G .turns) → getD (G .turns) i 0 < n
 ready-turn {G} {n} i R h = order-law n (G .turns) .0 (R .ordered) .inside (getD (G .turns) i 0) (among-at (G .turns) i h)
+
+pub turns-left : {i n : ℕ} → i < n → n - (i + 1) < n - i
+turns-left h = omega arith
+
+pub in-words : {c words : ℕ} → c < predicateLimit → words ≡ predicateLimit → c < words
+in-words few e = omega arith
 
 module _ {G : Slices} {B : Block} where
   pub turning-start : (Z L P : List ℕ) → ((c : ℕ) → getD Z c 0 ≡ 0) → length L ≡ predicateLimit → Filled (B .start) (B .rows) Z L → HasNoMarks B P → Turning G B 0 L 0 P P

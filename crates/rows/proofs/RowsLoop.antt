@@ -211,6 +211,9 @@ blocking-start s p = record {
   done = λ n T R X. record { selected = none-before (selection T) s; probed = none-before (probing n T) p };
 }
 
+pub rows-left : {base rows : ℕ} → base < rows → rows - (base + blockRows) < rows - base
+rows-left h = omega arith
+
 pub blocking-end : {G : Slices} {E : Extent} {base : ℕ} {S P : List ℕ} → E .rows ≤ base → Blocking G E base S P → RowsWorked G E S P
 blocking-end {G} {E} {base} {S} {P} h W n T R X =
     let D = W .done n T R X in

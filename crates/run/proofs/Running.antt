@@ -1,16 +1,18 @@
 -- The cases of a run: the input refused, a check of the request failing, or the rows worked and the end of the run.
-use Prim.Native.Nat.{ℕ, _<_}
+use Prim.Native.Nat.{ℕ, _+_, _^_, _≤_, _<_}
 use native.Mathlib.Omega.{arith}
 use mathlib.Core.Path.{_≡_, sym, ap, _∙_}
 use mathlib.Core.List.{List}
 use lib.ListN.{length}
 use Rattle.fields.specs.Decoded.{refused}
 use Rattle.bitmaps.specs.Bitmap.{bytesFor}
+use Rattle.bitmaps.specs.Table.{lineSize}
 use Rattle.reader.specs.Tables.{Tables}
 use Rattle.rows.specs.Worked.{Worked}
 use Rattle.input.specs.declared.begin.Beginning.{Beginning}
 use Rattle.input.specs.Input.{decodeInput}
 use Rattle.input.specs.Beginning.{HasInput}
+use Rattle.input.proofs.InHand.{input-short}
 use Rattle.answers.specs.declared.word.Answer.the-variants.{Refused}
 use Rattle.answers.specs.Word.{FitsWord}
 use Rattle.answers.specs.Checks.{checked, refusalBy}
@@ -24,6 +26,14 @@ pub run-refused : (l : Lent) (k : ℕ) → (decodeInput (l .request .catalogue) 
     → (refuse k (l .listed) (l .looks) (l .tally) ≡ runOf l) × FitsWord (Refused k)
 unfolding runOf
 run-refused l k h = (rw (h .0), omega arith)
+
+-- the sizes that the input gives
+module _ {b q : List ℕ} {r : Beginning} {T : Tables} (G : HasInput b q r T) where
+  pub rows-room : r .rows + 7 < 2 ^ 64
+  rows-room = omega (arith, input-short G)
+
+  pub size-short : {size : ℕ} → size ≡ bytesFor (r .rows) → size ≤ lineSize
+  size-short e = omega (arith, input-short G)
 
 module _ {b q : List ℕ} {r : Beginning} {T : Tables} (G : HasInput b q r T) (order listed looks tally : List ℕ) (size : ℕ) (s : size ≡ bytesFor (r .rows)) where
   abbrev asked : Lent
@@ -51,10 +61,10 @@ module _ {b q : List ℕ} {r : Beginning} {T : Tables} (G : HasInput b q r T) (o
         rw e (sym (checked-fails (λ x. refuse x listed looks tally) (requestChecks (r .n) size order (length listed) (length looks)) further (rw e at ne)) ∙ on-input)
 
     -- the rows are worked, and the end of the run is the definition's
-    pub run-finished : k ≡ 0 → (S P : List ℕ) → RunWorked b q order (r .n) S P → finished S P (r .n) size listed looks tally ≡ runOf asked
+    pub run-finished : k ≡ 0 → {S P : List ℕ} → RunWorked b q order (r .n) S P → {x : Ran} → x ≡ finished S P (r .n) size listed looks tally → x ≡ runOf asked
     unfolding finished selection probeBitmaps
-    run-finished z S P W =
+    run-finished z {S} {P} W f =
         let w : Worked (taskOf (G .input) order) (r .n) S P = W (G .input) (G .decoded) in
-        rw (same-size, w .selected-bitmap, w .probed-bitmaps, ← G .tabled .count)
+        f ∙ rw (same-size, w .selected-bitmap, w .probed-bitmaps, ← G .tabled .count)
         (sym (checked-holds (λ x. refuse x listed looks tally) (requestChecks (r .n) size order (length listed) (length looks)) _
         (request-kept (r .n) size order (length listed) (length looks) k e z)) ∙ on-input)

@@ -1,55 +1,57 @@
 -- `write_consultation` meets its contract: the run is the definition's, and so is the register of it.
-use native.Mathlib.Omega.{arith}
-use mathlib.Core.Path.{refl}
-use Rattle.consultation.proofs.Consulting.{laid-few, has-room, consulted}
+use mathlib.Core.Path.{refl, sym}
+use Rattle.consultation.proofs.Consulting.{laid-few, as-long, has-room, consulted}
 use Rattle.catalogue.specs.Decode.{decodeCatalogue}
-use borrow.Author.Needs.{needs}
 use Rattle.consultation.proofs.write_consultation.Statement.{statement}
 use Rattle.consultation.proofs.write_consultation.Tie as tie
 
 slice-aggregate-searchroom-run : tie.Need-slice-aggregate-searchroom-run
-slice-aggregate-searchroom-run c = search needs
+slice-aggregate-searchroom-run c = refl
 
 slice-aggregate-searchroom-run-2 : tie.Need-slice-aggregate-searchroom-run-2
-slice-aggregate-searchroom-run-2 c = search needs
+slice-aggregate-searchroom-run-2 c = refl
 
 slice-aggregate-searchroom-run-3 : tie.Need-slice-aggregate-searchroom-run-3
-slice-aggregate-searchroom-run-3 c = search needs
+slice-aggregate-searchroom-run-3 c = refl
 
 searchroom-run-requires : tie.Need-searchroom-run-requires
-searchroom-run-requires c κs = search needs
+searchroom-run-requires c κs = tt
 
 lay-out-requires : tie.Need-lay-out-requires
-lay-out-requires c κs = search needs
+lay-out-requires c κs = tt
 
 number-in-requires : tie.Need-number-in-requires
-number-in-requires c κs = search needs
+number-in-requires c κs = tt
 
 first-in-requires : tie.Need-first-in-requires
-first-in-requires c κs = search needs
+first-in-requires c κs = tt
 
 third-in-requires : tie.Need-third-in-requires
-third-in-requires c κs = search needs
+third-in-requires c κs = tt
 
 slice-aggregate-write-register : tie.Need-slice-aggregate-write-register
-slice-aggregate-write-register c = search needs
+slice-aggregate-write-register c = sym (c .before .before .before .before .before .before .before .before .searchroom-run .kept .1 .1 .1 .0)
 
 slice-aggregate-write-register-2 : tie.Need-slice-aggregate-write-register-2
-slice-aggregate-write-register-2 c = search needs
+slice-aggregate-write-register-2 c = sym (c .before .before .before .before .before .before .before .before .before .searchroom-run .kept .1 .1 .1 .1 .0)
 
 write-register-requires : tie.Need-write-register-requires
-write-register-requires c κs = has-room _ _ _ _ _ (omega (arith, laid-few _ _ (decodeCatalogue (c .before .before .before .before .before .before .before .before .before .before .before .before .before .before .before .before .before .before .args .catalogue .now)) (c .before .before .before .before .before .before .lay-out .ensures))) (omega arith) (omega arith) (omega arith) (omega arith)
+write-register-requires c κs =
+    let l = c .before .before .before .before .before .before in
+    let run = l .before .before .before .before .searchroom-run .kept in
+    let s = c .before .before .before .before .before .before .before .before .before .before .before .before .before .before .before .before .before .before in
+    has-room _ _ _ _ _ (laid-few _ _ (decodeCatalogue (s .args .catalogue .now)) (l .lay-out .ensures)) (s .pre .0) (as-long (run .1 .1 .1 .0)) (as-long (run .1 .1 .1 .1 .0)) (s .pre .1)
 
 same-length : tie.Need-same-length
-same-length c = search needs
+same-length c = c .before .before .write-register .kept .1 .1 .1 .1 .1 .1 .1 .0
 
 returns : tie.Need-returns
 returns c =
     let t = c .before .before .before .before .before .before in
     let o = t .before .before .before in
     let a = o .before .before .before .before .before .before .before .before .before .before .before .before .args in
-    let told = rw (t .before .before .number-in .ensures, t .before .first-in .ensures, t .third-in .ensures) at (c .before .before .write-register .ensures) in
-    consulted (a .catalogue .now) (a .question .now) (a .order .now) _ _ (o .lay-out .ensures) refl _ _ _ _ _ _ _ (o .before .before .before .before .searchroom-run .ensures) told
+    consulted (a .catalogue .now) (a .question .now) (a .order .now) _ _ (o .lay-out .ensures) refl _ _ _ _ _ _ _ (o .before .before .before .before .searchroom-run .ensures)
+    (t .before .before .number-in .ensures) (t .before .first-in .ensures) (t .third-in .ensures) (c .before .before .write-register .ensures)
 
 pub write-consultation-spec : {M : Type 1} → statement M
 write-consultation-spec =

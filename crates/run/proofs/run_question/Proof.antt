@@ -1,20 +1,19 @@
 -- `run_question` meets its contract: the first check that fails, or the run of what was read.
 use native.Mathlib.Omega.{arith}
-use mathlib.Core.Path.{_∙_}
+use mathlib.Core.Path.{refl, sym}
 use lib.ListN.{length}
 use Rattle.bitmaps.specs.TableLaws.{holds-none}
-use Rattle.input.proofs.InHand.{input-short}
 use Rattle.request.proofs.Request.{request-order, request-room}
-use Rattle.run.proofs.Running.{run-refused, run-declined, run-finished}
+use Rattle.run.proofs.Running.{run-refused, rows-room, size-short, run-declined, run-finished}
 use borrow.Author.Needs.{needs}
 use Rattle.run.proofs.run_question.Statement.{statement}
 use Rattle.run.proofs.run_question.Tie as tie
 
 slice-aggregate-begin : tie.Need-slice-aggregate-begin
-slice-aggregate-begin c = search needs
+slice-aggregate-begin c = refl
 
 slice-aggregate-begin-2 : tie.Need-slice-aggregate-begin-2
-slice-aggregate-begin-2 c = search needs
+slice-aggregate-begin-2 c = refl
 
 begin-requires : tie.Need-begin-requires
 begin-requires c κs = search needs
@@ -23,12 +22,12 @@ returns : tie.Need-returns
 returns c = run-refused _ _ (c .before .before .before .begin .ensures .refuses (c .if1 .taken))
 
 bytes-for-requires : tie.Need-bytes-for-requires
-bytes-for-requires c κs = let G = c .before .before .before .begin .ensures .accepts (c .if1 .left) in omega (arith, input-short G)
+bytes-for-requires c κs = rows-room (c .before .before .before .begin .ensures .accepts (c .if1 .left))
 
 check-request-requires : tie.Need-check-request-requires
 check-request-requires c κs =
     let G = c .before .before .before .before .begin .ensures .accepts (c .before .if1 .left) in
-    (G .tabled .few, omega (arith, input-short G, c .bytes-for .ensures))
+    (G .tabled .few, size-short G (c .bytes-for .ensures))
 
 returns-2 : tie.Need-returns-2
 returns-2 c =
@@ -42,10 +41,10 @@ slice-aggregate-work-2 : tie.Need-slice-aggregate-work-2
 slice-aggregate-work-2 c = search needs
 
 slice-aggregate-work-3 : tie.Need-slice-aggregate-work-3
-slice-aggregate-work-3 c = search needs
+slice-aggregate-work-3 c = refl
 
 slice-aggregate-work-4 : tie.Need-slice-aggregate-work-4
-slice-aggregate-work-4 c = search needs
+slice-aggregate-work-4 c = refl
 
 work-requires : tie.Need-work-requires
 work-requires c κs =
@@ -56,10 +55,10 @@ work-requires c κs =
     ((G, order), (holds-none 1, holds-none 64))
 
 slice-aggregate-finish : tie.Need-slice-aggregate-finish
-slice-aggregate-finish c = search needs
+slice-aggregate-finish c = sym (c .before .before .before .work .kept .1 .1 .1 .1 .1 .1 .0)
 
 slice-aggregate-finish-2 : tie.Need-slice-aggregate-finish-2
-slice-aggregate-finish-2 c = search needs
+slice-aggregate-finish-2 c = sym (c .before .before .before .before .work .kept .1 .1 .1 .1 .1 .1 .1 .0)
 
 finish-requires : tie.Need-finish-requires
 finish-requires c κs =
@@ -67,25 +66,25 @@ finish-requires c κs =
     let x = a .before .before .before .before .before .before .before .before .before .before .before .before .before .before .before .args in
     let G = a .before .before .before .before .before .before .begin .ensures .accepts (a .before .before .before .if1 .left) in
     let W = c .before .before .before .before .before .before .before .work .ensures (G .input) (G .decoded) in (
-      (W .selected-size, W .probed-size, G .tabled .few, omega (arith, input-short G, a .before .before .bytes-for .ensures)),
+      (W .selected-size, W .probed-size, G .tabled .few, size-short G (a .before .before .bytes-for .ensures)),
       request-room _ _ (x .order .now) _ _ _ (a .before .check-request .ensures) (a .if2 .left),
     )
 
 same-length : tie.Need-same-length
-same-length c = search needs
+same-length c = c .before .before .before .before .before .before .finish .kept .1 .1 .1 .1 .0
 
 same-length-2 : tie.Need-same-length-2
-same-length-2 c = search needs
+same-length-2 c = c .before .before .before .before .before .before .finish .kept .1 .1 .1 .1 .1 .0
 
 same-length-3 : tie.Need-same-length-3
-same-length-3 c = search needs
+same-length-3 c = c .before .before .before .before .before .before .finish .kept .1 .1 .1 .1 .1 .1 .0
 
 returns-3 : tie.Need-returns-3
 returns-3 c =
     let a = c .before .before .before .before .before .before .before .before .before .before .before .before .before .before .before .before .before .before .before in
     let G = a .before .before .before .before .before .before .begin .ensures .accepts (a .before .before .before .if1 .left) in
     let end = c .before .before .before .before .before .before .finish .ensures in
-    (end .0 ∙ run-finished G _ _ _ _ _ (a .before .before .bytes-for .ensures) _ (a .before .check-request .ensures) (a .if2 .left) _ _ (c .before .before .before .before .before .before .before .before .before .before .before .before .before .before .work .ensures), end .1)
+    (run-finished G _ _ _ _ _ (a .before .before .bytes-for .ensures) _ (a .before .check-request .ensures) (a .if2 .left) (c .before .before .before .before .before .before .before .before .before .before .before .before .before .before .work .ensures) (end .0), end .1)
 
 pub run-question-spec : {M : Type 1} → statement M
 run-question-spec =

@@ -1,10 +1,9 @@
 -- `work_rows` meets its contract. Invariant: of the rows before base the tables hold what they are to hold, and nothing of the others.
 use Prim.Native.Nat.{_-_}
-use native.Mathlib.Omega.{arith}
 use mathlib.Core.Path.{sym, _∙_}
 use borrow.Author.Needs.{needs}
 use Rattle.rows.specs.Ready.{slices}
-use Rattle.rows.proofs.RowsLoop.{Blocking, blocking-start, blocking-next, blocking-end, block-ready, block-no-marks, block-room}
+use Rattle.rows.proofs.RowsLoop.{rows-left, Blocking, blocking-start, blocking-next, blocking-end, block-ready, block-no-marks, block-room}
 use Rattle.rows.proofs.all.work_rows.Statement.{statement}
 use Rattle.rows.proofs.all.work_rows.Tie as tie
 
@@ -35,10 +34,10 @@ work-block-requires c κs =
     let l = c .before .before .before .before .loop .inv in
     let p = c .before .before .before .before .before .before .before .before .before .before .before .before .before .pre .0 in
     let e = c .before .before .rows-of .ensures in
-    (c .before .before .before .before .before .fold-table .ensures, rw e (block-ready l (omega arith) p), rw e (block-no-marks l (omega arith) p))
+    (c .before .before .before .before .before .fold-table .ensures, rw e (block-ready l (c .before .before .before .loop-test .taken) p), rw e (block-no-marks l (c .before .before .before .loop-test .taken) p))
 
 put-word-requires : tie.Need-put-word-requires Inv-loop μ-loop
-put-word-requires c κs = block-room (c .before .before .before .before .before .before .before .before .loop .inv) (omega arith) (c .before .before .before .before .before .before .before .before .before .before .before .before .before .before .before .before .before .pre .0)
+put-word-requires c κs = block-room (c .before .before .before .before .before .before .before .before .loop .inv) (c .before .before .before .before .before .before .before .loop-test .taken) (c .before .before .before .before .before .before .before .before .before .before .before .before .before .before .before .before .before .pre .0)
 
 add-base : tie.Need-add-base Inv-loop μ-loop
 add-base c =
@@ -48,13 +47,14 @@ add-base c =
     search needs
 
 loop-less : tie.Need-loop-less Inv-loop μ-loop
-loop-less c = search needs
+loop-less c = rows-left (c .before .before .before .before .before .before .before .before .before .before .loop-test .taken)
 
 loop-again : tie.Need-loop-again Inv-loop μ-loop
 loop-again c =
+    let l = c .before .before .before .before .before .before .before .before .before .before in
     let w = c .before .before .before .before .before .before .work-block in
     let e = c .before .before .before .before .before .before .before .before .before .rows-of .ensures in
-    blocking-next (c .before .before .before .before .before .before .before .before .before .before .before .loop .inv) (omega arith) (w .result) (c .before .before .put-word .last .0) (w .last .1 .1 .1 .1 .1 .1 .1 .0) (w .kept .1 .1 .1 .1 .1 .1 .1 .0) (rw e at (w .ensures)) (c .before .before .put-word .ensures)
+    blocking-next (l .before .loop .inv) (l .loop-test .taken) (w .result) (c .before .before .put-word .last .0) (w .last .1 .1 .1 .1 .1 .1 .1 .0) (w .kept .1 .1 .1 .1 .1 .1 .1 .0) (rw e at (w .ensures)) (c .before .before .put-word .ensures)
 
 same-length : tie.Need-same-length Inv-loop μ-loop
 same-length c = c .before .loop .inv .selected-size ∙ sym (search needs)
@@ -63,7 +63,7 @@ same-length-2 : tie.Need-same-length-2 Inv-loop μ-loop
 same-length-2 c = c .before .loop .inv .probed-size ∙ sym (c .before .before .before .before .before .before .before .before .before .before .pre .1 .1 .size)
 
 returns : tie.Need-returns Inv-loop μ-loop
-returns c = blocking-end (omega arith) (c .before .loop .inv)
+returns c = blocking-end (c .loop-test .left) (c .before .loop .inv)
 
 pub work-rows-spec : {M : Type 1} → statement M
 work-rows-spec =

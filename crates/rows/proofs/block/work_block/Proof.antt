@@ -1,13 +1,12 @@
 -- `work_block` meets its contract. Invariant: at every row of the block the turns left make of it what all make of it.
 use Prim.Native.Nat.{_-_}
-use native.Mathlib.Omega.{arith}
-use mathlib.Core.Path.{_∙_}
+use mathlib.Core.Path.{sym, _∙_}
 use lib.ListN.{length, length-set, replicate}
 use borrow.Author.Needs.{needs}
 use Rattle.bitmaps.specs.TableLaws.{zeros}
 use Rattle.query.specs.Format.{predicateLimit}
 use Rattle.rows.specs.Ready.{slices}
-use Rattle.rows.proofs.BlockLoop.{Turning, turning-start, turning-idle, turning-next, turning-end, turn-few, turn-outcomes, turn-room, turn-ancestors}
+use Rattle.rows.proofs.BlockLoop.{Turning, turns-left, in-words, turning-start, turning-idle, turning-next, turning-end, turn-few, turn-outcomes, turn-room, turn-ancestors}
 use Rattle.rows.proofs.block.work_block.Statement.{statement}
 use Rattle.rows.proofs.block.work_block.Tie as tie
 
@@ -43,13 +42,13 @@ mul-due : tie.Need-mul-due Inv-loop μ-loop
 mul-due c = search needs
 
 array-read-due : tie.Need-array-read-due Inv-loop μ-loop
-array-read-due c = turn-few (c .before .before .before .loop .inv) (c .widen .result) (c .widen .ensures .0) (omega arith) (c .before .before .before .before .before .before .before .before .before .before .before .before .before .before .pre .1)
+array-read-due c = turn-few (c .before .before .before .loop .inv) (c .widen .result) (c .widen .ensures .0) (c .before .before .loop-test .taken) (c .before .before .before .before .before .before .before .before .before .before .before .before .before .before .pre .1)
 
 loop-less : tie.Need-loop-less Inv-loop μ-loop
-loop-less c = search needs
+loop-less c = turns-left (c .before .before .before .loop-test .taken)
 
 loop-again : tie.Need-loop-again Inv-loop μ-loop
-loop-again c = turning-idle (c .before .before .before .before .loop .inv) (c .before .widen .result) (c .before .widen .ensures .0) (omega arith) (c .if1 .taken)
+loop-again c = turning-idle (c .before .before .before .before .loop .inv) (c .before .widen .result) (c .before .widen .ensures .0) (c .before .before .before .loop-test .taken) (c .if1 .taken)
 
 met-of-requires : tie.Need-met-of-requires Inv-loop μ-loop
 met-of-requires c κs =
@@ -57,7 +56,7 @@ met-of-requires c κs =
     let e = p .1 in
     let l = c .before .before .before .before .loop .inv in
     let w = c .before .widen in
-    (p .0, turn-few l (w .result) (w .ensures .0) (omega arith) e, e .2 .plan-size, turn-outcomes l (w .result) (w .ensures .0) (omega arith) e)
+    (p .0, turn-few l (w .result) (w .ensures .0) (c .before .before .before .loop-test .taken) e, e .2 .plan-size, turn-outcomes l (w .result) (w .ensures .0) (c .before .before .before .loop-test .taken) e)
 
 mul-put-word : tie.Need-mul-put-word Inv-loop μ-loop
 mul-put-word c = search needs
@@ -73,41 +72,45 @@ put-word-requires : tie.Need-put-word-requires Inv-loop μ-loop
 put-word-requires c κs =
     let e = c .before .before .before .before .before .before .before .before .before .before .before .before .before .before .before .before .before in
     let w = c .before .before .before .widen in
-    turn-room (c .before .before .before .before .before .before .loop .inv) (w .result) (w .ensures .0) (omega arith) (e .pre .1) (e .pre .2)
+    turn-room (c .before .before .before .before .before .before .loop .inv) (w .result) (w .ensures .0) (c .before .before .before .before .before .loop-test .taken) (e .pre .1) (e .pre .2)
 
 mul-live : tie.Need-mul-live Inv-loop μ-loop
 mul-live c = search needs
 
 array-write-live : tie.Need-array-write-live Inv-loop μ-loop
-array-write-live c = let w = c .before .before .before .before .before .before .widen in turn-few (c .before .before .before .before .before .before .before .before .before .loop .inv) (w .result) (w .ensures .0) (omega arith) (c .before .before .before .before .before .before .before .before .before .before .before .before .before .before .before .before .before .before .before .before .pre .1)
+array-write-live c =
+    let w = c .before .before .before .before .before .before .widen in
+    let l = c .before .before .before .before .before .before .before .before in
+    turn-few (l .before .loop .inv) (w .result) (w .ensures .0) (l .loop-test .taken) (l .before .before .before .before .before .before .before .before .before .before .before .before .pre .1)
 
 slice-aggregate-propagate-rows : tie.Need-slice-aggregate-propagate-rows Inv-loop μ-loop
-slice-aggregate-propagate-rows c = search needs
+slice-aggregate-propagate-rows c = let l = c .before .before .before .before .before .before .before .before .before .before .loop in sym (length-set (l .live) (c .before .before .before .before .before .before .before .widen .result) 0 ∙ l .inv .words)
 
 propagate-rows-requires : tie.Need-propagate-rows-requires Inv-loop μ-loop
 propagate-rows-requires c κs =
     let w = c .before .before .before .before .before .before .before .widen in
-    let l = c .before .before .before .before .before .before .before .before .before .before .loop in
-    turn-ancestors (l .inv) (w .result) (w .ensures .0) (omega arith) (c .before .before .before .before .before .before .before .before .before .before .before .before .before .before .before .before .before .before .before .before .before .pre .1) _ (length-set (l .live) (w .result) 0 ∙ l .inv .words)
+    let t = c .before .before .before .before .before .before .before .before .before in
+    let l = t .before .loop in
+    turn-ancestors (l .inv) (w .result) (w .ensures .0) (t .loop-test .taken) (t .before .before .before .before .before .before .before .before .before .before .before .before .pre .1) _ (length-set (l .live) (w .result) 0 ∙ l .inv .words)
 
 loop-less-2 : tie.Need-loop-less-2 Inv-loop μ-loop
-loop-less-2 c = search needs
+loop-less-2 c = turns-left (c .before .before .before .before .before .before .before .before .before .before .before .loop-test .taken)
 
 loop-again-2 : tie.Need-loop-again-2 Inv-loop μ-loop
 loop-again-2 c =
-    let l = c .before .before .before .before .before .before .before .before .before .before .before .before .loop in
+    let t = c .before .before .before .before .before .before .before .before .before .before .before in
+    let l = t .before .loop in
     let w = c .before .before .before .before .before .before .before .before .before .widen in
     let p = c .before .propagate-rows in
-    let few = turn-few (l .inv) (w .result) (w .ensures .0) (omega arith) (c .before .before .before .before .before .before .before .before .before .before .before .before .before .before .before .before .before .before .before .before .before .before .before .pre .1) in
-    let s = l .inv .words in
-    turning-next (l .inv) (w .result) (w .ensures .0) (omega arith) (c .before .before .before .before .before .before .before .met-of .result) (p .result) (p .last .1 .1 .0) (c .before .before .before .before .before .put-word .last .0) (omega arith)
+    let few = turn-few (l .inv) (w .result) (w .ensures .0) (t .loop-test .taken) (t .before .before .before .before .before .before .before .before .before .before .before .before .pre .1) in
+    turning-next (l .inv) (w .result) (w .ensures .0) (t .loop-test .taken) (c .before .before .before .before .before .before .before .met-of .result) (p .result) (p .last .1 .1 .0) (c .before .before .before .before .before .put-word .last .0) (in-words few (l .inv .words))
     (c .before .before .before .before .before .before .before .met-of .ensures) (c .before .before .before .before .before .put-word .ensures) (p .ensures)
 
 same-length : tie.Need-same-length Inv-loop μ-loop
 same-length c = c .before .loop .inv .sized
 
 returns : tie.Need-returns Inv-loop μ-loop
-returns c = turning-end (c .before .loop .inv) (omega arith)
+returns c = turning-end (c .before .loop .inv) (c .loop-test .left)
 
 pub work-block-spec : {M : Type 1} → statement M
 work-block-spec =
