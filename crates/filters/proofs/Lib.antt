@@ -1,5 +1,2 @@
-pub mod ByteTests
 pub mod Pairs
-pub mod Found
-pub mod Heads
 pub mod Passing

@@ -11,7 +11,7 @@ use Rattle.strategy.specs.Bools.{which, or-left, or-right, ltb-lt, ltb-le}
 use Rattle.slots.specs.Slots.{textLimit}
 use Rattle.filters.specs.declared.pair.Pair.{Pair}
 use Rattle.filters.specs.Windows.{pairAt, pairIn, windowsPass}
-use Rattle.filters.proofs.ByteTests.{either-flag, flag-set}
+use Rattle.heads.proofs.ByteTests.{either-flag, flag-set}
 
 pair-there : (n i : ℕ) (b : List ℕ) (p q : ℕ) (k : Pair) → i < n → pairAt b (p + i) (q + i) k ≡ true → pairIn b p q k n ≡ true
 unfolding pairIn

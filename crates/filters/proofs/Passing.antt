@@ -1,15 +1,14 @@
 -- The filters pass every slot whose text passes the test.
 use Prim.Native.Nat.{ℕ, _+_, _-_, _≤_, _<_}
 use native.Mathlib.Omega.{arith}
-use mathlib.Core.Path.{_≡_, sym, _∙_}
+use mathlib.Core.Path.{_≡_, sym, ap, _∙_}
 use mathlib.Core.Bool.{true}
 use mathlib.Core.Logic.{_⊎_, inl, inr}
 use mathlib.Core.List.{List}
-use lib.ListN.{length, getD}
-use Rattle.strategy.specs.Bools.{same?}
+use lib.ListN.{length, getD, drop}
+use Rattle.strategy.specs.Bools.{both, same?}
 use Rattle.catalogue.specs.Format.{textTag}
-use Rattle.slots.specs.Slots.{slotSize, textLimit}
-use Rattle.slots.specs.Slots.{textAt}
+use Rattle.slots.specs.Slots.{slotSize, textLimit, textAt}
 use Rattle.catalogue.proofs.Rows.{has-text}
 use Rattle.fields.specs.Numbers.{Bytes}
 use Rattle.predicate.specs.Kinds.{equalsKind, beginsKind, containsKind}
@@ -18,12 +17,12 @@ use Rattle.sets.specs.Set.{has}
 use Rattle.sets.specs.Kept.{KeptBy, Sifted}
 use Rattle.sets.specs.KeptLaws.{kept-sifts}
 use Rattle.filters.specs.declared.pair.Pair.{Pair}
-use Rattle.filters.specs.declared.head.Head.{Head}
-use Rattle.filters.specs.Block.{HasDueRows, slotOf, textOf}
-use Rattle.filters.specs.Windows.{PairFor, windowsPass}
-use Rattle.filters.specs.Head.{headPasses, Starts, HeadFor}
+use Rattle.heads.specs.declared.head.Head.{Head}
+use Rattle.heads.specs.Block.{HasDueRows, slotOf, textOf}
+use Rattle.filters.specs.Windows.{PairFor, pairAt, windowsPass}
+use Rattle.heads.specs.Head.{headPasses, Starts, HeadFor}
 use Rattle.filters.proofs.Pairs.{windows-see}
-use Rattle.filters.proofs.Found.{contains-from, equals-whole, text-size, found-size, found-byte, found-pair}
+use Rattle.heads.proofs.Found.{contains-from, equals-whole, text-size, found-size, found-byte}
 
 -- one slot
 module _ (b : List ℕ) (bytes : Bytes b) (o : List ℕ) (some : 0 < length o)
@@ -41,13 +40,21 @@ module _ (b : List ℕ) (bytes : Bytes b) (o : List ℕ) (some : 0 < length o)
   pub begins-starts : (kind : ℕ) → (kind ≡ equalsKind → ⊥) → beginsWith o (textAt b p) ≡ true → Starts kind o b p
   begins-starts kind other e = record { bytes = bytes; sized = λ q. absurd (other q); alike = front-alike e }
 
+  -- the operand's two bytes, where it is found at place a
+  found-pair : (a : ℕ) → beginsWith o (drop a (textAt b p)) ≡ true → (k : Pair) → PairFor o k → pairAt b (p + 1 + a) (p + 1 + a + k .gap) k ≡ true
+  found-pair a found k K =
+      let byte = found-byte b p (fits .0) (fits .1) o some a found in
+      let z : p + 1 + a + 0 ≡ p + 1 + a = omega arith in
+      both (K .first-may (getD b (p + 1 + a) 0) (bytes (p + 1 + a)) (ap (λ (j : ℕ). fold (getD b j 0)) (sym z) ∙ byte 0 some) .tested)
+      (K .second-may (getD b (p + 1 + a + k .gap) 0) (bytes (p + 1 + a + k .gap)) (byte (k .gap) (K .inside)) .tested)
+
   pub contains-passes : (k : Pair) → PairFor o k → contains o (textAt b p) ≡ true → windowsPass b p k ≡ true
   contains-passes k K e =
       let f = contains-from o (textAt b p) e in
       let size = found-size b p (fits .0) (fits .1) o some (f .0) (f .1) in
       let l = fits .1 in
       let i = K .inside in
-      windows-see b p (f .0) k (omega arith) (K .near) (found-pair b p (fits .0) (fits .1) o some (f .0) (f .1) bytes k K)
+      windows-see b p (f .0) k (omega arith) (K .near) (found-pair (f .0) (f .1) k K)
 
 -- all due rows
 module _ (b : List ℕ) (bytes : Bytes b) (start base kind : ℕ) (o : List ℕ) (due r : ℕ) (D : HasDueRows b textTag start base due) (some : 0 < length o) where

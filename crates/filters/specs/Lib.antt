@@ -1,4 +1,1 @@
-pub mod ByteTest
-pub mod Block
 pub mod Windows
-pub mod Head

@@ -7,7 +7,7 @@ use lib.ListN.{length, getD}
 use lib.Dec.{leb}
 use Rattle.predicate.specs.Meaning.{fold}
 use Rattle.filters.specs.declared.pair.Pair.{Pair}
-use Rattle.filters.specs.ByteTest.{testPasses, MayFold}
+use Rattle.heads.specs.ByteTest.{testPasses, MayFold}
 
 -- how far the second byte is from the first: the operand's last, or byte 8
 abbrev pub gapOf : (size : ℕ) → ℕ

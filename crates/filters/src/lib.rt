@@ -1,8 +1,5 @@
 // Before a text test: the due rows of a block whose texts may pass it, told by a few bytes of each slot with no branch on
 // them. A filter may pass too much, never too little.
-pub mod byte_test;
-pub mod front;
-pub mod head;
 pub mod pair;
 pub mod sift;
 pub mod windows;

@@ -1,5 +1,5 @@
 // Two of an operand's bytes at their distance: its first, and its last if that is at most eight further.
-use crate::byte_test::ByteTest;
+use heads::byte_test::ByteTest;
 ghost use mathlib.Core.Path.{_≡_};
 ghost use mathlib.Core.Bool.{cond};
 ghost use Prim.Native.Nat.{_≤_, _<_};
@@ -31,8 +31,8 @@ pub fn pair_of(table: &[u8], operand: &[u8]) -> Pair
     let second = predicate::text::fold_byte(table, operand[gap]);
     Pair {
         gap,
-        first: crate::byte_test::byte_test_of(first),
-        second: crate::byte_test::byte_test_of(second),
+        first: heads::byte_test::byte_test_of(first),
+        second: heads::byte_test::byte_test_of(second),
     }
 }
 
@@ -41,5 +41,5 @@ pub fn pair_at(b: &[u8], p: usize, q: usize, k: Pair) -> u8
     requires { ⌜ (p < length (now b)) × (q < length (now b)) ⌝ }
     ensures { λ r. ⌜ r ≡ cond (pairAt (now (b .entry)) p q k) 1 0 ⌝ }
 {
-    crate::byte_test::passes(k.first, b[p]) & crate::byte_test::passes(k.second, b[q])
+    heads::byte_test::passes(k.first, b[p]) & heads::byte_test::passes(k.second, b[q])
 }

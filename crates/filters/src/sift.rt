@@ -8,7 +8,7 @@ ghost use Rattle.predicate.specs.Kinds.{equalsKind, containsKind};
 ghost use Rattle.predicate.specs.Meaning.{textTest};
 ghost use Rattle.predicate.specs.Outcome.{Folds};
 ghost use Rattle.sets.specs.Kept.{Sifted};
-ghost use Rattle.filters.specs.Block.{HasDueRows, textOf};
+ghost use Rattle.heads.specs.Block.{HasDueRows, textOf};
 
 // The due rows whose texts may pass the test of kind 2, 3 or 4 by the operand.
 pub fn sift(
@@ -27,6 +27,6 @@ pub fn sift(
         let k = crate::pair::pair_of(table, operand);
         return crate::windows::windows_rows(b, start, base, k, due);
     }
-    let k = crate::head::head_of(table, kind, operand);
-    crate::front::front_rows(b, start, base, k, due)
+    let k = heads::head::head_of(table, kind, operand);
+    heads::front::front_rows(b, start, base, k, due)
 }

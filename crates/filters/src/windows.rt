@@ -9,7 +9,7 @@ ghost use Rattle.catalogue.specs.Format.{textTag};
 ghost use Rattle.slots.specs.Slots.{slotSize};
 ghost use Rattle.sets.specs.Set.{belowSet};
 ghost use Rattle.sets.specs.Kept.{KeptBy};
-ghost use Rattle.filters.specs.Block.{HasDueRows, slotOf};
+ghost use Rattle.heads.specs.Block.{HasDueRows, slotOf};
 ghost use Rattle.filters.specs.Windows.{windowsPass};
 
 // The slot at p. The pair's two places run from p and q on in the first window, from r and s on in the second, which ends

@@ -23,7 +23,7 @@ use Rattle.predicate.specs.Payload.{kindFits, operandFits}
 use Rattle.predicate.proofs.OutcomeLaws.{number-row, text-row}
 use Rattle.sets.specs.Kept.{KeptBy, Sifted}
 use Rattle.sets.specs.KeptLaws.{sift-kept, kept-same, kept-others}
-use Rattle.filters.specs.Block.{HasDueRows, slotOf, textOf}
+use Rattle.heads.specs.Block.{HasDueRows, slotOf, textOf}
 use Rattle.scan.specs.declared.range.Range.{Range}
 use Rattle.scan.specs.Met.{RangeFor, ShownRows, HasRows, MetFor, PlainMetFor, within}
 use Rattle.scan.proofs.Ranges.{text-fits, width-fits, number-means}

@@ -7,7 +7,7 @@ ghost use Rattle.catalogue.specs.InPlace.{HasRow};
 ghost use Rattle.sets.specs.Set.{belowSet};
 ghost use Rattle.sets.specs.Kept.{KeptBy};
 ghost use Rattle.sets.specs.Gathered.{bitOf, gathered};
-ghost use Rattle.filters.specs.Block.{HasDueRows};
+ghost use Rattle.heads.specs.Block.{HasDueRows};
 ghost use Rattle.scan.specs.Met.{within};
 
 // Whether n is low or one of the numbers after it, as many as width: one comparison.

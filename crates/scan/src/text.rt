@@ -4,14 +4,14 @@ ghost use Rattle.catalogue.specs.Format.{textTag};
 ghost use Rattle.predicate.specs.Meaning.{textTest, textBlank};
 ghost use Rattle.predicate.specs.Outcome.{Folds};
 ghost use Rattle.sets.specs.Kept.{KeptBy};
-ghost use Rattle.filters.specs.Block.{HasDueRows, textOf};
+ghost use Rattle.heads.specs.Block.{HasDueRows, textOf};
 
 // The due rows whose texts are blank.
 pub fn texts_blank(b: &[u8], start: usize, base: usize, due: u64) -> u64
     requires { ⌜ HasDueRows (now b) textTag start base due ⌝ }
     ensures { λ r. ⌜ KeptBy (λ d. textBlank (textOf (now (b .entry)) start (base + d))) due r ⌝ }
 {
-    filters::front::front_rows(b, start, base, filters::head::blank_head(), due)
+    heads::front::front_rows(b, start, base, heads::head::blank_head(), due)
 }
 
 // The due rows whose texts pass the test of a kind below the opposites, each text handed on as a part.

@@ -1,7 +1,7 @@
 -- `pair_at` meets its contract: two flags.
 use lib.ListN.{getD}
-use Rattle.filters.specs.ByteTest.{testPasses}
-use Rattle.filters.proofs.ByteTests.{both-flags}
+use Rattle.heads.specs.ByteTest.{testPasses}
+use Rattle.heads.proofs.ByteTests.{both-flags}
 use borrow.Author.Needs.{needs}
 use Rattle.filters.proofs.pair.pair_at.Statement.{statement}
 use Rattle.filters.proofs.pair.pair_at.Tie as tie

@@ -5,7 +5,7 @@ use mathlib.Core.Path.{ap, _∙_}
 use Rattle.catalogue.proofs.Rows.{has-text}
 use Rattle.sets.specs.SetLaws.{below-has}
 use Rattle.sets.specs.Gathered.{bitOf, Gathering, gathering-none, gathering-small, gathering-next, gathering-end}
-use Rattle.filters.specs.Block.{slotOf}
+use Rattle.heads.specs.Block.{slotOf}
 use Rattle.filters.specs.Windows.{windowsPass}
 use borrow.Author.Needs.{needs}
 use Rattle.filters.proofs.windows.all_windows.Statement.{statement}

@@ -4,7 +4,7 @@ use native.Mathlib.Omega.{arith}
 use Rattle.catalogue.proofs.Rows.{has-text}
 use Rattle.sets.specs.Kept.{Sorting}
 use Rattle.sets.specs.KeptLaws.{sort-none, sort-among, sort-next, sort-end}
-use Rattle.filters.specs.Block.{slotOf}
+use Rattle.heads.specs.Block.{slotOf}
 use Rattle.filters.specs.Windows.{windowsPass}
 use borrow.Author.Needs.{needs}
 use Rattle.filters.proofs.windows.due_windows.Statement.{statement}

@@ -9,7 +9,7 @@ use Rattle.catalogue.proofs.Rows.{has-number}
 use Rattle.sets.specs.Set.{belowSet}
 use Rattle.sets.specs.SetLaws.{has-below, below-has}
 use Rattle.sets.specs.Gathered.{Octets, gathered-same, octets-none, octets-small, octets-next, octets-end}
-use Rattle.filters.specs.Block.{HasDueRows}
+use Rattle.heads.specs.Block.{HasDueRows}
 use Rattle.scan.specs.Met.{within}
 use Rattle.scan.proofs.Shown.{numberOf}
 use Rattle.scan.proofs.number.all_within.Statement.{statement}

@@ -10,7 +10,7 @@ use Rattle.catalogue.specs.InPlace.{HasRow}
 use Rattle.sets.specs.Set.{belowSet}
 use Rattle.sets.specs.SetLaws.{below-has}
 use Rattle.sets.specs.Gathered.{bitOf, gathered-lt, gathered-eight}
-use Rattle.filters.specs.Block.{HasDueRows}
+use Rattle.heads.specs.Block.{HasDueRows}
 use Rattle.scan.specs.Met.{within}
 use Rattle.scan.proofs.Shown.{numberOf}
 use Rattle.scan.proofs.Eight.{row-fits, weighed-fits, two-fit, three-fit, four-fit, five-fit, six-fit, seven-fit, eight-fit}

@@ -10,10 +10,10 @@ use Rattle.catalogue.proofs.Rows.{has-text}
 use Rattle.predicate.specs.Meaning.{textBlank}
 use Rattle.sets.specs.Kept.{KeptBy}
 use Rattle.sets.specs.KeptLaws.{kept-same}
-use Rattle.filters.specs.declared.head.Head.{Head}
-use Rattle.filters.specs.Block.{HasDueRows, slotOf, textOf}
-use Rattle.filters.specs.Head.{headPasses, BlankHeadIs}
-use Rattle.filters.proofs.Found.{text-size}
+use Rattle.heads.specs.declared.head.Head.{Head}
+use Rattle.heads.specs.Block.{HasDueRows, slotOf, textOf}
+use Rattle.heads.specs.Head.{headPasses, BlankHeadIs}
+use Rattle.heads.proofs.Found.{text-size}
 use borrow.Author.Needs.{needs}
 use Rattle.scan.proofs.text.texts_blank.Statement.{statement}
 use Rattle.scan.proofs.text.texts_blank.Tie as tie

@@ -6,7 +6,7 @@ use Rattle.catalogue.proofs.Rows.{has-text}
 use Rattle.sets.specs.Kept.{Sorting}
 use Rattle.sets.specs.KeptLaws.{sort-none, sort-among, sort-next, sort-end}
 use Rattle.predicate.specs.Meaning.{textTest}
-use Rattle.filters.specs.Block.{textOf}
+use Rattle.heads.specs.Block.{textOf}
 use Rattle.scan.proofs.Shown.{text-value}
 use borrow.Author.Needs.{needs}
 use Rattle.scan.proofs.text.texts_that_pass.Statement.{statement}

@@ -1,0 +1,3 @@
+pub mod ByteTests
+pub mod Found
+pub mod Heads

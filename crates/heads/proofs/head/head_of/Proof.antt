@@ -1,0 +1,68 @@
+-- `head_of` meets its contract: the bytes put together one after the other.
+use Prim.Native.Nat.{_-_}
+use native.Mathlib.Omega.{arith}
+use mathlib.Core.Path.{refl}
+use Rattle.heads.proofs.Heads.{Heading, heading-none, heading-small, heading-next, heading-end}
+use Rattle.heads.proofs.head.head_of.Statement.{statement}
+use Rattle.heads.proofs.head.head_of.Tie as tie
+
+abbrev Inv-loop : tie.InvT-loop
+Inv-loop table kind operand mask₀ value₀ j₀ mask value j = Heading kind operand j mask value
+
+abbrev μ-loop : tie.MeasureT-loop
+μ-loop table kind operand mask₀ value₀ j₀ mask value j = 4 - j
+
+loop-holds : tie.Need-loop-holds Inv-loop μ-loop
+loop-holds c = heading-none _ _
+
+cover-at-requires : tie.Need-cover-at-requires Inv-loop μ-loop
+cover-at-requires c κs = c .before .before .before .before .pre
+
+mul-mask : tie.Need-mul-mask Inv-loop μ-loop
+mul-mask c = let s = heading-small (c .before .before .loop .inv) (omega arith) .0 in omega arith
+
+cast-mask : tie.Need-cast-mask Inv-loop μ-loop
+cast-mask c = omega arith
+
+add-mask : tie.Need-add-mask Inv-loop μ-loop
+add-mask c = let s = heading-small (c .before .before .before .loop .inv) (omega arith) .0 in let k = c .before .cover-at .ensures .mask-small in omega arith
+
+mul-value : tie.Need-mul-value Inv-loop μ-loop
+mul-value c = let s = heading-small (c .before .before .before .loop .inv) (omega arith) .1 in omega arith
+
+cast-value : tie.Need-cast-value Inv-loop μ-loop
+cast-value c = omega arith
+
+add-value : tie.Need-add-value Inv-loop μ-loop
+add-value c = let s = heading-small (c .before .before .before .before .loop .inv) (omega arith) .1 in let k = c .before .before .cover-at .ensures .value-small in omega arith
+
+add-j : tie.Need-add-j Inv-loop μ-loop
+add-j c = omega arith
+
+loop-less : tie.Need-loop-less Inv-loop μ-loop
+loop-less c = omega arith
+
+loop-again : tie.Need-loop-again Inv-loop μ-loop
+loop-again c = heading-next (c .before .before .before .before .loop .inv) (omega arith) (c .before .before .cover-at .ensures) refl refl
+
+returns : tie.Need-returns Inv-loop μ-loop
+returns c = heading-end (c .before .loop .inv) (omega arith)
+
+pub head-of-spec : {M : Type 1} → statement M
+head-of-spec =
+    tie.close
+    (tie.spec
+    Inv-loop
+    μ-loop
+    loop-holds
+    cover-at-requires
+    mul-mask
+    cast-mask
+    add-mask
+    mul-value
+    cast-value
+    add-value
+    add-j
+    loop-less
+    loop-again
+    returns)

@@ -1,0 +1,3 @@
+pub mod ByteTest
+pub mod Block
+pub mod Head

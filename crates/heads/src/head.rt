@@ -1,0 +1,76 @@
+// What equals and begins ask of a slot's head: its length and the first three bytes of its text, as one number.
+use crate::byte_test::Cover;
+use predicate::kind::Kind;
+ghost use mathlib.Core.Path.{_≡_};
+ghost use Prim.Native.Nat.{_+_, _≤_, _<_};
+ghost use lib.ListN.{length};
+ghost use Rattle.slots.specs.Slots.{textLimit};
+ghost use Rattle.predicate.specs.Outcome.{Folds};
+ghost use Rattle.heads.specs.Head.{headSize, headPasses, CoverFor, HeadFor, BlankHeadIs};
+
+// A slot passes where its head, with the mask's bits set, is the value.
+pub struct Head {
+    pub mask: u32,
+    pub value: u32,
+}
+
+impl Head {
+    // The bytes of a head.
+    pub const SIZE: usize = 4;
+}
+
+// What byte j of the slot may be. Equals asks for the operand's length; a byte of the text may be any that folds as the
+// operand's; nothing else is asked.
+fn cover_at(table: &[u8], kind: u8, operand: &[u8], j: usize) -> Cover
+    requires { ⌜ Folds (now table) × (length (now operand) ≤ textLimit) ⌝ }
+    ensures { λ r. ⌜ CoverFor kind (now (operand .entry)) j r ⌝ }
+{
+    if j == 0 {
+        if kind == Kind::EQUALS {
+            return Cover {
+                mask: 0,
+                value: fields::number::narrow(operand.len()),
+            };
+        }
+        return crate::byte_test::any_byte();
+    }
+    if operand.len() < j {
+        return crate::byte_test::any_byte();
+    }
+    let c = predicate::text::fold_byte(table, operand[j - 1]);
+    crate::byte_test::cover_of(crate::byte_test::byte_test_of(c))
+}
+
+pub fn head_of(table: &[u8], kind: u8, operand: &[u8]) -> Head
+    requires { ⌜ Folds (now table) × (length (now operand) ≤ textLimit) ⌝ }
+    ensures { λ r. ⌜ HeadFor kind (now (operand .entry)) r ⌝ }
+{
+    let mut mask: u32 = 0;
+    let mut value: u32 = 0;
+    let mut j: usize = 0;
+    while j < Head::SIZE {
+        let next = cover_at(table, kind, operand, j);
+        mask = 256 * mask + next.mask as u32;
+        value = 256 * value + next.value as u32;
+        j += 1;
+    }
+    Head { mask, value }
+}
+
+// The head that blanks have, and no others: a length of 0.
+pub fn blank_head() -> Head
+    ensures { λ r. ⌜ BlankHeadIs r ⌝ }
+{
+    Head {
+        mask: 0xff_ffff,
+        value: 0xff_ffff,
+    }
+}
+
+// Whether the head of the slot at p passes.
+pub fn head_passes(b: &[u8], p: usize, k: Head) -> bool
+    requires { ⌜ p + headSize ≤ length (now b) ⌝ }
+    ensures { λ r. ⌜ r ≡ headPasses (now (b .entry)) p k ⌝ }
+{
+    fields::number::four_bytes(b, p) | k.mask == k.value
+}
