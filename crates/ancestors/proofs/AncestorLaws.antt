@@ -7,7 +7,7 @@ use mathlib.Core.Logic.{_⊎_, inl, inr}
 use mathlib.Core.List.{List, [], _∷_, _++_}
 use lib.ListN.{length, getD, set, length-set}
 use lib.Seq.{getD-set-same, getD-set-other}
-use Rattle.strategy.specs.Bools.{same?}
+use Rattle.bools.specs.Bools.{same?}
 use Rattle.query.specs.Format.{depthLimit}
 use Rattle.ancestors.specs.Ancestors.{ancestorSize, ancestorsWidth, heightAt, ancestorPlace, ancestorOver, ancestorAt, ancestorsFrom, ancestorsOf, Low, IsSpan, Spans, Closed}
 

@@ -8,7 +8,7 @@ use mathlib.Core.List.{List}
 use lib.ListN.{length, getD, set, length-set}
 use lib.Dec.{eqb}
 use lib.Seq.{getD-set-same, getD-set-other}
-use Rattle.strategy.specs.Bools.{same?}
+use Rattle.bools.specs.Bools.{same?}
 use Rattle.fields.specs.Numbers.{Bytes}
 use Rattle.sets.specs.Set.{has}
 use Rattle.bitmaps.specs.Bit.{bit}

@@ -11,7 +11,7 @@ use lib.Dec.{eqb, ltb}
 use lib.Pow.{pow-mono}
 use lib.Bits.{bitOr, or-shifted-r}
 use lib.Count.{ones, ones-cat, ones-le, ones-step}
-use Rattle.strategy.specs.Bools.{which, iff-eq, same?, eqb-self, eqb-ne, ltb-yes, ltb-no, ltb-lt, ltb-le}
+use Rattle.bools.specs.Bools.{which, iff-eq, same?, eqb-self, eqb-ne, ltb-yes, ltb-no, ltb-lt, ltb-le}
 use Rattle.sets.specs.Set.{has, oneSet}
 use Rattle.sets.specs.SetLaws.{has-or, has-one, has-none, same-set}
 use Rattle.bitmaps.specs.Sums.{sumOf, digit, countOf}

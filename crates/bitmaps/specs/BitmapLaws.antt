@@ -9,7 +9,7 @@ use mathlib.Core.List.{List}
 use lib.ListN.{length, getD, take, drop, List·getD-eq-default}
 use lib.Seq.{ext-getD, getD-take, length-take-le}
 use lib.Dec.{ltb}
-use Rattle.strategy.specs.Bools.{which, ltb-yes, ltb-no, ltb-lt, ltb-le}
+use Rattle.bools.specs.Bools.{which, ltb-yes, ltb-no, ltb-lt, ltb-le}
 use Rattle.sets.specs.Set.{has}
 use Rattle.sets.specs.SetLaws.{has-none, same-set}
 use Rattle.bitmaps.specs.Sums.{sumOf, joined, digit, countOf}

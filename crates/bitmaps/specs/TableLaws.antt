@@ -8,7 +8,7 @@ use mathlib.Core.List.{List}
 use lib.ListN.{getD, take, drop, replicate, length-replicate, getD-replicate, length-drop, List·getD-eq-default}
 use lib.Seq.{getD-drop}
 use lib.Dec.{ltb}
-use Rattle.strategy.specs.Bools.{which, ltb-yes, ltb-lt, ltb-le}
+use Rattle.bools.specs.Bools.{which, ltb-yes, ltb-lt, ltb-le}
 use Rattle.sets.specs.Set.{has}
 use Rattle.sets.specs.SetLaws.{has-none}
 use Rattle.bitmaps.specs.SumLaws.{joined-same}

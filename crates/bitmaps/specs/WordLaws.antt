@@ -7,7 +7,7 @@ use mathlib.Core.Bool.{Bool, true, false, _&&_}
 use lib.Dec.{eqb, ltb}
 use lib.Pow.{pow-add, shr-shr}
 use lib.Bits.{and-mask}
-use Rattle.strategy.specs.Bools.{iff-eq, ltb-yes, ltb-lt}
+use Rattle.bools.specs.Bools.{iff-eq, ltb-yes, ltb-lt}
 use Rattle.sets.specs.Set.{has, belowSet}
 use Rattle.sets.specs.SetLaws.{has-and, has-below}
 use Rattle.bitmaps.specs.Word.{blockRows, rowsSet}

@@ -8,7 +8,7 @@ use mathlib.Core.List.{List}
 use lib.ListN.{length, length-set, getD, set}
 use lib.Seq.{getD-set-same, getD-set-other}
 use lib.Bits.{bitAnd, bitOr}
-use Rattle.strategy.specs.Bools.{which, iff-eq, or-left, or-right, or-cases, same?}
+use Rattle.bools.specs.Bools.{which, iff-eq, or-left, or-right, or-cases, same?}
 use Rattle.strategy.specs.Tree.{settles, InSpan}
 use Rattle.strategy.specs.TreeLaws.{settles-yes, settles-no}
 use Rattle.strategy.specs.Live.{Live, Step, inSpan, without, meets, through}

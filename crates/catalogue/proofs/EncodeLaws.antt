@@ -14,7 +14,7 @@ use Rattle.fields.specs.declared.header.Header.the-variants.{Cut, Field}
 use Rattle.fields.specs.Decoded.{Decoded, refused, accepted, mapped, andThen}
 use Rattle.fields.specs.Numbers.{numberAt, bytesOf, Bytes}
 use Rattle.fields.specs.Header.{headerAt, fieldOf}
-use Rattle.fields.proofs.Conjunctions.{and-left, and-right}
+use Rattle.bools.specs.Bools.{and-left, and-right}
 use Rattle.fields.proofs.ByteLaws.{bytes-take, bytes-drop}
 use Rattle.fields.proofs.Written.{number-written, number-small}
 use Rattle.fields.proofs.FieldLaws.{FieldAt, HeaderIs, header-is, field-written}

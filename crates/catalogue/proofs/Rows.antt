@@ -7,7 +7,7 @@ use mathlib.Core.List.{List, []}
 use lib.ListN.{length, getD, take, drop}
 use lib.Dec.{leb}
 use borrow.Author.Tests.{leb-true}
-use Rattle.fields.proofs.Conjunctions.{and-left, and-right}
+use Rattle.bools.specs.Bools.{and-left, and-right}
 use Rattle.fields.specs.Numbers.{numberAt}
 use Rattle.catalogue.specs.Format.{numberTag, numberSize, textTag}
 use Rattle.catalogue.specs.Catalogue.{numbers, texts}

@@ -20,7 +20,7 @@ use Rattle.predicate.specs.Meaning.{folded, same, begins, occurs, numberTest, t
 use Rattle.predicate.specs.Payload.{tagsIn, kindFits, rangeFits, operandFits, validPayload}
 use Rattle.query.specs.Query.{Query}
 use Rattle.query.specs.Decode.{payloadAt, isRepeated, predicateField, groupField, memberField, decodeTagged, decodeQuery, member}
-use Rattle.strategy.specs.Bools.{both, leb-yes, ltb-yes}
+use Rattle.bools.specs.Bools.{both, leb-yes, ltb-yes}
 use Rattle.strategy.specs.Assignment.{update, elem}
 use Rattle.strategy.specs.Strategy.{predicates}
 use Rattle.strategy.specs.Trace.{decides, someOutcomes, due, trace}

@@ -8,7 +8,7 @@ use mathlib.Core.List.{List}
 use lib.ListN.{length}
 use lib.Dec.{eqb, ltb, leb}
 use Rattle.fields.specs.Numbers.{numberAt}
-use Rattle.strategy.specs.Bools.{not-true, both, and-parts, clash, eqb-eq, eqb-self, leb-yes, leb-le, ltb-yes, ltb-lt}
+use Rattle.bools.specs.Bools.{not-true, both, and-parts, clash, eqb-eq, eqb-self, leb-yes, leb-le, ltb-yes, ltb-lt}
 use Rattle.strategy.specs.Order.{isOrder}
 use Rattle.bitmaps.specs.Bitmap.{bytesFor}
 use Rattle.rows.specs.Task.{isSelected}

@@ -9,7 +9,7 @@ use mathlib.Core.List.{List, [], _∷_, _++_}
 use lib.ListN.{length, take, drop, length-drop}
 use lib.Seq.{take-append-seam, drop-append-seam, take-append-le, drop-append-le}
 use lib.Dec.{eqb}
-use Rattle.strategy.specs.Bools.{both, and-parts, eqb-eq, eqb-self, eqb-ne, same?, ltb-yes, ltb-no}
+use Rattle.bools.specs.Bools.{both, and-parts, eqb-eq, eqb-self, eqb-ne, same?, ltb-yes, ltb-no}
 use Rattle.strategy.specs.Assignment.{Assignment, Among, elem, Once}
 use Rattle.strategy.specs.AssignmentLaws.{elem-yes, elem-among, elem-no}
 use Rattle.strategy.specs.Order.{occurrences, allBelow, isOrder, Order}

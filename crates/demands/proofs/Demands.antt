@@ -26,7 +26,7 @@ use Rattle.predicate.specs.declared.outcome.Outcome.{Outcome}
 use Rattle.predicate.specs.declared.outcome.Outcome.the-variants.{No, Yes}
 use Rattle.predicate.specs.Meaning.{Predicate, outcome}
 use Rattle.predicate.specs.Payload.{tagsOf, validPayload, predicateOf}
-use Rattle.strategy.specs.Bools.{not-true, and-parts, ltb-yes, ltb-lt}
+use Rattle.bools.specs.Bools.{not-true, and-parts, ltb-yes, ltb-lt}
 use Rattle.strategy.specs.Assignment.{Assignment, Among}
 use Rattle.strategy.specs.Tree.{eval, size}
 use Rattle.strategy.specs.TreeLaws.{all-none, all-more, any-none, any-more}

@@ -7,7 +7,7 @@ use mathlib.Core.List.{List, [], _∷_}
 use lib.ListN.{length, getD}
 use lib.Dec.{eqb}
 use borrow.Author.Tests.{eqb-true}
-use Rattle.fields.proofs.Conjunctions.{and-left, and-right}
+use Rattle.bools.specs.Bools.{and-left, and-right}
 
 module _ (rule : ℕ → ℕ) where
   -- each entry is what the rule gives at its place, the places counted from i

@@ -7,7 +7,7 @@ use mathlib.Core.Logic.{_⊎_, inl, inr}
 use mathlib.Core.List.{List}
 use lib.Dec.{eqb, ltb}
 use lib.Bits.{bitOr}
-use Rattle.strategy.specs.Bools.{which, or-left, or-right, ltb-lt, ltb-le}
+use Rattle.bools.specs.Bools.{which, or-left, or-right, ltb-lt, ltb-le}
 use Rattle.slots.specs.Slots.{textLimit}
 use Rattle.filters.specs.declared.pair.Pair.{Pair}
 use Rattle.filters.specs.Windows.{pairAt, pairIn, windowsPass}

@@ -6,7 +6,7 @@ use mathlib.Core.Bool.{true}
 use mathlib.Core.Logic.{_⊎_, inl, inr}
 use mathlib.Core.List.{List}
 use lib.ListN.{length, getD, drop}
-use Rattle.strategy.specs.Bools.{both, same?}
+use Rattle.bools.specs.Bools.{both, same?}
 use Rattle.catalogue.specs.Format.{textTag}
 use Rattle.slots.specs.Slots.{slotSize, textLimit, textAt}
 use Rattle.catalogue.proofs.Rows.{has-text}

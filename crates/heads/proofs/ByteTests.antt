@@ -6,7 +6,7 @@ use mathlib.Core.Bool.{Bool, true, false, _&&_, _||_, not, cond}
 use mathlib.Core.Logic.{_⊎_, inl, inr}
 use lib.Dec.{eqb}
 use lib.Bits.{bitAnd, bitOr}
-use Rattle.strategy.specs.Bools.{and-parts, same?}
+use Rattle.bools.specs.Bools.{and-parts, same?}
 use Rattle.predicate.specs.Meaning.{fold}
 use Rattle.heads.specs.ByteTest.{testPasses, covers, coverOf, MayFold, byteTestOf}
 

@@ -8,7 +8,7 @@ use mathlib.Core.List.{List, [], _∷_}
 use lib.ListN.{length, getD, drop, length-drop}
 use lib.Seq.{getD-drop, getD-take, length-take-le}
 use lib.Dec.{eqb}
-use Rattle.strategy.specs.Bools.{and-parts, or-cases, same?, clash, eqb-eq}
+use Rattle.bools.specs.Bools.{and-parts, or-cases, same?, clash, eqb-eq}
 use Rattle.slots.specs.Slots.{slotSize, textLimit, textAt}
 use Rattle.predicate.specs.Meaning.{fold, folded, begins, occurs, equals, beginsWith, contains}
 use Rattle.predicate.proofs.TextLaws.{equals-begins, equals-other}

@@ -7,7 +7,7 @@ use mathlib.Core.List.{List}
 use lib.ListN.{length, getD}
 use lib.Bits.{bitAnd, bitOr, or-zero-r, or-add-and, and-mask, or-block}
 use borrow.Author.Tests.{eq-eqb}
-use Rattle.strategy.specs.Bools.{eqb-eq, iff-eq}
+use Rattle.bools.specs.Bools.{eqb-eq, iff-eq}
 use Rattle.fields.specs.Numbers.{numberAt}
 use Rattle.slots.specs.Slots.{textLimit}
 use Rattle.predicate.specs.Kinds.{equalsKind}

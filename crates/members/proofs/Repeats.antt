@@ -10,7 +10,7 @@ use lib.ListN.{length, getD, take, drop, drop-of-length-le}
 use lib.Seq.{drop-cons}
 use lib.Dec.{eqb}
 use borrow.Author.Tests.{eq-eqb, ne-eqb}
-use Rattle.strategy.specs.Bools.{same?, or-left, or-right}
+use Rattle.bools.specs.Bools.{same?, or-left, or-right}
 use Rattle.predicate.specs.Meaning.{Predicate, same}
 use Rattle.predicate.specs.Payload.{payloadHead}
 use Rattle.query.specs.Decode.{payloadAt, payloadOf, isRepeated}

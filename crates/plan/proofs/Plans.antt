@@ -8,7 +8,7 @@ use mathlib.Core.List.{List}
 use lib.ListN.{length, getD, set, length-set}
 use lib.Seq.{getD-set-same, getD-set-other}
 use lib.WfN.{Nat·lt-wfRel}
-use Rattle.strategy.specs.Bools.{same?}
+use Rattle.bools.specs.Bools.{same?}
 use Rattle.records.specs.declared.PredicateRecord.{PredicateRecord}
 use Rattle.query.specs.Format.{predicateLimit}
 use Rattle.plan.specs.Plan.{Access, accessWidth, planSize, accessAt, accessOf, HasColumn, AccessPut, Planned}

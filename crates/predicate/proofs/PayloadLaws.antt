@@ -12,7 +12,7 @@ use Rattle.catalogue.specs.InPlace.{Shows}
 use Rattle.predicate.specs.Kinds.{plainKind}
 use Rattle.predicate.specs.Outcome.{HasRange}
 use Rattle.predicate.specs.Payload.{tagOf, tagsIn, payloadHead, columnByte, kindByte, operandOf, kindFits, rangeFits, operandFits, validPayload}
-use Rattle.fields.proofs.Conjunctions.{and-left, and-right}
+use Rattle.bools.specs.Bools.{and-left, and-right}
 
 -- over the tags alone
 

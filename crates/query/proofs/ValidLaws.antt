@@ -8,8 +8,8 @@ use mathlib.Core.List.{List, []}
 use lib.ListN.{length, getD}
 use lib.Dec.{leb, ltb, eqb}
 use borrow.Author.Tests.{le-leb, lt-leb, lt-ltb, eq-eqb, ne-eqb, leb-true, leb-false, ltb-true, eqb-true}
-use Rattle.fields.proofs.Conjunctions.{and-left, and-right}
-use Rattle.strategy.specs.Bools.{same?}
+use Rattle.bools.specs.Bools.{and-left, and-right}
+use Rattle.bools.specs.Bools.{same?}
 use Rattle.catalogue.specs.Format.{numberTag, textTag, blankNumber}
 use Rattle.slots.specs.Slots.{textLimit}
 use Rattle.catalogue.specs.Catalogue.{Catalogue, Column, numbers, texts}

@@ -11,7 +11,7 @@ use lib.Dec.{ltb}
 use Rattle.fields.specs.Decoded.{refused, accepted}
 use Rattle.fields.specs.Header.{headerAt, headerSize, fieldEnd}
 use Rattle.fields.proofs.Tests.{tests}
-use Rattle.strategy.specs.Bools.{which, ltb-lt, ltb-le}
+use Rattle.bools.specs.Bools.{which, ltb-lt, ltb-le}
 use Rattle.strategy.specs.Tree.{Tree, leaf, group, Forest, none, more, size, sizes, InSpan}
 use Rattle.strategy.specs.Propagation.{enclosing, enclosingIn}
 use Rattle.predicate.specs.Meaning.{Predicate}

@@ -13,7 +13,7 @@ use Rattle.strategy.specs.Propagation.{enclosing}
 use Rattle.predicate.specs.Kinds.{plainKind, oppositeFrom}
 use Rattle.predicate.specs.Meaning.{Predicate}
 use Rattle.predicate.specs.Payload.{kindFits}
-use Rattle.fields.proofs.Conjunctions.{and-left}
+use Rattle.bools.specs.Bools.{and-left}
 use Rattle.predicate.proofs.PayloadLaws.{valid-payload}
 use Rattle.reader.specs.declared.member.Progress.the-variants as progress
 use Rattle.reader.specs.declared.whole.Reading.the-variants.{Refused, Accepted}

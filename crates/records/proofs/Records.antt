@@ -8,7 +8,7 @@ use mathlib.Core.List.{List, [], _∷_, _++_}
 use lib.ListN.{length, getD, set, length-append, List·getD-append}
 use lib.Seq.{getD-set-same, getD-set-other, getD-at}
 use Rattle.fields.specs.Header.{headerSize, fieldEnd}
-use Rattle.strategy.specs.Bools.{same?}
+use Rattle.bools.specs.Bools.{same?}
 use Rattle.predicate.specs.Meaning.{Predicate}
 use Rattle.predicate.specs.Payload.{payloadHead, predicateOf}
 use Rattle.query.specs.Decode.{payloadAt}

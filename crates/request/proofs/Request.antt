@@ -7,7 +7,7 @@ use mathlib.Core.Bool.{Bool, true, false}
 use mathlib.Core.List.{List}
 use lib.Dec.{leb}
 use borrow.Author.Tests.{le-leb, lt-leb}
-use Rattle.strategy.specs.Bools.{and-parts, leb-le}
+use Rattle.bools.specs.Bools.{and-parts, leb-le}
 use Rattle.strategy.specs.Order.{isOrder}
 use Rattle.bitmaps.specs.Table.{lineSize}
 use Rattle.query.specs.Format.{predicateLimit}

@@ -12,7 +12,7 @@ pub fn check_request(order: &[u8], n: usize, size: usize, listed: usize, looks: 
     requires { ⌜ (n ≤ predicateLimit) × (size ≤ lineSize) ⌝ }
     ensures { λ r. ⌜ r ≡ refusalBy (requestChecks n size (now (order .entry)) listed looks) ⌝ }
 {
-    if !sets::is_order(order, fields::number::narrow(n)) {
+    if !orders::is_order(order, fields::number::narrow(n)) {
         return Refusal::NOT_ORDER;
     }
     if listed < size {

@@ -8,7 +8,7 @@ use mathlib.Core.List.{List}
 use lib.ListN.{length, length-set, getD, set}
 use lib.Seq.{getD-set-same, getD-set-other}
 use lib.Bits.{bitAnd, bitOr}
-use Rattle.strategy.specs.Bools.{clash, same?}
+use Rattle.bools.specs.Bools.{clash, same?}
 use Rattle.strategy.specs.Assignment.{Once}
 use Rattle.strategy.specs.AssignmentLaws.{among-at}
 use Rattle.strategy.specs.OrderLaws.{order-law}

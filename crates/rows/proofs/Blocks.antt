@@ -10,7 +10,7 @@ use lib.Dec.{eqb, ltb}
 use lib.ListN.{length, getD, set, drop, drop-of-length-le}
 use lib.Seq.{getD-set-same, getD-set-other, drop-cons}
 use lib.Bits.{bitAnd, bitOr}
-use Rattle.strategy.specs.Bools.{which, same?, eqb-self, eqb-ne, ltb-lt, ltb-le}
+use Rattle.bools.specs.Bools.{which, same?, eqb-self, eqb-ne, ltb-lt, ltb-le}
 use Rattle.strategy.specs.Assignment.{Among, Once}
 use Rattle.strategy.specs.Live.{Live, Step, without}
 use Rattle.strategy.specs.LiveLaws.{without-in, without-off}

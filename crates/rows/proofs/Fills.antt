@@ -7,7 +7,7 @@ use mathlib.Core.List.{List}
 use lib.ListN.{length, length-set, getD, set}
 use lib.Seq.{getD-set-same, getD-set-other}
 use lib.Dec.{eqb}
-use Rattle.strategy.specs.Bools.{clash, same?, eqb-self, eqb-ne}
+use Rattle.bools.specs.Bools.{clash, same?, eqb-self, eqb-ne}
 use Rattle.sets.specs.Set.{has}
 use Rattle.sets.specs.SetLaws.{has-none}
 use Rattle.sets.specs.Kept.{FirstIs, RestIs}

@@ -9,7 +9,7 @@ use mathlib.Core.List.{List}
 use lib.Dec.{ltb}
 use lib.ListN.{length, getD, List·getD-eq-default}
 use Rattle.fields.specs.Numbers.{Bytes}
-use Rattle.strategy.specs.Bools.{which, not-true, iff-eq, ltb-yes, ltb-no, ltb-lt, ltb-le}
+use Rattle.bools.specs.Bools.{which, not-true, iff-eq, ltb-yes, ltb-no, ltb-lt, ltb-le}
 use Rattle.strategy.specs.AssignmentLaws.{elem-among}
 use Rattle.strategy.specs.Order.{Order}
 use Rattle.strategy.specs.OrderLaws.{order-law}

@@ -8,7 +8,7 @@ use mathlib.Core.List.{List}
 use lib.ListN.{length}
 use lib.Dec.{leb, ltb, eqb}
 use borrow.Author.Tests.{le-leb, lt-leb, leb-true, eq-eqb, eqb-true, ltb-true}
-use Rattle.strategy.specs.Bools.{both, and-parts, iff-eq, same?, eqb-ne}
+use Rattle.bools.specs.Bools.{both, and-parts, iff-eq, same?, eqb-ne}
 use Rattle.catalogue.specs.Format.{blankNumber}
 use Rattle.slots.specs.Slots.{textLimit}
 use Rattle.predicate.specs.Kinds.{rangeKind, numberBlankKind, equalsKind, containsKind, textBlankKind}

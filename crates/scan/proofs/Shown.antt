@@ -8,7 +8,7 @@ use lib.ListN.{length, getD, take, drop}
 use lib.Dec.{leb, eqb}
 use lib.Bits.{bitXor}
 use borrow.Author.Tests.{lt-ltb, le-ltb, le-leb, lt-leb, leb-true}
-use Rattle.strategy.specs.Bools.{and-parts, eqb-eq}
+use Rattle.bools.specs.Bools.{and-parts, eqb-eq}
 use Rattle.fields.specs.Numbers.{numberAt}
 use Rattle.catalogue.specs.Format.{numberTag, numberSize, textTag}
 use Rattle.catalogue.specs.Catalogue.{Column, numbers, texts}

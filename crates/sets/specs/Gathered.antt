@@ -6,7 +6,7 @@ use mathlib.Core.Path.{_≡_, refl, sym, ap, ap₂, _∙_}
 use mathlib.Core.Bool.{Bool, true, false, _&&_, cond}
 use lib.Dec.{eqb, ltb, leb·suc-suc}
 use lib.Pow.{pow-mono}
-use Rattle.strategy.specs.Bools.{ltb-yes, ltb-no}
+use Rattle.bools.specs.Bools.{ltb-yes, ltb-no}
 use Rattle.sets.specs.Set.{has, belowSet}
 use Rattle.sets.specs.SetLaws.{has-half, has-none, has-below}
 use Rattle.sets.specs.Kept.{KeptBy}

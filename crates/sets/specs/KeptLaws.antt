@@ -8,7 +8,7 @@ use mathlib.Core.Logic.{_⊎_, inl, inr}
 use lib.Dec.{eqb}
 use lib.Bits.{bitAnd, bitOr, bitXor, and-le-r, and-step, xor-step, and-self, xor-self}
 use lib.Count.{trailingZeros, under}
-use Rattle.strategy.specs.Bools.{clash, and-parts, same?, eqb-self, eqb-ne}
+use Rattle.bools.specs.Bools.{clash, and-parts, same?, eqb-self, eqb-ne}
 use Rattle.sets.specs.Set.{has, oneSet}
 use Rattle.sets.specs.SetLaws.{has-or, has-xor, has-half, has-none, has-one}
 use Rattle.sets.specs.Kept.{KeptBy, Sifted, FirstIs, RestIs, Sorting}

@@ -3,4 +3,3 @@ pub mod SetLaws
 pub mod Kept
 pub mod KeptLaws
 pub mod Gathered
-pub mod OrderSet

@@ -5,13 +5,10 @@ use native.Mathlib.Numerals.{one-add}
 use native.Mathlib.Omega.{arith}
 use mathlib.Core.Path.{_≡_, refl, sym, ap, _∙_, fun-ext}
 use mathlib.Core.Bool.{Bool, true, false, _&&_, _||_, cond, xor, true≢false, false≢true}
-use mathlib.Core.Logic.{_⊎_, inl, inr}
 use lib.Dec.{eqb, ltb, leb·suc-suc, eqb·suc-suc, lit<}
 use lib.Pow.{pow-pos, pow-mono, pow-lt, shl-exact, shr-shr}
 use lib.Bits.{bitAnd, bitOr, bitXor, and-mask, and-shr, and-mod, or-lt, or-shr, or-mod, xor-shr, xor-mod}
-use Rattle.strategy.specs.Bools.{which, iff-eq, eqb-self, eqb-eq, eqb-ne, ltb-yes, ltb-no, ltb-lt, ltb-le}
-use Rattle.strategy.specs.Order.{allBelow, add}
-use Rattle.strategy.specs.OrderLaws.{allBelow-gives, allBelow-of}
+use Rattle.bools.specs.Bools.{eqb-ne, ltb-yes, ltb-no}
 use Rattle.sets.specs.Set.{has, oneSet, belowSet, setMinus, setWith}
 
 -- one bit of each
@@ -110,10 +107,6 @@ has-one (suc c) (suc d) =
     let q : 2 ^ suc c / 2 ≡ 2 ^ c = omega arith in
     has-half (2 ^ suc c) d ∙ ap (λ (z : ℕ). has z d) q ∙ has-one c d ∙ sym (eqb·suc-suc d c)
 
--- with one number more, as a set of the order's check
-pub has-with : (x d : ℕ) → has (setWith x d) ≡ add d (has x)
-has-with x d = fun-ext (λ c. has-or x (oneSet d) c ∙ ap (λ b. has x c || b) (has-one d c))
-
 -- sets with the same members are the same number
 pub same-set : (k x y : ℕ) → x < 2 ^ k → y < 2 ^ k → ((d : ℕ) → has x d ≡ has y d) → x ≡ y
 unfolding has
@@ -134,31 +127,15 @@ same-set (suc n) x y h k e =
     bit (suc (suc a)) b l m q = absurd (omega arith)
 
 -- a set below `2 ^ n` holds only numbers below `n`
-has-high : (n x d : ℕ) → x < 2 ^ n → n ≤ d → has x d ≡ false
+pub has-high : (n x d : ℕ) → x < 2 ^ n → n ≤ d → has x d ≡ false
 unfolding has
 has-high n x d h l = ap (λ (z : ℕ). eqb (z % 2) 1) (div-eq-of-lt {n = x} {m = 2 ^ d} (omega (arith, pow-mono {i = n} {j = d} l)))
 
 pub with-lt : (n x c : ℕ) → x < 2 ^ n → c < n → setWith x c < 2 ^ n
 with-lt n x c h l = or-lt n x (oneSet c) h (pow-lt {i = c} {j = n} l)
 
-below-lt : (n : ℕ) → belowSet n < 2 ^ n
+pub below-lt : (n : ℕ) → belowSet n < 2 ^ n
 below-lt n = omega (arith, pow-pos n)
-
--- and holds all of them exactly if it is `belowSet n`
-pub all-seen : (n x : ℕ) → x < 2 ^ n → eqb x (belowSet n) ≡ allBelow n (has x)
-all-seen n x h = iff-eq (eqb x (belowSet n)) (allBelow n (has x)) to from
-  where
-    to : eqb x (belowSet n) ≡ true → allBelow n (has x) ≡ true
-    to e = allBelow-of n (has x) (λ d m. ap (λ (z : ℕ). has z d) (eqb-eq x (belowSet n) e) ∙ has-below n d ∙ ltb-yes d n m)
-
-    same : allBelow n (has x) ≡ true → (d : ℕ) → (ltb d n ≡ true) ⊎ (ltb d n ≡ false) → has x d ≡ has (belowSet n) d
-    same e d (inl y) = allBelow-gives n (has x) e d (ltb-lt d n y) ∙ sym (has-below n d ∙ y)
-    same e d (inr y) = has-high n x d h (ltb-le d n y) ∙ sym (has-below n d ∙ y)
-
-    from : allBelow n (has x) ≡ true → eqb x (belowSet n) ≡ true
-    from e =
-        let q : x ≡ belowSet n = same-set n x (belowSet n) h (below-lt n) (λ d. same e d (which (ltb d n))) in
-        ap (λ (z : ℕ). eqb z (belowSet n)) q ∙ eqb-self (belowSet n)
 
 -- the steps of the code
 pub bit-has : (x d : ℕ) → eqb (bitAnd (x / 2 ^ d) 1) 1 ≡ has x d

@@ -1,9 +1,8 @@
-// A set of numbers below 64, held as the bits of a u64, and the check of an order by such a set.
+// A set of numbers below 64, held as the bits of a u64.
 // A loop over the numbers of a set x takes first(x) and goes on with rest(x).
 ghost use mathlib.Core.Path.{_≡_};
 ghost use mathlib.Core.Bool.{cond};
 ghost use Prim.Native.Nat.{_≤_, _<_};
-ghost use Rattle.strategy.specs.Order.{isOrder};
 ghost use Rattle.sets.specs.Set.{has, oneSet, belowSet, setMinus, setWith};
 ghost use Rattle.sets.specs.Kept.{FirstIs, RestIs};
 
@@ -79,25 +78,4 @@ pub fn kept(test: bool, d: u8) -> u64
     ensures { λ r. ⌜ r ≡ cond test (oneSet d) 0 ⌝ }
 {
     bit(test) << d
-}
-
-// Is the order n bytes holding each number below n once.
-pub fn is_order(order: &[u8], n: u8) -> bool
-    requires { ⌜ n ≤ 64 ⌝ }
-    ensures { λ r. ⌜ r ≡ isOrder n (now (order .entry)) ⌝ }
-{
-    let mut seen: u64 = 0;
-    let mut i: usize = 0;
-    while i < order.len() {
-        let c = order[i];
-        if n <= c {
-            return false;
-        }
-        if has(seen, c) {
-            return false;
-        }
-        seen = with(seen, c);
-        i += 1;
-    }
-    seen == below(n)
 }

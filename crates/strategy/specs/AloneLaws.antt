@@ -6,7 +6,7 @@ use mathlib.Core.Bool.{Bool, true, false, _&&_, not, cond, true≢false}
 use mathlib.Core.Logic.{_⊎_, inl, inr}
 use mathlib.Core.List.{List, _∷_}
 use lib.Dec.{ltb, eqb}
-use Rattle.strategy.specs.Bools.{clash, iff-eq, each, both, and-parts, or-cases, or-left, or-right, eqb-self, eqb-eq, same?, ltb-yes, ltb-no, not-of-true}
+use Rattle.bools.specs.Bools.{clash, iff-eq, each, both, and-parts, or-cases, or-left, or-right, eqb-self, eqb-eq, same?, ltb-yes, ltb-no, not-of-true}
 use Rattle.strategy.specs.Assignment.{Assignment, update, Among, AgreeOff}
 use Rattle.strategy.specs.AssignmentLaws.{update-same, update-other, update-twice, update-agrees, among?, elem-yes, elem-no}
 use Rattle.strategy.specs.Strategy.{Due}

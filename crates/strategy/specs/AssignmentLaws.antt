@@ -7,7 +7,7 @@ use mathlib.Core.Logic.{_⊎_, inl, inr}
 use mathlib.Core.List.{List, [], _∷_}
 use lib.Dec.{eqb}
 use lib.ListN.{length, getD}
-use Rattle.strategy.specs.Bools.{clash, not-true, or-cases, or-right, eqb-self, eqb-eq, eqb-ne, same?}
+use Rattle.bools.specs.Bools.{clash, not-true, or-cases, or-right, eqb-self, eqb-eq, eqb-ne, same?}
 use Rattle.strategy.specs.Assignment.{Assignment, update, Among, elem, AgreeOff}
 
 pub update-same : (a : Assignment) (c : ℕ) (b : Bool) → update a c b c ≡ b

@@ -4,7 +4,7 @@ use mathlib.Core.Path.{_≡_, refl, sym, ap, _∙_, subst, fun-ext}
 use mathlib.Core.Bool.{Bool, true, false, _||_}
 use mathlib.Core.Logic.{_↔_, _⊎_, inl, inr}
 use mathlib.Core.List.{List, [], _∷_}
-use Rattle.strategy.specs.Bools.{clash, not-true, stable, iff-eq, or-cases, or-left, or-right, xor-differ, differ-xor, same?}
+use Rattle.bools.specs.Bools.{clash, not-true, stable, iff-eq, or-cases, or-left, or-right, xor-differ, differ-xor, same?}
 use Rattle.strategy.specs.Assignment.{Assignment, update, Among, AgreeOff}
 use Rattle.strategy.specs.AssignmentLaws.{update-same, update-other, update-self, update-twice, update-swap, update-off, off-more}
 use Rattle.strategy.specs.Strategy.{Formula, Due}

@@ -1,4 +1,3 @@
-pub mod Bools
 pub mod Assignment
 pub mod AssignmentLaws
 pub mod Strategy

@@ -5,7 +5,7 @@ use mathlib.Core.Path.{_≡_, refl}
 use mathlib.Core.Bool.{Bool, true, false, not}
 use mathlib.Core.Logic.{_⊎_, inl, inr}
 use lib.Dec.{ltb, leb}
-use Rattle.strategy.specs.Bools.{which, clash, not-true, both, and-parts, or-cases, or-fails, same?, ltb-yes, ltb-lt, leb-yes, leb-le}
+use Rattle.bools.specs.Bools.{which, clash, not-true, both, and-parts, or-cases, or-fails, same?, ltb-yes, ltb-lt, leb-yes, leb-le}
 use Rattle.strategy.specs.Tree.{InSpan}
 use Rattle.strategy.specs.TreeLaws.{settles-self, settles-not}
 use Rattle.strategy.specs.Live.{Live, inSpan, without, meets, Step, through}

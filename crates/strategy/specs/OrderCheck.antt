@@ -8,7 +8,7 @@ use mathlib.Core.List.{List, [], _∷_}
 use lib.Dec.{eqb, ltb}
 use lib.ListN.{length, getD, drop, drop-of-length-le}
 use lib.Seq.{drop-cons}
-use Rattle.strategy.specs.Bools.{clash, not-true, not-of-true, iff-eq, both, and-parts, or-cases, or-left, or-right, eqb-self, eqb-eq, ltb-yes, ltb-no, ltb-lt}
+use Rattle.bools.specs.Bools.{clash, not-true, not-of-true, iff-eq, both, and-parts, or-cases, or-left, or-right, eqb-self, eqb-eq, ltb-yes, ltb-no, ltb-lt}
 use Rattle.strategy.specs.Assignment.{Among, Once}
 use Rattle.strategy.specs.Order.{allBelow, isOrder, add, checks}
 use Rattle.strategy.specs.OrderLaws.{allBelow-gives, allBelow-of, order-law}

@@ -7,7 +7,7 @@ use mathlib.Core.Logic.{_↔_, _⊎_, inl, inr}
 use mathlib.Core.List.{List, [], _∷_}
 use lib.Dec.{eqb, ltb}
 use lib.ListN.{length}
-use Rattle.strategy.specs.Bools.{which, both, and-parts, eqb-self, eqb-eq, eqb-ne, same?, ltb-yes, ltb-no, ltb-lt, ltb-le}
+use Rattle.bools.specs.Bools.{which, both, and-parts, eqb-self, eqb-eq, eqb-ne, same?, ltb-yes, ltb-no, ltb-lt, ltb-le}
 use Rattle.strategy.specs.Assignment.{Among, Once}
 use Rattle.strategy.specs.AssignmentLaws.{among?}
 use Rattle.strategy.specs.Order.{occurrences, allBelow, isOrder, Order}

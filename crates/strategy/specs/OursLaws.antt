@@ -4,7 +4,7 @@ use mathlib.Core.Path.{_≡_, refl, sym, ap, _∙_, subst, fun-ext}
 use mathlib.Core.Bool.{Bool, true, false, cond}
 use mathlib.Core.Logic.{_⊎_, inl, inr}
 use mathlib.Core.List.{List, [], _∷_, _++_, append-assoc, append-nil}
-use Rattle.strategy.specs.Bools.{iff-eq, eqb-self, eqb-ne}
+use Rattle.bools.specs.Bools.{iff-eq, eqb-self, eqb-ne}
 use Rattle.strategy.specs.Assignment.{Assignment, allNo, update, Among, Once, AgreeOff, AgreeOn, keepIf}
 use Rattle.strategy.specs.AssignmentLaws.{update-same, update-other, update-off, off-more, among?}
 use Rattle.strategy.specs.Strategy.{Formula, Due, State, Strategy, turn, finalStateFrom, finalState, answerOf, Right}

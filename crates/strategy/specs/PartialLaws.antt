@@ -6,7 +6,7 @@ use mathlib.Core.Bool.{Bool, true, false, not, cond, true≢false, false≢true}
 use mathlib.Core.Logic.{_⊎_, inl, inr}
 use mathlib.Core.List.{List, _∷_}
 use lib.Dec.{eqb, ltb}
-use Rattle.strategy.specs.Bools.{which, clash, each, eqb-self, eqb-eq, eqb-ne, same?, ltb-lt, ltb-le}
+use Rattle.bools.specs.Bools.{which, clash, each, eqb-self, eqb-eq, eqb-ne, same?, ltb-lt, ltb-le}
 use Rattle.strategy.specs.Assignment.{Assignment, Among}
 use Rattle.strategy.specs.AssignmentLaws.{among?}
 use Rattle.strategy.specs.Tree.{Tree, leaf, group, Forest, none, more, join, eval, evals, size, sizes, Numbered, Numbereds, HasMember, NonEmpty, NonEmpties, InSpan}

@@ -6,7 +6,7 @@ use mathlib.Core.Bool.{Bool, true, false, not, cond}
 use mathlib.Core.Logic.{_⊎_, inl, inr}
 use mathlib.Core.List.{List, [], _∷_, _++_}
 use lib.Dec.{ltb}
-use Rattle.strategy.specs.Bools.{which, clash, not-of-true, ltb-lt, ltb-le}
+use Rattle.bools.specs.Bools.{which, clash, not-of-true, ltb-lt, ltb-le}
 use Rattle.strategy.specs.Tree.{Tree, leaf, group, Forest, none, more, settles, size, sizes, InSpan}
 use Rattle.strategy.specs.TreeLaws.{settles-yes, settles-no}
 use Rattle.strategy.specs.Live.{Live, Step, inSpan, without, meets, leafStep, through, settle, settleIn}

@@ -9,7 +9,7 @@ use mathlib.Core.List.{List, [], _∷_}
 use lib.Dec.{eqb}
 use lib.ListN.{length, getD, drop}
 use lib.Seq.{drop-cons}
-use Rattle.strategy.specs.Bools.{which, same?}
+use Rattle.bools.specs.Bools.{which, same?}
 use Rattle.strategy.specs.Assignment.{Assignment, Among, elem}
 use Rattle.strategy.specs.Strategy.{State, predicates}
 use Rattle.strategy.specs.Trace.{trace}

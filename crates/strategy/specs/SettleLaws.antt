@@ -5,7 +5,7 @@ use mathlib.Core.Path.{_≡_, refl, sym, ap, ap₂, _∙_, subst}
 use mathlib.Core.Bool.{Bool, true, false, _&&_, not, cond}
 use mathlib.Core.Logic.{_⊎_, inl, inr}
 use lib.Dec.{ltb}
-use Rattle.strategy.specs.Bools.{which, clash, not-true, iff-eq, each, self-or-not, not-self, not-of-true, not-of-false, and-parts, eqb-eq, ltb-yes, ltb-no, ltb-lt, ltb-le}
+use Rattle.bools.specs.Bools.{which, clash, not-true, iff-eq, each, self-or-not, not-self, not-of-true, not-of-false, and-parts, eqb-eq, ltb-yes, ltb-no, ltb-lt, ltb-le}
 use Rattle.strategy.specs.Tree.{Tree, leaf, group, Forest, none, more, eval, evals, size, sizes, Numbered, Numbereds, InSpan}
 use Rattle.strategy.specs.TreeLaws.{join-unit-left, join-left, join-right, Toward, evals-toward, eval-span, evals-span}
 use Rattle.strategy.specs.Alone.{Status, unseen, seen, Partial, isUnseen, statusAs, unseenAs, alone, aloneIn}

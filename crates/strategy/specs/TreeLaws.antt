@@ -4,7 +4,7 @@ use native.Mathlib.Omega.{arith}
 use mathlib.Core.Path.{_≡_, refl, sym, ap₂}
 use mathlib.Core.Bool.{Bool, true, false, _&&_, _||_, not, true≢false}
 use mathlib.Core.Logic.{_⊎_, inl, inr}
-use Rattle.strategy.specs.Bools.{both, and-parts, and-fails, or-cases, or-fails, or-right}
+use Rattle.bools.specs.Bools.{both, and-parts, and-fails, or-cases, or-fails, or-right}
 use Rattle.strategy.specs.Assignment.{Assignment}
 use Rattle.strategy.specs.Tree.{Tree, leaf, group, Forest, none, more, all, any, join, settles, eval, evals, size, sizes, Numbered, Numbereds, relabel, relabels, InSpan}
 

@@ -5,7 +5,7 @@ use mathlib.Core.Path.{_≡_, refl, sym, ap, _∙_, subst, fun-ext}
 use mathlib.Core.Bool.{Bool, true, false, _&&_, not, true≢false}
 use mathlib.Core.Logic.{_⊎_, inl, inr}
 use mathlib.Core.List.{List, [], _∷_}
-use Rattle.strategy.specs.Bools.{clash, not-self, same?}
+use Rattle.bools.specs.Bools.{clash, not-self, same?}
 use Rattle.strategy.specs.Assignment.{Assignment, Among, Once, AgreeOff}
 use Rattle.strategy.specs.AssignmentLaws.{among?}
 use Rattle.strategy.specs.Trace.{due, trace}

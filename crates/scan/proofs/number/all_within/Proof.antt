@@ -3,7 +3,7 @@ use Prim.Native.Nat.{ℕ, _+_, _-_, _*_, _<_}
 use native.Mathlib.Omega.{arith}
 use mathlib.Core.Path.{_≡_, sym, ap, _∙_}
 use mathlib.Core.List.{List}
-use Rattle.strategy.specs.Bools.{ltb-lt}
+use Rattle.bools.specs.Bools.{ltb-lt}
 use Rattle.catalogue.specs.Format.{numberTag}
 use Rattle.catalogue.proofs.Rows.{has-number}
 use Rattle.sets.specs.Set.{belowSet}

@@ -1,15 +1,38 @@
 -- The check of an order with the numbers seen held as one set: the state of its loop, and each thing that a turn can do.
 use Prim.Native.Nat.{ℕ, _+_, _^_, _≤_, _<_}
-use mathlib.Core.Path.{_≡_, sym, ap, _∙_}
-use mathlib.Core.Bool.{true, false}
+use mathlib.Core.Path.{_≡_, sym, ap, _∙_, fun-ext}
+use mathlib.Core.Bool.{true, false, _||_}
+use mathlib.Core.Logic.{_⊎_, inl, inr}
 use mathlib.Core.List.{List}
-use lib.Dec.{eqb}
+use lib.Dec.{eqb, ltb}
 use lib.ListN.{length, getD, drop}
 use lib.Pow.{pow-pos}
-use Rattle.strategy.specs.Order.{isOrder, checks}
+use Rattle.strategy.specs.Order.{isOrder, checks, allBelow, add}
+use Rattle.strategy.specs.OrderLaws.{allBelow-gives, allBelow-of}
 use Rattle.strategy.specs.OrderCheck.{order-checks, check-high, check-again, check-next, check-end}
-use Rattle.sets.specs.Set.{has, belowSet, setWith}
-use Rattle.sets.specs.SetLaws.{empty-has, has-with, with-lt, all-seen}
+use Rattle.bools.specs.Bools.{which, iff-eq, eqb-self, eqb-eq, ltb-yes, ltb-lt, ltb-le}
+use Rattle.sets.specs.Set.{has, oneSet, belowSet, setWith}
+use Rattle.sets.specs.SetLaws.{empty-has, has-or, has-one, has-below, has-high, below-lt, same-set, with-lt}
+
+-- with one number more, as a set of the order's check
+pub has-with : (x d : ℕ) → has (setWith x d) ≡ add d (has x)
+has-with x d = fun-ext (λ c. has-or x (oneSet d) c ∙ ap (λ b. has x c || b) (has-one d c))
+
+-- a set below `2 ^ n` holds all numbers below `n` exactly if it is `belowSet n`
+pub all-seen : (n x : ℕ) → x < 2 ^ n → eqb x (belowSet n) ≡ allBelow n (has x)
+all-seen n x h = iff-eq (eqb x (belowSet n)) (allBelow n (has x)) to from
+  where
+    to : eqb x (belowSet n) ≡ true → allBelow n (has x) ≡ true
+    to e = allBelow-of n (has x) (λ d m. ap (λ (z : ℕ). has z d) (eqb-eq x (belowSet n) e) ∙ has-below n d ∙ ltb-yes d n m)
+
+    same : allBelow n (has x) ≡ true → (d : ℕ) → (ltb d n ≡ true) ⊎ (ltb d n ≡ false) → has x d ≡ has (belowSet n) d
+    same e d (inl y) = allBelow-gives n (has x) e d (ltb-lt d n y) ∙ sym (has-below n d ∙ y)
+    same e d (inr y) = has-high n x d h (ltb-le d n y) ∙ sym (has-below n d ∙ y)
+
+    from : allBelow n (has x) ≡ true → eqb x (belowSet n) ≡ true
+    from e =
+        let q : x ≡ belowSet n = same-set n x (belowSet n) h (below-lt n) (λ d. same e d (which (ltb d n))) in
+        ap (λ (z : ℕ). eqb z (belowSet n)) q ∙ eqb-self (belowSet n)
 
 -- the first `i` numbers are checked, `seen` holds them, and the order is accepted exactly if the rest is
 pub record Checked (n : ℕ) (order : List ℕ) (i seen : ℕ) : Type 0 where

@@ -1,4 +1,4 @@
--- `sets::is_order`: the loop's invariant is `Checked`, what is checked and what is left; each path is one of its laws.
+-- `orders::is_order`: the loop's invariant is `Checked`, what is checked and what is left; each path is one of its laws.
 use Prim.Native.Nat.{_≤_, _-_, _+_}
 use native.Mathlib.Omega.{arith}
 use mathlib.Core.Path.{sym, ap, _∙_, subst}
@@ -6,9 +6,9 @@ use lib.Dec.{eqb}
 use lib.ListN.{length}
 use denote.Ref.{now}
 use borrow.Author.Needs.{needs}
-use Rattle.sets.specs.OrderSet.{Checked, checked-none, checked-end, checked-high, checked-again, checked-next}
-use Rattle.sets.proofs.is_order.Statement.{statement}
-use Rattle.sets.proofs.is_order.Tie as tie
+use Rattle.orders.specs.OrderSet.{Checked, checked-none, checked-end, checked-high, checked-again, checked-next}
+use Rattle.orders.proofs.is_order.Statement.{statement}
+use Rattle.orders.proofs.is_order.Tie as tie
 
 abbrev Inv-loop : tie.InvT-loop
 Inv-loop order n seen₀ i₀ seen i = (i ≤ length order) × Checked n order i seen
