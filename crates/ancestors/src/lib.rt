@@ -15,10 +15,10 @@ impl Ancestors {
     pub const TAG: usize = 2;
 
     // The bytes of one ancestor.
-    pub const ANCESTOR_SIZE: usize = 3;
+    pub const SIZE: usize = 3;
 
     // A line: the number of ancestors, then each.
-    pub const LINE_SIZE: usize = 1 + Ancestors::ANCESTOR_SIZE * Group::DEPTH_LIMIT;
+    pub const LINE_SIZE: usize = 1 + Ancestors::SIZE * Group::DEPTH_LIMIT;
 
     pub const TABLE_SIZE: usize = Ancestors::LINE_SIZE * Predicate::LIMIT;
 }
@@ -34,7 +34,7 @@ pub fn close_group(ancestors: &mut [u8], a: usize, m: usize, tag: u8)
     while c < m {
         let line = Ancestors::LINE_SIZE * c;
         let height = ancestors[line];
-        let i = line + 1 + Ancestors::ANCESTOR_SIZE * fields::number::widen(height);
+        let i = line + 1 + Ancestors::SIZE * fields::number::widen(height);
         ancestors[i + Ancestors::FIRST] = first;
         ancestors[i + Ancestors::END] = end;
         ancestors[i + Ancestors::TAG] = tag;

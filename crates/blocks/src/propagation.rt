@@ -27,13 +27,7 @@ pub fn propagate_rows(ancestors: &[u8], c: usize, live: &mut [u64], due: u64, me
     let mut active = due;
     let mut k: usize = 0;
     while k < height {
-        active = pass_ancestor(
-            ancestors,
-            line + 1 + Ancestors::ANCESTOR_SIZE * k,
-            live,
-            active,
-            met,
-        );
+        active = pass_ancestor(ancestors, line + 1 + Ancestors::SIZE * k, live, active, met);
         if active == 0 {
             return active;
         }
