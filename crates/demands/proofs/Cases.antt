@@ -31,11 +31,12 @@ use Rattle.bitmaps.specs.Bitmap.{bytesFor, bitmap, bitmaps, onesIn}
 use Rattle.rows.specs.Task.{isSelected, traceAt}
 use Rattle.input.specs.Input.{Input, withQuery, decodeInput}
 use Rattle.answers.specs.Checks.{checked}
-use Rattle.answers.specs.declared.word.Answer.the-variants.{Accepted}
+use Rattle.answers.specs.declared.word.Answer.the-variants.{Refused, Accepted}
 use Rattle.answers.specs.Word.{packed}
 use Rattle.demands.specs.Run.{lent, ran, rowCount, predicateCount, taskOf, selection, probeBitmaps, tablesFit, counterSize, counterAfter, counterFits, runOn, runOf}
-use Rattle.demands.specs.Parish.{nested}
-use Rattle.demands.specs.Cases.{Holds, findsNothing, noRows, cases, AllHold}
+use Rattle.demands.specs.Parish.{parish, yearBlank, both as bothMembers, question, nested}
+use Rattle.demands.specs.Cases.{Holds, questionCheck, findsNothing, noRows, oneRow, cases, AllHold}
+use Rattle.demands.proofs.CaseInputs.{parish-input, both-input, one-input, run-on}
 
 -- a catalogue without rows has empty bitmaps, whatever is asked
 no-rows : (f : ℕ → Bool) → bitmap f 0 ≡ []
@@ -91,6 +92,13 @@ finds-nothing q order listed looks tally i e o bytes n =
     let z : rowCount i ≡ 0 = ap (λ (C : Catalogue). C .rows) (its-catalogue _ (decodeQuery _ q) i e) in
     rw e (no-rows-run i noRows q order listed looks tally z o bytes n)
 
+nine-nested : Holds (questionCheck parish (nested 9 yearBlank) (Refused 10))
+unfolding numberAt headerAt textAt textsAt zerosAt validSlot validSlots numbersAt countsAt firstFieldOf columnOf columnsAt decodeCatalogue plainKind tagsIn kindFits rangeFits operandFits validPayload payloadAt isRepeated predicateField groupField memberField decodeTagged decodeQuery member decodeInput nested
+nine-nested = refl
+
 pub cases-hold : AllHold cases
-unfolding numberAt bytesOf headerAt textAt textsAt zerosAt validSlot validSlots numbersAt countsAt firstFieldOf columnOf columnsAt decodeCatalogue folded same begins occurs plainKind numberTest textTest outcomeOf tagsIn kindFits rangeFits operandFits validPayload payloadAt isRepeated predicateField groupField memberField decodeTagged decodeQuery member update elem predicates decides someOutcomes due trace eval occurrences allBelow isOrder sumOf joined bitmap bitmaps onesIn isSelected traceAt decodeInput selection probeBitmaps checked runOn runOf nested ones digitOnes xor
-cases-hold = (refl, (refl, (refl, (refl, (refl, (refl, (refl, (refl, (refl, (refl, (refl, (refl, (refl, (refl, (refl, (refl, (finds-nothing, (refl, (refl, (refl, (refl, tt)))))))))))))))))))))
+unfolding numberAt bytesOf headerAt numbersAt countsAt firstFieldOf columnOf columnsAt decodeCatalogue folded same begins occurs plainKind numberTest textTest outcomeOf update elem predicates decides someOutcomes due trace eval occurrences allBelow isOrder sumOf joined bitmap bitmaps onesIn isSelected traceAt selection probeBitmaps checked runOn ones digitOnes xor
+cases-hold = (
+  run-on parish question _ _ _ _ parish-input,
+  (run-on parish question _ _ _ _ parish-input, (refl, (refl, (refl, (refl, (refl, (refl, (refl, (refl, (refl, (refl, (refl, (refl, (refl, (refl, (finds-nothing, (refl, (nine-nested, (run-on parish bothMembers _ _ _ _ both-input, (run-on oneRow yearBlank _ _ _ _ one-input, tt)))))))))))))))))))),
+)

@@ -1,3 +1,4 @@
+pub mod CaseInputs
 pub mod Cases
 pub mod DemandLaws
 pub mod DemandTables

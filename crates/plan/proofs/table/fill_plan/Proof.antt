@@ -235,7 +235,10 @@ module _ {M : Type 1} (𝓤 : URA M) (H : Heap 𝓤) (A : Atoms 𝓤) (W : Given
   leaves-plan : (ts : List PredicateRecord) (β : ℕ) (γ : GName) (l : ℕ) (w : Val) → ent 𝓤 (Plans 𝓤 H A mem′ run .post (to-plan ts β γ l) w) (mean 𝓤 H A (later (some (of-plan ts β w))))
   leaves-plan ts β γ l w =
       qed W (raw (Plans 𝓤 H A mem′ run .post (to-plan ts β γ l) w) ∷ []) ∵ updating ! $
-      use1 W (later (some (λ (r : Unit {0}). ((‵ (flft κ₀ q₀) ⊛ ‵ (flft κ₁ q₁) ⊛ ‵ (flft (β ∷ []) fullShare) ⊛ ‵ (flft κ₄ q₄) ⊛ ‵ ftrue) ⊛ ‵ (Nothing .own r (w ∷ []))) ⊛ raw (ensured 𝓤 H A plan-records.ended (plan-records.clauses 𝓤 H A mem′ run) (plan-lfts β) (plan-args ts γ l) tt r)))) (id⊢ 𝓤 _) $ await ! tt $ pick ! (λ r. split ! $ move ! (1 ∷ []) $
+      use1 W
+      (later (some (λ (r : Unit {0}). ((‵ (flft κ₀ q₀) ⊛ ‵ (flft κ₁ q₁) ⊛ ‵ (flft (β ∷ []) fullShare) ⊛ ‵ (flft κ₄ q₄) ⊛ ‵ ftrue) ⊛ ‵ (Nothing .own r (w ∷ [])))
+      ⊛ raw (ensured 𝓤 H A plan-records.ended (plan-records.clauses 𝓤 H A mem′ run) (plan-lfts β) (plan-args ts γ l) tt r))))
+      (id⊢ 𝓤 _) $ await ! tt $ pick ! (λ r. split ! $ move ! (1 ∷ []) $
       use1 W (some (λ (zs : Unit {0} × (Unit {0} × (Unit {0} × (Unit {0} × (List ℕ × Unit {0}))))). ‵ (lasts plan-records.ended (plan-lfts β) (plan-args ts γ l) zs) ⊛ raw (fact 𝓤 (Filled ts (zs .1 .1 .1 .1 .0))))) (id⊢ 𝓤 _) $ pick ! (λ zs.
       split ! $ move ! (1 ∷ []) $ heard ! (Filled ts (zs .1 .1 .1 .1 .0)) (λ f.
       -- [what is said of tags, of starts, of the table, of n and of the plan; the tokens and the result]
@@ -332,8 +335,22 @@ fill-plan-meets : {M : Type 1} (𝓤 : URA M) (H : Heap 𝓤) (A : Atoms 𝓤) �
     → Triple 𝓤 (𝓣 .C #records·tabulate) (Tabulate 𝓤 H A mem′ run) → Triple 𝓤 (𝓣 .C #plan·table·plan-records) (Plans 𝓤 H A mem′ run)
     → Meets 𝓤 H A fill-plan.signature (WpFn 𝓤 H (𝓣 .C) (𝓣 .Λ) code.function) (fill-plan.spec 𝓤 H A mem′ run)
 fill-plan-meets 𝓤 H A W mem′ run 𝓣 tabulates plans =
-    walk-meets 𝓤 H A fill-plan.ended stayed W
-    (goes-dropped 𝓤 H A W 5 (bytes 0 tt) yes (λ κs x f. refl), (goes-dropped 𝓤 H A W 5 (numbers 1 tt) yes (λ κs x f. refl), (goes-dropped 𝓤 H A W 5 (bytes 2 tt) yes (λ κs x f. refl), (goes-dropped 𝓤 H A W 5 (numbers 3 tt) yes (λ κs x f. refl), (goes-dropped 𝓤 H A W 5 (plain (λ _. usize)) yes (λ κs x f. refl), (goes-gave-slice 𝓤 H A W 5 4 tt (plain (λ _. usize)), tt))))))
+    walk-meets 𝓤 H A fill-plan.ended stayed W (
+      goes-dropped 𝓤 H A W 5 (bytes 0 tt) yes (λ κs x f. refl),
+      (
+        goes-dropped 𝓤 H A W 5 (numbers 1 tt) yes (λ κs x f. refl),
+        (
+          goes-dropped 𝓤 H A W 5 (bytes 2 tt) yes (λ κs x f. refl),
+          (
+            goes-dropped 𝓤 H A W 5 (numbers 3 tt) yes (λ κs x f. refl),
+            (
+              goes-dropped 𝓤 H A W 5 (plain (λ _. usize)) yes (λ κs x f. refl),
+              (goes-gave-slice 𝓤 H A W 5 4 tt (plain (λ _. usize)), tt),
+            ),
+          ),
+        ),
+      ),
+    )
     (fill-plan.clauses 𝓤 H A mem′ run) (WpFn 𝓤 H (𝓣 .C) (𝓣 .Λ) code.function) (WpFn-mono 𝓤 H (W .laws) 𝓣 code.function) (fill-plan-walks 𝓤 H A W mem′ run (𝓣 .C) (𝓣 .Λ) (fmOf 𝓤 H (W .laws) 𝓣) tabulates plans)
 
 pub fill-plan-spec : {M : Type 1} → stated.statement M
