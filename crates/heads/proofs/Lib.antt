@@ -1,3 +1,4 @@
+pub mod BlockSlots
 pub mod ByteTests
 pub mod Found
 pub mod Heads

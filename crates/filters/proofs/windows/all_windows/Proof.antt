@@ -2,11 +2,10 @@
 use Prim.Native.Nat.{_+_, _-_}
 use native.Mathlib.Omega.{arith}
 use mathlib.Core.Path.{ap, _∙_}
-use Rattle.catalogue.proofs.Rows.{has-text}
-use Rattle.sets.specs.SetLaws.{below-has}
 use Rattle.sets.specs.Gathered.{bitOf, Gathering, gathering-none, gathering-small, gathering-next, gathering-end}
 use Rattle.heads.specs.Block.{slotOf}
 use Rattle.filters.specs.Windows.{windowsPass}
+use Rattle.heads.proofs.BlockSlots.{block-slot}
 use borrow.Author.Needs.{needs}
 use Rattle.filters.proofs.windows.all_windows.Statement.{statement}
 use Rattle.filters.proofs.windows.all_windows.Tie as tie
@@ -25,26 +24,22 @@ sub-d c = omega arith
 
 add-slot-passes : tie.Need-add-slot-passes Inv-loop μ-loop
 add-slot-passes c =
-    let i = c .before .loop .inv .inside in
-    let h = has-text _ _ _ (c .before .before .before .pre .0 (c .before .loop .d - 1) (below-has 64 (c .before .loop .d - 1) (omega arith))) in
+    let h = block-slot _ _ _ (c .before .before .before .pre .0) (c .before .loop .inv .inside) (omega arith) in
     omega arith
 
 mul-slot-passes : tie.Need-mul-slot-passes Inv-loop μ-loop
 mul-slot-passes c =
-    let i = c .before .loop .inv .inside in
-    let h = has-text _ _ _ (c .before .before .before .pre .0 (c .before .loop .d - 1) (below-has 64 (c .before .loop .d - 1) (omega arith))) in
+    let h = block-slot _ _ _ (c .before .before .before .pre .0) (c .before .loop .inv .inside) (omega arith) in
     omega arith
 
 add-slot-passes-2 : tie.Need-add-slot-passes-2 Inv-loop μ-loop
 add-slot-passes-2 c =
-    let i = c .before .loop .inv .inside in
-    let h = has-text _ _ _ (c .before .before .before .pre .0 (c .before .loop .d - 1) (below-has 64 (c .before .loop .d - 1) (omega arith))) in
+    let h = block-slot _ _ _ (c .before .before .before .pre .0) (c .before .loop .inv .inside) (omega arith) in
     omega arith
 
 slot-passes-requires : tie.Need-slot-passes-requires Inv-loop μ-loop
 slot-passes-requires c κs =
-    let i = c .before .loop .inv .inside in
-    let h = has-text _ _ _ (c .before .before .before .pre .0 (c .before .loop .d - 1) (below-has 64 (c .before .loop .d - 1) (omega arith))) in
+    let h = block-slot _ _ _ (c .before .before .before .pre .0) (c .before .loop .inv .inside) (omega arith) in
     (h .0, c .before .before .before .pre .1)
 
 add-met : tie.Need-add-met Inv-loop μ-loop

@@ -2,11 +2,10 @@
 use Prim.Native.Nat.{_+_, _-_}
 use native.Mathlib.Omega.{arith}
 use mathlib.Core.Path.{ap, _∙_}
-use Rattle.catalogue.proofs.Rows.{has-text}
-use Rattle.sets.specs.SetLaws.{below-has}
 use Rattle.sets.specs.Gathered.{bitOf, Gathering, gathering-none, gathering-small, gathering-next, gathering-end}
 use Rattle.heads.specs.Block.{slotOf}
 use Rattle.heads.specs.Head.{headPasses}
+use Rattle.heads.proofs.BlockSlots.{block-slot}
 use borrow.Author.Needs.{needs}
 use Rattle.heads.proofs.front.all_front.Statement.{statement}
 use Rattle.heads.proofs.front.all_front.Tie as tie
@@ -25,26 +24,22 @@ sub-d c = omega arith
 
 add-head-passes : tie.Need-add-head-passes Inv-loop μ-loop
 add-head-passes c =
-    let i = c .before .loop .inv .inside in
-    let h = has-text _ _ _ (c .before .before .before .pre (c .before .loop .d - 1) (below-has 64 (c .before .loop .d - 1) (omega arith))) in
+    let h = block-slot _ _ _ (c .before .before .before .pre) (c .before .loop .inv .inside) (omega arith) in
     omega arith
 
 mul-head-passes : tie.Need-mul-head-passes Inv-loop μ-loop
 mul-head-passes c =
-    let i = c .before .loop .inv .inside in
-    let h = has-text _ _ _ (c .before .before .before .pre (c .before .loop .d - 1) (below-has 64 (c .before .loop .d - 1) (omega arith))) in
+    let h = block-slot _ _ _ (c .before .before .before .pre) (c .before .loop .inv .inside) (omega arith) in
     omega arith
 
 add-head-passes-2 : tie.Need-add-head-passes-2 Inv-loop μ-loop
 add-head-passes-2 c =
-    let i = c .before .loop .inv .inside in
-    let h = has-text _ _ _ (c .before .before .before .pre (c .before .loop .d - 1) (below-has 64 (c .before .loop .d - 1) (omega arith))) in
+    let h = block-slot _ _ _ (c .before .before .before .pre) (c .before .loop .inv .inside) (omega arith) in
     omega arith
 
 head-passes-requires : tie.Need-head-passes-requires Inv-loop μ-loop
 head-passes-requires c κs =
-    let i = c .before .loop .inv .inside in
-    let h = has-text _ _ _ (c .before .before .before .pre (c .before .loop .d - 1) (below-has 64 (c .before .loop .d - 1) (omega arith))) in
+    let h = block-slot _ _ _ (c .before .before .before .pre) (c .before .loop .inv .inside) (omega arith) in
     omega arith
 
 add-met : tie.Need-add-met Inv-loop μ-loop
