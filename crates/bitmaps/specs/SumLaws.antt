@@ -4,7 +4,7 @@ use native.Mathlib.Nat.{add-zero, add-suc, add-assoc, suc-mul, mul-le-mul-right}
 use native.Mathlib.Omega.{arith}
 use mathlib.Core.Path.{_≡_, refl, sym, ap, ap₂, _∙_}
 use mathlib.Core.Bool.{Bool, true, false}
-use mathlib.Core.List.{List, [], _∷_, _++_}
+use mathlib.Core.List.{List, [], _∷_, _++_, append-assoc, append-nil}
 use lib.ListN.{length, getD, take, drop, length-append, length-drop, List·getD-append}
 use lib.Seq.{getD-at, drop-at, take-all, take-append-le, drop-append-le}
 use lib.Dec.{ltb}
@@ -41,6 +41,34 @@ pub joined-same : (g h : ℕ → List ℕ) (n : ℕ) → ((i : ℕ) → i < n �
 unfolding joined
 joined-same g h zero e = refl
 joined-same g h (suc n) e = ap₂ _++_ (joined-same g h n (λ i l. e i (omega arith))) (e n (omega arith))
+
+-- the first m lists, and the n behind them
+pub joined-split : (g : ℕ → List ℕ) (m n : ℕ) → joined g (m + n) ≡ joined g m ++ joined (λ i. g (m + i)) n
+unfolding joined
+joined-split g m zero = rw (add-zero m) (sym (append-nil (joined g m)))
+joined-split g m (suc n) = rw (add-suc m n, joined-split g m n) (append-assoc (joined g m) (joined (λ i. g (m + i)) n) (g (m + n)))
+
+joined-none : (g : ℕ → List ℕ) (n : ℕ) → ((i : ℕ) → i < n → g i ≡ []) → joined g n ≡ []
+unfolding joined
+joined-none g zero e = refl
+joined-none g (suc n) e = rw (joined-none g n (λ i l. e i (omega arith))) (e n (omega arith))
+
+module _ (g : ℕ → List ℕ) (n m : ℕ) (l : n ≤ m) where
+  from : joined g m ≡ joined g n ++ joined (λ i. g (n + i)) (m - n)
+  from = let e : m ≡ n + (m - n) = omega arith in ap (joined g) e ∙ joined-split g n (m - n)
+
+  -- lists that are empty from n on
+  pub joined-below : ((i : ℕ) → n ≤ i → i < m → g i ≡ []) → joined g m ≡ joined g n
+  joined-below e = from ∙ ap (λ (t : List ℕ). joined g n ++ t) (joined-none (λ i. g (n + i)) (m - n) (λ i k. e (n + i) (omega arith) (omega arith))) ∙ append-nil (joined g n)
+
+  pub joined-grows : length (joined g n) ≤ length (joined g m)
+  joined-grows = let e = ap length from ∙ length-append (joined g n) (joined (λ i. g (n + i)) (m - n)) in omega arith
+
+-- the first list, and those behind it
+pub joined-first : (g : ℕ → List ℕ) (n : ℕ) → joined g (suc n) ≡ g 0 ++ joined (λ i. g (suc i)) n
+unfolding joined
+joined-first g zero = sym (append-nil (g 0))
+joined-first g (suc n) = rw (joined-first g n) (append-assoc (g 0) (joined (λ i. g (suc i)) n) (g (suc n)))
 
 -- lists of one length
 pub joined-length : (g : ℕ → List ℕ) (size n : ℕ) → ((i : ℕ) → i < n → length (g i) ≡ size) → length (joined g n) ≡ n * size

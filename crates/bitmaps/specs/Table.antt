@@ -16,6 +16,10 @@ lineSize = 256
 abbrev pub lineBits : ℕ
 lineBits = 2048
 
+-- the bit of row e in line c
+abbrev pub lineBit : (table : List ℕ) → (c e : ℕ) → Bool
+lineBit table c e = bit table (c * lineBits + e)
+
 -- the first bytes of each of the first n lines, in order
 unfoldable pub linesOf : (size : ℕ) → List ℕ → (n : ℕ) → List ℕ
 linesOf size table n = joined (λ c. take size (drop (c * lineSize) table)) n
@@ -24,7 +28,7 @@ linesOf size table n = joined (λ c. take size (drop (c * lineSize) table)) n
 pub record HoldsBits (f : ℕ → ℕ → Bool) (lines : ℕ) (table : List ℕ) : Type 0 where
   pub size : length table ≡ lines * lineSize
   pub bytes : Bytes table
-  pub bits : (c e : ℕ) → c < lines → e < lineBits → bit table (c * lineBits + e) ≡ f c e
+  pub bits : (c e : ℕ) → c < lines → e < lineBits → lineBit table c e ≡ f c e
 
 -- f in the first n lines and rows, and nothing beyond
 abbrev pub within : (ℕ → ℕ → Bool) → (n rows : ℕ) → ℕ → ℕ → Bool

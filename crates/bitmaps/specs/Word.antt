@@ -1,5 +1,5 @@
 -- A block of 64 rows as one word: bit d is the block's row d.
-use Prim.Native.Nat.{ℕ, _+_, _*_, _≤_, _<_, min}
+use Prim.Native.Nat.{ℕ, _+_, _*_, _%_, _≤_, _<_, min}
 use mathlib.Core.Path.{_≡_}
 use mathlib.Core.Logic.{_⊎_}
 use mathlib.Core.List.{List}
@@ -7,6 +7,7 @@ use lib.ListN.{length}
 use Rattle.fields.specs.Numbers.{Bytes}
 use Rattle.sets.specs.Set.{has, belowSet}
 use Rattle.bitmaps.specs.Bit.{bit}
+use Rattle.bitmaps.specs.Table.{lineBits}
 
 abbrev pub blockRows : ℕ
 blockRows = 64
@@ -14,6 +15,11 @@ blockRows = 64
 -- the bytes of a word
 abbrev pub wordSize : ℕ
 wordSize = 8
+
+-- a block begins at a word of a line
+pub record BlockAt (base : ℕ) : Type 0 where
+  pub whole : base % blockRows ≡ 0
+  pub inside : base < lineBits
 
 -- the new table is the old one with the bits of x from byte `at` on
 pub record WordPut (old : List ℕ) (at x : ℕ) (new : List ℕ) : Type 0 where

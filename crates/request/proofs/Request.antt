@@ -2,8 +2,8 @@
 use Prim.Native.Nat.{ℕ, _*_, _^_, _≤_, _<_}
 use native.Mathlib.Nat.{mul-le-mul-right}
 use native.Mathlib.Omega.{arith}
-use mathlib.Core.Path.{_≡_, sym, ap, _∙_}
-use mathlib.Core.Bool.{Bool, true, false}
+use mathlib.Core.Path.{_≡_, sym, _∙_}
+use mathlib.Core.Bool.{true, false}
 use mathlib.Core.List.{List}
 use lib.Dec.{leb}
 use borrow.Author.Tests.{le-leb, lt-leb}
@@ -48,9 +48,6 @@ module _ (n size : ℕ) (order : List ℕ) (listed looks : ℕ) where
     request-room =
         let p = and-parts (leb size listed) (leb (n * size) looks) (request-kept .1 .0) in
         (leb-le size listed (p .0), leb-le (n * size) looks (p .1))
-
-pub order-is : (k n : ℕ) (order : List ℕ) (x v : Bool) → k ≡ n → x ≡ isOrder k order → x ≡ v → isOrder n order ≡ v
-order-is k n order x v e f g = ap (λ (j : ℕ). isOrder j order) (sym e) ∙ sym f ∙ g
 
 pub lines-fit : (n size : ℕ) → n ≤ predicateLimit → size ≤ lineSize → n * size < 2 ^ 64
 lines-fit n size h k = let z : n * size ≤ predicateLimit * size = mul-le-mul-right size h in omega arith

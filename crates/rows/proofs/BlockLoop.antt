@@ -1,5 +1,5 @@
 -- The loop over the turns of a block, as the code has it: its state, what each call asks, and what each turn leaves.
-use Prim.Native.Nat.{ℕ, _+_, _-_, _*_, _/_, _≤_, _<_}
+use Prim.Native.Nat.{ℕ, _+_, _-_, _≤_, _<_}
 use native.Mathlib.Omega.{arith}
 use mathlib.Core.Path.{_≡_, refl, sym, ap, _∙_, subst}
 use mathlib.Core.Bool.{Bool, true, false, cond}
@@ -18,8 +18,6 @@ use Rattle.strategy.specs.PropagationLaws.{propagate-less}
 use Rattle.sets.specs.Set.{has}
 use Rattle.sets.specs.SetLaws.{has-none}
 use Rattle.sets.specs.Kept.{KeptBy}
-use Rattle.bitmaps.specs.Table.{lineSize}
-use Rattle.bitmaps.specs.Word.{wordSize, WordPut}
 use Rattle.query.specs.Format.{predicateLimit}
 use Rattle.ancestors.specs.Ancestors.{ancestorsOf}
 use Rattle.blocks.specs.Block.{rowLive, rowStep, Propagated, HasAncestors}
@@ -28,6 +26,7 @@ use Rattle.access.specs.Access.{HasOutcomes, MetIs}
 use Rattle.rows.specs.declared.block.Block.{Block}
 use Rattle.rows.specs.Task.{Task, predicateAt, turnsOf, told}
 use Rattle.rows.specs.Ready.{Slices, Ready}
+use Rattle.marks.specs.Marks.{MarkReady, Marked}
 use Rattle.rows.specs.Worked.{Filled, BlockIn, HasNoMarks, BlockReady, BlockWorked}
 use Rattle.rows.proofs.Blocks.{LiveWithin, Working, block-start, block-idle, block-turn, block-end}
 
@@ -58,7 +57,7 @@ module _ {G : Slices} {B : Block} where
     place = omega arith;
     words = s;
     sized = refl;
-    within = λ c d y. pick (has (B .start) c) d (sym (ap (λ (x : ℕ). has x d) (F c ∙ ap (cond (has (B .start) c) (B .rows)) (z c))) ∙ y);
+    within = λ c d y. pick (has (B .start) c) d (sym (ap (λ (x : ℕ). has x d) (F .each c ∙ ap (cond (has (B .start) c) (B .rows)) (z c))) ∙ y);
     working = λ n T R I. block-start T B Z L P z F (ready-once R) U;
   }
     where
@@ -79,14 +78,12 @@ module _ {G : Slices} {B : Block} where
       turn-outcomes (n, T, R, I) =
           (T .catalogue, predicateAt (T .query) c, R .accessed c (rw c-is (ready-turn i R lt)), λ d y. I .taking-part d (W .within c d y))
 
-      pub turn-room : BlockReady G B → HasNoMarks B P₀ → c * lineSize + B .base / 8 + wordSize ≤ length P
-      turn-room K U =
-          let f = turn-few K in
-          let a = K .3 .whole in
-          let b = K .3 .inside in
-          let s = U .size in
-          let z = W .sized in
-          omega arith
+      pub turn-mark : BlockReady G B → HasNoMarks B P₀ → MarkReady c (B .base) P
+      turn-mark K U = let t = U .table-lines in record {
+        below = turn-few K;
+        block = K .3 .block;
+        table-lines = record { lines = t .lines; size = W .sized ∙ t .size; enough = t .enough; few = t .few };
+      }
 
       pub turn-ancestors : BlockReady G B → (words : ℕ) → words ≡ predicateLimit → HasAncestors (G .ancestors) c words
       turn-ancestors (n, T, R, I) words e =
@@ -115,7 +112,7 @@ module _ {G : Slices} {B : Block} where
 
       module _ (met passed : ℕ) (N P′ : List ℕ) (hl : c < length L)
           (K : MetIs (G .catalogue) (G .question) (accessAt (G .plan) c) (B .base) (getD L c 0) met)
-          (M : WordPut P (c * lineSize + B .base / 8) (getD L c 0) P′)
+          (M : Marked c (B .base) (getD L c 0) met P P′)
           (C : Propagated (ancestorsOf (G .ancestors) c) met (getD L c 0) passed (set L c 0) N) where
         still-within : LiveWithin B N
         still-within k d y = go (same? k c)
@@ -138,8 +135,9 @@ module _ {G : Slices} {B : Block} where
               let l : c < n = rw c-is (ready-turn i R lt) in
               block-turn T B (W .working n T R I) (subst (λ (t : List ℕ). i < length t) (R .turns) lt) I
               (subst (λ (x : ℕ). x < length L) e hl)
+              (let few = R .few in subst (λ (x : ℕ). x < predicateLimit) e (omega arith))
               (subst (λ (x : ℕ). KeptBy (λ d. told T (B .base + d) x) (getD L x 0) met) e (K (T .catalogue) (predicateAt (T .query) c) (R .accessed c l) (λ d y. I .taking-part d (W .within c d y))))
-              (subst (λ (x : ℕ). WordPut P (x * lineSize + B .base / 8) (getD L x 0) P′) e M)
+              (subst (λ (x : ℕ). Marked x (B .base) (getD L x 0) met P P′) e M)
               (subst (λ (x : ℕ). Propagated (enclosing (T .query .tree) 0 x) met (getD L x 0) passed (set L x 0) N) e
               (subst (λ (gs : List Ancestor). Propagated gs met (getD L c 0) passed (set L c 0) N) (R .ancestors c l) C)));
         }

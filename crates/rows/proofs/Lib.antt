@@ -1,4 +1,4 @@
-pub mod Fills
+pub mod MarkLines
 pub mod Blocks
 pub mod BlockLoop
 pub mod RowsLoop

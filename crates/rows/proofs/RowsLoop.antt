@@ -20,49 +20,71 @@ use Rattle.strategy.specs.RowLaws.{work-row}
 use Rattle.sets.specs.Set.{has}
 use Rattle.sets.specs.SetLaws.{has-below}
 use Rattle.bitmaps.specs.Bit.{bit}
-use Rattle.bitmaps.specs.Table.{lineSize, lineBits, HoldsBits, within}
+use Rattle.bitmaps.specs.Table.{lineSize, lineBits, lineBit, HoldsBits, within}
 use Rattle.bitmaps.specs.TableLaws.{holds-same, holds-bitmap, holds-bitmaps}
 use Rattle.bitmaps.specs.Word.{blockRows, wordSize, rowsSet, WordPut}
 use Rattle.bitmaps.specs.WordLaws.{rows-has}
 use Rattle.query.specs.Format.{predicateLimit}
 use Rattle.rows.specs.declared.block.Block.{Block}
 use Rattle.rows.specs.declared.all.Extent.{Extent}
-use Rattle.rows.specs.Task.{Task, turnsOf, told, isSelected, traceAt, isProbed}
+use Rattle.rows.specs.Task.{Task, turnsOf, told, isSelected, traceAt, isProbed, isMet}
 use Rattle.rows.specs.Ready.{Slices, Ready}
-use Rattle.rows.specs.Worked.{rowOf, BlockIn, lineBit, HasNoMarks, BlockDone, BlockReady, BlockWorked, HasNoBits, ExtentOf, RowsReady, RowsWorked}
+use Rattle.marks.specs.Marks.{HasMarkLines, metLine, HasNoBits, HasBlankMarks}
+use Rattle.rows.specs.Worked.{rowOf, BlockIn, HasNoMarks, BlockDone, BlockReady, BlockWorked, marking, ExtentOf, RowsReady, RowsWorked}
+use Rattle.rows.proofs.MarkLines.{probe-line, met-line}
 
 -- f at the rows before `base`
 abbrev pub before : (base : ℕ) → (ℕ → ℕ → Bool) → ℕ → ℕ → Bool
 before base f c e = ltb e base && f c e
 
--- what the two tables are to hold
+-- what the table of the selected rows is to hold
 abbrev pub selection : Task → ℕ → ℕ → Bool
 selection T = within (λ c. isSelected T) 1 (T .catalogue .rows)
 
-abbrev pub probing : (n : ℕ) → Task → ℕ → ℕ → Bool
-probing n T = within (isProbed T) n (T .catalogue .rows)
-
-pub record Done (T : Task) (n base : ℕ) (S P : List ℕ) : Type 0 where
+pub record Done (T : Task) (n base lines : ℕ) (S P : List ℕ) : Type 0 where
   pub selected : HoldsBits (before base (selection T)) 1 S
-  pub probed : HoldsBits (before base (probing n T)) predicateLimit P
+  pub marks : HoldsBits (before base (marking T n)) lines P
 
-pub record Blocking (G : Slices) (E : Extent) (base : ℕ) (S P : List ℕ) : Type 0 where
+-- the rows before `base` are worked; the table of marks at first and by now
+pub record Blocking (G : Slices) (E : Extent) (base : ℕ) (S P₀ P : List ℕ) : Type 0 where
   pub whole : base % blockRows ≡ 0
   pub selected-size : length S ≡ lineSize
-  pub probed-size : length P ≡ predicateLimit * lineSize
-  pub done : (n : ℕ) (T : Task) → Ready G n T → ExtentOf E n T → Done T n base S P
+  pub sized : length P ≡ length P₀
+  pub table-lines : HasMarkLines P
+  pub done : (n : ℕ) (T : Task) → Ready G n T → ExtentOf E n T → Done T n base (table-lines .lines) S P
 
 -- TABLES
 
 none-before : (f : ℕ → ℕ → Bool) {lines : ℕ} {t : List ℕ} → HasNoBits lines t → HoldsBits (before 0 f) lines t
 none-before f h = holds-same (λ c e l k. sym (ap (λ (b : Bool). b && f c e) (ltb-no e 0 (omega arith)))) h
 
-all-before : (f : ℕ → ℕ → Bool) (n rows base : ℕ) {lines : ℕ} {t : List ℕ} → rows ≤ base → HoldsBits (before base (within f n rows)) lines t → HoldsBits (within f n rows) lines t
-all-before f n rows base m h = holds-same (λ c e l k. go e (ltb c n) (f c e) (which (ltb e rows))) h
+-- all rows are before the end
+all-before : (f : ℕ → ℕ → Bool) (rows base : ℕ) {lines : ℕ} {t : List ℕ} → rows ≤ base → ((c e : ℕ) → rows ≤ e → f c e ≡ false) → HoldsBits (before base f) lines t → HoldsBits f lines t
+all-before f rows base m z h = holds-same (λ c e l k. go c e (which (ltb e rows))) h
   where
-    go : (e : ℕ) (p q : Bool) → (ltb e rows ≡ true) ⊎ (ltb e rows ≡ false) → (ltb e base && (p && (ltb e rows && q))) ≡ (p && (ltb e rows && q))
-    go e p q (inl y) = let l : e < rows = ltb-lt e rows y in rw (ltb-yes e base (omega arith))
-    go e p q (inr y) = rw (y, and-false p, and-false (ltb e base))
+    go : (c e : ℕ) → (ltb e rows ≡ true) ⊎ (ltb e rows ≡ false) → (ltb e base && f c e) ≡ f c e
+    go c e (inl y) = let l : e < rows = ltb-lt e rows y in rw (ltb-yes e base (omega arith))
+    go c e (inr y) = rw (z c e (ltb-le e rows y), and-false (ltb e base))
+
+none-past : (f : ℕ → ℕ → Bool) (n rows c e : ℕ) → rows ≤ e → within f n rows c e ≡ false
+none-past f n rows c e l = rw (ltb-no e rows l, and-false (ltb c n))
+
+-- a line of marks is one for probes or one for a yes
+by-lines : (F : (c e : ℕ) → Type 0) → ((c e : ℕ) → c < predicateLimit → F c e) → ((c e : ℕ) → F (metLine c) e) → (c e : ℕ) → F c e
+by-lines F p q c e = go (which (ltb c predicateLimit))
+  where
+    go : (ltb c predicateLimit ≡ true) ⊎ (ltb c predicateLimit ≡ false) → F c e
+    go (inl y) = p c e (ltb-lt c predicateLimit y)
+    go (inr y) =
+        let m : predicateLimit ≤ c = ltb-le c predicateLimit y in
+        let z : metLine (c - predicateLimit) ≡ c = omega arith in
+        subst (λ (x : ℕ). F x e) z (q (c - predicateLimit) e)
+
+module _ (T : Task) (n : ℕ) where
+  marking-past : (c e : ℕ) → T .catalogue .rows ≤ e → marking T n c e ≡ false
+  marking-past = by-lines (λ c e. T .catalogue .rows ≤ e → marking T n c e ≡ false)
+      (λ c e k l. probe-line T n c e k ∙ none-past (isProbed T) n (T .catalogue .rows) c e l)
+      (λ c e l. met-line T n c e ∙ none-past (isMet T) n (T .catalogue .rows) c e l)
 
 -- one block more: its rows by f, and the others as they were
 module _ (f : ℕ → ℕ → Bool) (base : ℕ) {lines : ℕ} {t : List ℕ} (t′ : List ℕ) (h : HoldsBits (before base f) lines t) (size : length t′ ≡ length t) (bytes : Bytes t → Bytes t′)
@@ -99,10 +121,10 @@ bit-past t k h =
 abbrev pub blockAt : Extent → (base : ℕ) → Block
 blockAt E base = record { base = base; rows = rowsSet (E .rows - base); start = E .start }
 
-module _ {G : Slices} {E : Extent} {base : ℕ} {S P : List ℕ} (W : Blocking G E base S P) (lt : base < E .rows) where
+module _ {G : Slices} {E : Extent} {base : ℕ} {S P₀ P : List ℕ} (W : Blocking G E base S P₀ P) (lt : base < E .rows) where
   module _ {n : ℕ} {T : Task} (R : Ready G n T) (X : ExtentOf E n T) where
     pub block-in : BlockIn (blockAt E base) (T .catalogue .rows)
-    block-in = record { whole = W .whole; inside = inside; taking-part = part }
+    block-in = record { block = record { whole = W .whole; inside = inside }; taking-part = part }
       where
         inside : base < lineBits
         inside = let s = R .short in let r = X .rows in omega arith
@@ -142,7 +164,7 @@ module _ {G : Slices} {E : Extent} {base : ℕ} {S P : List ℕ} (W : Blocking G
             let m : n ≤ c = ltb-le c n y in
             rw y (sym (not-true (isProbed T c e) (λ h. (let k = held .inside c (trace-among (eval (T .query .tree)) (told T e) (turnsOf T) c (elem-among c (predicates (traceAt T e)) h)) in omega arith))))
 
-    row-probed : (c d : ℕ) → d < blockRows → (rowOf T (blockAt E base) d) .probed c ≡ probing n T c (base + d)
+    row-probed : (c d : ℕ) → d < blockRows → (rowOf T (blockAt E base) d) .probed c ≡ within (isProbed T) n (T .catalogue .rows) c (base + d)
     unfolding traceAt
     row-probed c d l =
         work-row (T .query .tree) (R .numbered) (told T (base + d)) (R .full) (turnsOf T) held (has (E .start)) all-live (has (rowsSet (E .rows - base)) d) .1 c
@@ -153,41 +175,66 @@ module _ {G : Slices} {E : Extent} {base : ℕ} {S P : List ℕ} (W : Blocking G
         swap false true r = refl
         swap false false r = refl
 
+    -- the marks of the block's rows
+    row-marks : {found : ℕ} {P′ : List ℕ} → length P′ ≡ length P → BlockDone T (blockAt E base) found P P′
+        → (c d : ℕ) → c < W .table-lines .lines → d < blockRows → lineBit P′ c (base + d) ≡ marking T n c (base + d)
+    row-marks {found} {P′} sized D c d k l =
+        by-lines (λ c e. c < W .table-lines .lines → lineBit P′ c (base + d) ≡ marking T n c (base + d)) probes meets c d k
+      where
+        probes : (c e : ℕ) → c < predicateLimit → c < W .table-lines .lines → lineBit P′ c (base + d) ≡ marking T n c (base + d)
+        probes c e m k = D .probes c d m l ∙ row-probed c d l ∙ sym (probe-line T n c (base + d) m)
+
+        met : (p q r t : Bool) → ((p && (q && r)) && t) ≡ (p && (q && (r && t)))
+        met true true r t = refl
+        met true false r t = refl
+        met false q r t = refl
+
+        meets : (c e : ℕ) → metLine c < W .table-lines .lines → lineBit P′ (metLine c) (base + d) ≡ marking T n (metLine c) (base + d)
+        meets c e k =
+            let s = W .table-lines .size in
+            let f = W .table-lines .few in
+            D .meets c d (omega arith) (omega arith) l
+            ∙ ap (λ (b : Bool). b && told T (base + d) c) (row-probed c d l)
+            ∙ met (ltb c n) (ltb (base + d) (T .catalogue .rows)) (isProbed T c (base + d)) (told T (base + d) c)
+            ∙ sym (met-line T n c (base + d))
+
   pub block-ready : RowsReady G E → BlockReady G (blockAt E base)
   block-ready (n, T, R, X) = (n, T, R, block-in R X)
 
   pub block-no-marks : RowsReady G E → HasNoMarks (blockAt E base) P
-  block-no-marks (n, T, R, X) = record { size = W .probed-size; blank = λ c d l. go c d l (which (ltb c predicateLimit)) }
+  block-no-marks (n, T, R, X) = record { table-lines = W .table-lines; blank = λ c d l. go c d l (which (ltb c (W .table-lines .lines))) }
     where
-      D : Done T n base S P
+      D : Done T n base (W .table-lines .lines) S P
       D = W .done n T R X
 
-      go : (c d : ℕ) → d < blockRows → (ltb c predicateLimit ≡ true) ⊎ (ltb c predicateLimit ≡ false) → lineBit P c (base + d) ≡ false
+      go : (c d : ℕ) → d < blockRows → (ltb c (W .table-lines .lines) ≡ true) ⊎ (ltb c (W .table-lines .lines) ≡ false) → lineBit P c (base + d) ≡ false
       go c d l (inl y) =
           let w = W .whole in
-          let i = block-in R X .inside in
-          D .probed .bits c (base + d) (ltb-lt c predicateLimit y) (omega arith)
-          ∙ ap (λ (b : Bool). b && probing n T c (base + d)) (ltb-no (base + d) base (omega arith))
+          let i = block-in R X .block .inside in
+          D .marks .bits c (base + d) (ltb-lt c (W .table-lines .lines) y) (omega arith)
+          ∙ ap (λ (b : Bool). b && marking T n c (base + d)) (ltb-no (base + d) base (omega arith))
       go c d l (inr y) =
-          let z : predicateLimit ≤ c = ltb-le c predicateLimit y in
-          let s = W .probed-size in
+          let z : W .table-lines .lines ≤ c = ltb-le c (W .table-lines .lines) y in
+          let s = W .table-lines .size in
           bit-past P (c * lineBits + (base + d)) (omega arith)
 
   pub block-room : RowsReady G E → base / 8 + wordSize ≤ length S
-  block-room (n, T, R, X) = let i = block-in R X .inside in let w = W .whole in let s = W .selected-size in omega arith
+  block-room (n, T, R, X) = let i = block-in R X .block .inside in let w = W .whole in let s = W .selected-size in omega arith
 
-  pub blocking-next : (found : ℕ) (S′ P′ : List ℕ) → length P′ ≡ length P → BlockWorked G (blockAt E base) found P P′ → WordPut S (base / 8) found S′ → Blocking G E (base + blockRows) S′ P′
+  pub blocking-next : (found : ℕ) (S′ P′ : List ℕ) → length P′ ≡ length P → BlockWorked G (blockAt E base) found P P′ → WordPut S (base / 8) found S′ → Blocking G E (base + blockRows) S′ P₀ P′
   blocking-next found S′ P′ sized K M = record {
     whole = let w = W .whole in omega arith;
     selected-size = M .size ∙ W .selected-size;
-    probed-size = sized ∙ W .probed-size;
+    sized = sized ∙ W .sized;
+    table-lines = let t = W .table-lines in record { lines = t .lines; size = sized ∙ t .size; enough = t .enough; few = t .few };
     done = λ n T R X. next n T R X (W .done n T R X) (K n T R (block-in R X));
   }
     where
-      next : (n : ℕ) (T : Task) → Ready G n T → ExtentOf E n T → Done T n base S P → BlockDone T (blockAt E base) found P P′ → Done T n (base + blockRows) S′ P′
+      next : (n : ℕ) (T : Task) → Ready G n T → ExtentOf E n T → Done T n base (W .table-lines .lines) S P → BlockDone T (blockAt E base) found P P′
+          → Done T n (base + blockRows) (W .table-lines .lines) S′ P′
       next n T R X D B = record {
         selected = holds-next (selection T) base S′ (D .selected) (M .size) (M .bytes) here other;
-        probed = holds-next (probing n T) base P′ (D .probed) (B .same .size) (B .same .bytes) (λ c d k l m. B .marks c d l ∙ row-probed R X c d l) (λ c e k l w. B .same .beside c e l w);
+        marks = holds-next (marking T n) base P′ (D .marks) (B .same .size) (B .same .bytes) (λ c d k l m. row-marks R X sized B c d k l) (λ c e k l w. B .same .beside c e l w);
       }
         where
           here : (c d : ℕ) → c < 1 → d < blockRows → base + d < lineBits → lineBit S′ c (base + d) ≡ selection T c (base + d)
@@ -203,25 +250,36 @@ module _ {G : Slices} {E : Extent} {base : ℕ} {S P : List ℕ} (W : Blocking G
 
 -- ALL BLOCKS
 
-pub blocking-start : {G : Slices} {E : Extent} {S P : List ℕ} → HasNoBits 1 S → HasNoBits predicateLimit P → Blocking G E 0 S P
+pub blocking-start : {G : Slices} {E : Extent} {S P : List ℕ} → HasNoBits 1 S → HasBlankMarks P → Blocking G E 0 S P P
 blocking-start s p = record {
   whole = refl;
   selected-size = let z = s .size in omega arith;
-  probed-size = p .size;
-  done = λ n T R X. record { selected = none-before (selection T) s; probed = none-before (probing n T) p };
+  sized = refl;
+  table-lines = p .table-lines;
+  done = λ n T R X. record { selected = none-before (selection T) s; marks = none-before (marking T n) (p .blank) };
 }
 
 pub rows-left : {base rows : ℕ} → base < rows → rows - (base + blockRows) < rows - base
 rows-left h = omega arith
 
-pub blocking-end : {G : Slices} {E : Extent} {base : ℕ} {S P : List ℕ} → E .rows ≤ base → Blocking G E base S P → RowsWorked G E S P
-blocking-end {G} {E} {base} {S} {P} h W n T R X =
-    let D = W .done n T R X in
+pub blocking-end : {G : Slices} {E : Extent} {base : ℕ} {S P₀ P : List ℕ} → E .rows ≤ base → Blocking G E base S P₀ P → RowsWorked G E S P
+blocking-end {G} {E} {base} {S} {P₀} {P} h W n T R X =
     let r = X .rows in
     let short = R .short in
+    let few = R .few in
+    let t = W .table-lines in
     record {
       selected-size = W .selected-size;
-      selected-bitmap = holds-bitmap (isSelected T) (T .catalogue .rows) S (omega arith) (all-before (λ c. isSelected T) 1 (T .catalogue .rows) base (omega arith) (D .selected));
-      probed-size = W .probed-size;
-      probed-bitmaps = holds-bitmaps (isProbed T) n (T .catalogue .rows) predicateLimit P (R .few) (omega arith) (all-before (isProbed T) n (T .catalogue .rows) base (omega arith) (D .probed));
+      selected-bitmap = holds-bitmap (isSelected T) (T .catalogue .rows) S (omega arith) all-selected;
+      probed-bitmaps = holds-bitmaps (isProbed T) n (T .catalogue .rows) P (omega (arith, t .enough)) (omega arith) all-marks
+          (λ c e l. probe-line T n c e (omega arith) ∙ ap (λ (b : Bool). b && (ltb e (T .catalogue .rows) && isProbed T c e)) (ltb-yes c n l));
+      marked = λ lines e. let q : t .lines ≡ lines = omega (arith, t .size) in subst (λ (x : ℕ). HoldsBits (marking T n) x P) q all-marks;
     }
+  where
+    all-selected : HoldsBits (selection T) 1 S
+    all-selected =
+        let r = X .rows in
+        all-before (selection T) (T .catalogue .rows) base (omega arith) (λ c e l. none-past (λ c. isSelected T) 1 (T .catalogue .rows) c e l) (W .done n T R X .selected)
+
+    all-marks : HoldsBits (marking T n) (W .table-lines .lines) P
+    all-marks = let r = X .rows in all-before (marking T n) (T .catalogue .rows) base (omega arith) (marking-past T n) (W .done n T R X .marks)

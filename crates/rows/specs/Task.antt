@@ -1,6 +1,6 @@
 -- What a run gives of each row: demand 2 over decoded values.
 use Prim.Native.Nat.{ℕ}
-use mathlib.Core.Bool.{Bool}
+use mathlib.Core.Bool.{Bool, _&&_}
 use mathlib.Core.List.{List, []}
 use lib.ListN.{getD}
 use Rattle.catalogue.specs.Catalogue.{Catalogue}
@@ -47,3 +47,7 @@ madeAt T row = predicates (traceAt T row)
 
 abbrev pub isProbed : Task → (c row : ℕ) → Bool
 isProbed T c row = elem c (madeAt T row)
+
+-- probed at a row, with outcome yes
+abbrev pub isMet : Task → (c row : ℕ) → Bool
+isMet T c row = isProbed T c row && told T row c

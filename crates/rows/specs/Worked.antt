@@ -1,45 +1,42 @@
 -- What working rows gives, block by block, in a run's own tables.
-use Prim.Native.Nat.{ℕ, _+_, _*_, _%_, _≤_, _<_}
+use Prim.Native.Nat.{ℕ, _+_, _-_, _*_, _≤_, _<_}
 use mathlib.Core.Path.{_≡_}
-use mathlib.Core.Bool.{Bool, false, cond}
+use mathlib.Core.Bool.{Bool, false, _&&_, cond}
 use mathlib.Core.Logic.{_⊎_}
 use mathlib.Core.List.{List}
-use lib.ListN.{length, getD}
+use lib.ListN.{length}
+use lib.Dec.{ltb}
 use Rattle.fields.specs.Numbers.{Bytes}
 use Rattle.strategy.specs.Row.{RowProgress, unworked, work}
 use Rattle.sets.specs.Set.{has, belowSet}
-use Rattle.bitmaps.specs.Bit.{bit}
+use Rattle.sets.specs.Changed.{ChangedAt}
 use Rattle.bitmaps.specs.Bitmap.{bytesFor, bitmap, bitmaps}
-use Rattle.bitmaps.specs.Table.{lineSize, lineBits, linesOf, HoldsBits}
-use Rattle.bitmaps.specs.Word.{blockRows}
+use Rattle.bitmaps.specs.Table.{lineSize, lineBits, lineBit, linesOf, HoldsBits, within}
+use Rattle.bitmaps.specs.Word.{blockRows, BlockAt}
 use Rattle.query.specs.Format.{predicateLimit}
 use Rattle.access.specs.Access.{RowsIn}
 use Rattle.rows.specs.declared.block.Block.{Block}
 use Rattle.rows.specs.declared.all.Extent.{Extent}
-use Rattle.rows.specs.Task.{Task, turnsOf, told, isSelected, isProbed}
+use Rattle.rows.specs.Task.{Task, turnsOf, told, isSelected, isProbed, isMet}
 use Rattle.rows.specs.Ready.{Slices, Ready}
+use Rattle.marks.specs.Marks.{HasMarkLines, metLine, HasMetLine}
 
 -- the predicates of `start` are live at the rows, and the other words as they were
 abbrev pub Filled : (start rows : ℕ) → (before after : List ℕ) → Type 0
-Filled start rows L N = (c : ℕ) → getD N c 0 ≡ cond (has start c) rows (getD L c 0)
+Filled start rows L N = ChangedAt (has start) (λ word. rows) L N
 
 -- row d of a block, as its turns leave it
 abbrev pub rowOf : Task → Block → (d : ℕ) → RowProgress
 rowOf T B d = work (T .query .tree) (told T (B .base + d)) (turnsOf T) (unworked (has (B .start)) (has (B .rows) d))
 
--- a block begins at a word of a line, and the rows that take part are rows of the catalogue
+-- a block of a line, whose rows that take part are rows of the catalogue
 pub record BlockIn (B : Block) (rows : ℕ) : Type 0 where
-  pub whole : B .base % blockRows ≡ 0
-  pub inside : B .base < lineBits
+  pub block : BlockAt (B .base)
   pub taking-part : RowsIn (B .base) (B .rows) rows
 
--- the bit of row e in the line of predicate c
-abbrev pub lineBit : (table : List ℕ) → (c e : ℕ) → Bool
-lineBit P c e = bit P (c * lineBits + e)
-
--- no probe is marked in the block yet
+-- nothing is marked in the block yet
 pub record HasNoMarks (B : Block) (table : List ℕ) : Type 0 where
-  pub size : length table ≡ predicateLimit * lineSize
+  pub table-lines : HasMarkLines table
   pub blank : (c d : ℕ) → d < blockRows → lineBit table c (B .base + d) ≡ false
 
 -- outside the block a table is as it was
@@ -48,10 +45,12 @@ pub record SameBeside (B : Block) (before after : List ℕ) : Type 0 where
   pub bytes : Bytes before → Bytes after
   pub beside : (c e : ℕ) → e < lineBits → (e < B .base) ⊎ (B .base + blockRows ≤ e) → lineBit after c e ≡ lineBit before c e
 
--- each row of the block is selected and has its probes marked as its turns leave it
+-- each row of the block is selected and has its probes marked as its turns leave it, and the probes with a yes if there are lines for them
 pub record BlockDone (T : Task) (B : Block) (selected : ℕ) (before after : List ℕ) : Type 0 where
   pub selects : (d : ℕ) → d < blockRows → has selected d ≡ (rowOf T B d) .selected
-  pub marks : (c d : ℕ) → d < blockRows → lineBit after c (B .base + d) ≡ (rowOf T B d) .probed c
+  pub probes : (c d : ℕ) → c < predicateLimit → d < blockRows → lineBit after c (B .base + d) ≡ (rowOf T B d) .probed c
+  pub meets : (c d : ℕ) → c < predicateLimit → HasMetLine after c → d < blockRows
+      → lineBit after (metLine c) (B .base + d) ≡ ((rowOf T B d) .probed c && told T (B .base + d) c)
   pub same : SameBeside B before after
 
 abbrev pub BlockReady : Slices → Block → Type 0
@@ -60,16 +59,17 @@ BlockReady G B = (n : ℕ) × (T : Task) × Ready G n T × BlockIn B (T .catalog
 abbrev pub BlockWorked : Slices → Block → (selected : ℕ) → (before after : List ℕ) → Type 0
 BlockWorked G B selected P P′ = (n : ℕ) (T : Task) → Ready G n T → BlockIn B (T .catalogue .rows) → BlockDone T B selected P P′
 
--- a table of so many lines with no bit set
-abbrev pub HasNoBits : (lines : ℕ) → (table : List ℕ) → Type 0
-HasNoBits lines T = HoldsBits (λ c e. false) lines T
+-- what a table of marks is to hold: in line c the rows at which predicate c is probed, in the line for its yes those with that outcome
+abbrev pub marking : Task → (n : ℕ) → (line row : ℕ) → Bool
+marking T n line row =
+    cond (ltb line predicateLimit) (within (isProbed T) n (T .catalogue .rows) line row) (within (isMet T) n (T .catalogue .rows) (line - predicateLimit) row)
 
--- a run's own tables hold at the front of their lines the bitmaps of document 01
-pub record Worked (T : Task) (n : ℕ) (selected probed : List ℕ) : Type 0 where
+-- a run's own tables: the bitmaps of document 01 at the front of their lines, and the marks in as many lines as there are
+pub record Worked (T : Task) (n : ℕ) (selected marks : List ℕ) : Type 0 where
   pub selected-size : length selected ≡ lineSize
   pub selected-bitmap : linesOf (bytesFor (T .catalogue .rows)) selected 1 ≡ bitmap (isSelected T) (T .catalogue .rows)
-  pub probed-size : length probed ≡ predicateLimit * lineSize
-  pub probed-bitmaps : linesOf (bytesFor (T .catalogue .rows)) probed n ≡ bitmaps (isProbed T) n (T .catalogue .rows)
+  pub probed-bitmaps : linesOf (bytesFor (T .catalogue .rows)) marks n ≡ bitmaps (isProbed T) n (T .catalogue .rows)
+  pub marked : (lines : ℕ) → length marks ≡ lines * lineSize → HoldsBits (marking T n) lines marks
 
 -- all rows of the task, with all its predicates live at first
 pub record ExtentOf (E : Extent) (n : ℕ) (T : Task) : Type 0 where
@@ -79,5 +79,5 @@ pub record ExtentOf (E : Extent) (n : ℕ) (T : Task) : Type 0 where
 abbrev pub RowsReady : Slices → Extent → Type 0
 RowsReady G E = (n : ℕ) × (T : Task) × Ready G n T × ExtentOf E n T
 
-abbrev pub RowsWorked : Slices → Extent → (selected probed : List ℕ) → Type 0
+abbrev pub RowsWorked : Slices → Extent → (selected marks : List ℕ) → Type 0
 RowsWorked G E S P = (n : ℕ) (T : Task) → Ready G n T → ExtentOf E n T → Worked T n S P

@@ -1,9 +1,9 @@
 // All rows of a run, into tables of its own.
 use crate::block::Block;
 use bitmaps::word::Word;
-ghost use Rattle.query.specs.Format.{predicateLimit};
 ghost use Rattle.rows.specs.Ready.{slices};
-ghost use Rattle.rows.specs.Worked.{HasNoBits, RowsReady, RowsWorked};
+ghost use Rattle.marks.specs.Marks.{HasNoBits, HasBlankMarks};
+ghost use Rattle.rows.specs.Worked.{RowsReady, RowsWorked};
 
 // How many rows there are, and the predicates that are live at first.
 pub struct Extent {
@@ -11,7 +11,7 @@ pub struct Extent {
     pub start: u64,
 }
 
-// Marks the rows that are selected, and of each predicate the rows at which it is probed, each in its line.
+// Marks the rows that are selected, and of each predicate the rows at which it is probed and, in a longer table, those of a yes.
 pub fn work_rows(
     catalogue: &[u8],
     question: &[u8],
@@ -20,11 +20,11 @@ pub fn work_rows(
     ancestors: &[u8],
     extent: Extent,
     selected: &mut [u8],
-    probed: &mut [u8],
+    marks: &mut [u8],
 )
     requires { ⌜ RowsReady (slices (now catalogue) (now question) (now turns) (now plan) (now ancestors)) extent ⌝ }
-    requires { ⌜ HasNoBits 1 (now selected) × HasNoBits predicateLimit (now probed) ⌝ }
-    ensures { λ _. ⌜ RowsWorked (slices (now (catalogue .entry)) (now (question .entry)) (now (turns .entry)) (now (plan .entry)) (now (ancestors .entry))) extent (now (selected .exit)) (now (probed .exit)) ⌝ }
+    requires { ⌜ HasNoBits 1 (now selected) × HasBlankMarks (now marks) ⌝ }
+    ensures { λ _. ⌜ RowsWorked (slices (now (catalogue .entry)) (now (question .entry)) (now (turns .entry)) (now (plan .entry)) (now (ancestors .entry))) extent (now (selected .exit)) (now (marks .exit)) ⌝ }
 {
     let fold = predicate::fold::fold_table();
     let rows = extent.rows;
@@ -46,7 +46,7 @@ pub fn work_rows(
             plan,
             ancestors,
             block,
-            probed,
+            marks,
         );
         bitmaps::word::put_word(selected, base / 8, found);
         base += Word::ROWS;

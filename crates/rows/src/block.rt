@@ -1,5 +1,4 @@
 // A block of 64 rows worked through, turn after turn.
-use bitmaps::copy::Line;
 use query::format::Predicate;
 ghost use mathlib.Core.Path.{_≡_};
 ghost use lib.ListN.{length};
@@ -28,7 +27,7 @@ fn fill(live: &mut [u64], start: u64, rows: u64)
     }
 }
 
-// The rows that are selected. Each predicate's due rows are marked in its line, and its outcomes worked out at these alone.
+// The rows that are selected. Each predicate's due rows are marked, and its outcomes worked out at these alone.
 pub fn work_block(
     fold: &[u8],
     catalogue: &[u8],
@@ -37,10 +36,10 @@ pub fn work_block(
     plan: &[usize],
     ancestors: &[u8],
     block: Block,
-    probed: &mut [u8],
+    marks: &mut [u8],
 ) -> u64
-    requires { ⌜ Folds (now fold) × BlockReady (slices (now catalogue) (now question) (now turns) (now plan) (now ancestors)) block × HasNoMarks block (now probed) ⌝ }
-    ensures { λ r. ⌜ BlockWorked (slices (now (catalogue .entry)) (now (question .entry)) (now (turns .entry)) (now (plan .entry)) (now (ancestors .entry))) block r (now (probed .entry)) (now (probed .exit)) ⌝ }
+    requires { ⌜ Folds (now fold) × BlockReady (slices (now catalogue) (now question) (now turns) (now plan) (now ancestors)) block × HasNoMarks block (now marks) ⌝ }
+    ensures { λ r. ⌜ BlockWorked (slices (now (catalogue .entry)) (now (question .entry)) (now (turns .entry)) (now (plan .entry)) (now (ancestors .entry))) block r (now (marks .entry)) (now (marks .exit)) ⌝ }
 {
     let base = block.base;
     let rows = block.rows;
@@ -57,7 +56,7 @@ pub fn work_block(
             continue;
         }
         let met = access::met_of(fold, catalogue, question, plan, c, base, due);
-        bitmaps::word::put_word(probed, c * Line::SIZE + base / 8, due);
+        marks::mark(marks, c, base, due, met);
         live[c] = 0;
         let passed = blocks::propagation::propagate_rows(ancestors, c, &mut live, due, met);
         selected = selected | (passed & met);

@@ -2,6 +2,7 @@
 use ancestors::Ancestors;
 use answers::word::Answer;
 use bitmaps::copy::Line;
+use marks::MarkTable;
 use query::format::Predicate;
 ghost use mathlib.Core.Path.{_≡_};
 ghost use Rattle.answers.specs.Word.{packed, FitsWord};
@@ -32,7 +33,7 @@ pub fn run_question(
         return Answer::Refused(failing);
     }
     let mut selected = [0u8; Line::SIZE];
-    let mut probed = [0u8; Predicate::LIMIT * Line::SIZE];
+    let mut probed = [0u8; MarkTable::PROBES];
     work::work(
         catalogue,
         question,

@@ -19,6 +19,10 @@ odd-first : (x : ℕ) → x % 2 ≡ 1 → has x 0 ≡ true
 unfolding has
 odd-first x e = let z : x / 2 ^ 0 % 2 ≡ 1 = omega arith in ap (λ (y : ℕ). eqb y 1) z
 
+even-first : (x : ℕ) → x % 2 ≡ 0 → has x 0 ≡ false
+unfolding has
+even-first x e = let z : x / 2 ^ 0 % 2 ≡ 0 = omega arith in ap (λ (y : ℕ). eqb y 1) z
+
 first-in : (k x : ℕ) → 0 < x → x < 2 ^ k → (trailingZeros k x < k) × (has x (trailingZeros k x) ≡ true)
 unfolding trailingZeros
 first-in zero x p h = absurd (omega arith)
@@ -36,6 +40,20 @@ first-in (suc k) x p h = go (λ q g. first-in k (x / 2) q g) (x % 2) refl (mod-l
 
 pub first-of : (x : ℕ) → 0 < x → x < 2 ^ 64 → FirstIs x (trailingZeros 64 x)
 first-of x p h = let f = first-in 64 x p h in record { lowest-is = refl; below = f .0; among = f .1 }
+
+-- no number below it is one
+lower-none : (k x d : ℕ) → d < trailingZeros k x → has x d ≡ false
+unfolding trailingZeros
+lower-none zero x d h = absurd (omega arith)
+lower-none (suc k) x d h = go (λ e. lower-none k (x / 2) e) (x % 2) refl d h
+  where
+    go : ((e : ℕ) → e < trailingZeros k (x / 2) → has (x / 2) e ≡ false) → (r : ℕ) → x % 2 ≡ r → (d : ℕ) → d < under r (trailingZeros k (x / 2)) → has x d ≡ false
+    go f zero e zero h = even-first x e
+    go f zero e (suc d) h = has-half x d ∙ f d (omega arith)
+    go f (suc r) e d h = absurd (omega arith)
+
+pub first-least : {x t : ℕ} → FirstIs x t → (d : ℕ) → d < t → has x d ≡ false
+first-least {x} F d h = lower-none 64 x d (omega (arith, F .lowest-is))
 
 -- and all that x and `x & (x - 1)` do not share
 

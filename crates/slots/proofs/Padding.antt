@@ -7,8 +7,9 @@ use mathlib.Core.List.{List}
 use lib.ListN.{getD}
 use lib.Dec.{eqb, leb}
 use borrow.Author.Tests.{leb-true, leb-false, le-leb, lt-leb, ne-eqb}
+use Rattle.words.specs.Words.{wordAt}
 use Rattle.slots.specs.Slots.{zerosAt, validSlot}
-use Rattle.slots.specs.Words.{wordAt, limitOf}
+use Rattle.slots.specs.Words.{limitOf}
 
 pow-pos : (k : ℕ) → 0 < 256 ^ k
 pow-pos zero = omega arith
@@ -119,9 +120,3 @@ module _ (b : List ℕ) (s : (i : ℕ) → getD b i 0 < 256) (at n : ℕ) (l : n
 pub slot-long : (b : List ℕ) (at n : ℕ) → n ≡ getD b at 0 → 23 < n → false ≡ validSlot b at
 unfolding validSlot
 slot-long b at n e h = rw (← e, lt-leb n 23 h)
-
-pub word-eight : (b : List ℕ) (p : ℕ) → wordAt b p 8 ≡ getD b p 0 + 256 * getD b (p + 1) 0 + 65536 * getD b (p + 2) 0 + 16777216 * getD b (p + 3) 0 + 4294967296 * getD b (p + 4) 0 + 1099511627776 * getD b (p + 5) 0 + 281474976710656 * getD b (p + 6) 0 + 72057594037927936 * getD b (p + 7) 0
-unfolding wordAt
-word-eight b p =
-    let z2 : p + 1 + 1 ≡ p + 2 = omega arith in let z3 : p + 2 + 1 ≡ p + 3 = omega arith in let z4 : p + 3 + 1 ≡ p + 4 = omega arith in let z5 : p + 4 + 1 ≡ p + 5 = omega arith in let z6 : p + 5 + 1 ≡ p + 6 = omega arith in let z7 : p + 6 + 1 ≡ p + 7 = omega arith in
-    rw (z2, z3, z4, z5, z6, z7) (omega arith)

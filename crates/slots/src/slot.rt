@@ -4,8 +4,9 @@ ghost use mathlib.Core.Path.{_≡_};
 ghost use Prim.Native.Nat.{_+_, _*_, _≤_, _<_};
 ghost use lib.ListN.{length};
 ghost use lib.Dec.{leb};
+ghost use Rattle.words.specs.Words.{wordAt};
 ghost use Rattle.slots.specs.Slots.{slotSize, validSlot, validSlots};
-ghost use Rattle.slots.specs.Words.{wordAt, limitOf, limitCount, Limits};
+ghost use Rattle.slots.specs.Words.{limitOf, limitCount, Limits};
 
 pub struct Text;
 
@@ -15,27 +16,12 @@ impl Text {
     pub const SLOT_SIZE: usize = 24;
 }
 
-// Eight bytes as one number, the least significant first.
-fn word_at(b: &[u8], at: usize) -> u64
-    requires { ⌜ at + 8 ≤ length (now b) ⌝ }
-    ensures { λ r. ⌜ r ≡ wordAt (now (b .entry)) at 8 ⌝ }
-{
-    fields::number::widen64(b[at])
-        + 256 * fields::number::widen64(b[at + 1])
-        + 65536 * fields::number::widen64(b[at + 2])
-        + 16777216 * fields::number::widen64(b[at + 3])
-        + 4294967296 * fields::number::widen64(b[at + 4])
-        + 1099511627776 * fields::number::widen64(b[at + 5])
-        + 281474976710656 * fields::number::widen64(b[at + 6])
-        + 72057594037927936 * fields::number::widen64(b[at + 7])
-}
-
 // Whether the eight bytes at a place, as one number, are within limit j.
 fn is_within(limits: &[u64], j: usize, b: &[u8], at: usize) -> bool
     requires { ⌜ Limits (now limits) × (j < limitCount) × (at + 8 ≤ length (now b)) ⌝ }
     ensures { λ r. ⌜ r ≡ leb (wordAt (now (b .entry)) at 8) (limitOf j) ⌝ }
 {
-    word_at(b, at) <= limits[j]
+    words::word_at(b, at) <= limits[j]
 }
 
 fn slot_is_valid(limits: &[u64], b: &[u8], at: usize) -> bool

@@ -95,22 +95,22 @@ unfolding countBelow one
 count-of n [] h = refl
 count-of n (x ∷ l) h = omega (arith, ap one (ltb-yes x n (h x (inl refl))), count-of n l (λ d m. h d (inr m)))
 
-occurs-none : (c : ℕ) (l : List ℕ) → (Among c l → ⊥) → occurrences c l ≡ 0
+pub occurs-none : (c : ℕ) (l : List ℕ) → (Among c l → ⊥) → occurrences c l ≡ 0
 unfolding occurrences
 occurs-none c [] n = refl
 occurs-none c (d ∷ ds) n = rw (eqb-ne c d (λ e. n (inl e))) (omega (arith, occurs-none c ds (λ m. n (inr m))))
 
-occurs-some : (c : ℕ) (l : List ℕ) → Among c l → 1 ≤ occurrences c l
+pub occurs-some : (c : ℕ) (l : List ℕ) → Among c l → 1 ≤ occurrences c l
 unfolding occurrences
 occurs-some c (d ∷ ds) (inl e) = rw (e, eqb-self d) (omega arith)
 occurs-some c (d ∷ ds) (inr m) = omega (arith, occurs-some c ds m)
 
-occurs-once : (c : ℕ) (l : List ℕ) → Once l → Among c l → occurrences c l ≡ 1
+pub occurs-once : (c : ℕ) (l : List ℕ) → Once l → Among c l → occurrences c l ≡ 1
 unfolding occurrences
 occurs-once c (d ∷ ds) o (inl e) = rw (e, eqb-self d) (omega (arith, occurs-none d ds (o .0)))
 occurs-once c (d ∷ ds) o (inr m) = rw (eqb-ne c d (λ e. o .0 (subst (λ x. Among x ds) e m))) (omega (arith, occurs-once c ds (o .1) m))
 
-once-of : (l : List ℕ) → ((c : ℕ) → Among c l → occurrences c l ≤ 1) → Once l
+pub once-of : (l : List ℕ) → ((c : ℕ) → Among c l → occurrences c l ≤ 1) → Once l
 unfolding occurrences one
 once-of [] h = tt
 once-of (c ∷ cs) h = (λ m. again m, once-of cs (λ d m. omega (arith, h d (inr m))))
@@ -153,3 +153,7 @@ order-law n order = (to, from)
 
         size : length order ≡ n
         size = sym (count-of n order (O .inside)) ∙ sym (sum-occurrences n order) ∙ sum-ones n (λ c. occurrences c order) each-one
+
+-- a test of the order, made with the number at another width
+pub order-is : (k n : ℕ) (order : List ℕ) (x v : Bool) → k ≡ n → x ≡ isOrder k order → x ≡ v → isOrder n order ≡ v
+order-is k n order x v e f g = ap (λ (j : ℕ). isOrder j order) (sym e) ∙ sym f ∙ g

@@ -1,17 +1,16 @@
-// All rows of a request, worked into tables of the run's own.
+// All rows of a request, worked into tables of the call's own.
 use input::begin::Beginning;
 use plan::table::Plan;
 use rows::all::Extent;
 ghost use mathlib.Core.Path.{_≡_};
 ghost use mathlib.Core.Bool.{true};
 ghost use Rattle.strategy.specs.Order.{isOrder};
-ghost use Rattle.query.specs.Format.{predicateLimit};
 ghost use Rattle.reader.specs.Tables.{tables};
-ghost use Rattle.rows.specs.Worked.{HasNoBits};
+ghost use Rattle.marks.specs.Marks.{HasNoBits, HasBlankMarks};
 ghost use Rattle.input.specs.Beginning.{HasInput};
 ghost use Rattle.work.specs.Worked.{RunWorked};
 
-// Fills the plan from what was read, then works the rows block after block.
+// Fills the plan from what was read, then works the rows block after block. The marks may have lines for the probes alone, or for those with a yes too.
 pub fn work(
     catalogue: &[u8],
     question: &[u8],
@@ -20,11 +19,11 @@ pub fn work(
     offsets: &[usize],
     ancestors: &[u8],
     selected: &mut [u8],
-    probed: &mut [u8],
+    marks: &mut [u8],
 )
     requires { ⌜ HasInput (now catalogue) (now question) begun (tables (now offsets) (now ancestors)) × (isOrder (begun .n) (now order) ≡ true) ⌝ }
-    requires { ⌜ HasNoBits 1 (now selected) × HasNoBits predicateLimit (now probed) ⌝ }
-    ensures { λ _. ⌜ RunWorked (now (catalogue .entry)) (now (question .entry)) (now (order .entry)) (begun .n) (now (selected .exit)) (now (probed .exit)) ⌝ }
+    requires { ⌜ HasNoBits 1 (now selected) × HasBlankMarks (now marks) ⌝ }
+    ensures { λ _. ⌜ RunWorked (now (catalogue .entry)) (now (question .entry)) (now (order .entry)) (begun .n) (now (selected .exit)) (now (marks .exit)) ⌝ }
 {
     let n = begun.n;
     let tags = begun.tags;
@@ -43,6 +42,6 @@ pub fn work(
         ancestors,
         extent,
         selected,
-        probed,
+        marks,
     );
 }

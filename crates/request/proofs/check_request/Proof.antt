@@ -1,7 +1,8 @@
 -- `check_request` meets its contract: the order, then each table, by its number.
 use native.Mathlib.Omega.{arith}
 use borrow.Author.Tests.{not-true, not-false}
-use Rattle.request.proofs.Request.{order-is, lines-fit, not-order, listed-short, looks-short, request-holds}
+use Rattle.strategy.specs.OrderLaws.{order-is}
+use Rattle.request.proofs.Request.{lines-fit, not-order, listed-short, looks-short, request-holds}
 use borrow.Author.Needs.{needs}
 use Rattle.request.proofs.check_request.Statement.{statement}
 use Rattle.request.proofs.check_request.Tie as tie

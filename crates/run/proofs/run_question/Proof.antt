@@ -3,6 +3,7 @@ use native.Mathlib.Omega.{arith}
 use mathlib.Core.Path.{refl, sym}
 use lib.ListN.{length}
 use Rattle.bitmaps.specs.TableLaws.{holds-none}
+use Rattle.marks.proofs.Marking.{blank-marks}
 use Rattle.request.proofs.Request.{request-order, request-room}
 use Rattle.run.proofs.Running.{run-refused, rows-room, size-short, run-declined, run-finished}
 use borrow.Author.Needs.{needs}
@@ -52,7 +53,7 @@ work-requires c κs =
     let x = a .before .before .before .before .before .before .before .before .before .before .before .before .before .before .before .args in
     let G = a .before .before .before .before .before .before .begin .ensures .accepts (a .before .before .before .if1 .left) in
     let order = request-order _ (a .before .before .bytes-for .result) (x .order .now) (length (x .listed .now)) (length (x .looks .now)) _ (a .before .check-request .ensures) (a .if2 .left) in
-    ((G, order), (holds-none 1, holds-none 64))
+    ((G, order), (holds-none 1, blank-marks 64 (omega arith) (omega arith)))
 
 slice-aggregate-finish : tie.Need-slice-aggregate-finish
 slice-aggregate-finish c = sym (c .before .before .before .work .kept .1 .1 .1 .1 .1 .1 .0)
@@ -66,7 +67,7 @@ finish-requires c κs =
     let x = a .before .before .before .before .before .before .before .before .before .before .before .before .before .before .before .args in
     let G = a .before .before .before .before .before .before .begin .ensures .accepts (a .before .before .before .if1 .left) in
     let W = c .before .before .before .before .before .before .before .work .ensures (G .input) (G .decoded) in (
-      (W .selected-size, W .probed-size, G .tabled .few, size-short G (a .before .before .bytes-for .ensures)),
+      (W .selected-size, c .before .before .before .before .before .before .before .work .kept .1 .1 .1 .1 .1 .1 .1 .0, G .tabled .few, size-short G (a .before .before .bytes-for .ensures)),
       request-room _ _ (x .order .now) _ _ _ (a .before .check-request .ensures) (a .if2 .left),
     )
 

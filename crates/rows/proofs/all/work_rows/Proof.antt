@@ -8,11 +8,11 @@ use Rattle.rows.proofs.all.work_rows.Statement.{statement}
 use Rattle.rows.proofs.all.work_rows.Tie as tie
 
 abbrev Inv-loop : tie.InvT-loop
-Inv-loop catalogue question turns plan ancestors selected₀ probed₀ fold rows start base₀ selected probed base =
-    Blocking (slices catalogue question turns plan ancestors) (record { rows = rows; start = start }) base selected probed
+Inv-loop catalogue question turns plan ancestors selected₀ marks₀ fold rows start base₀ selected marks base =
+    Blocking (slices catalogue question turns plan ancestors) (record { rows = rows; start = start }) base selected marks₀ marks
 
 abbrev μ-loop : tie.MeasureT-loop
-μ-loop catalogue question turns plan ancestors selected₀ probed₀ fold rows start base₀ selected probed base = rows - base
+μ-loop catalogue question turns plan ancestors selected₀ marks₀ fold rows start base₀ selected marks base = rows - base
 
 fold-table-requires : tie.Need-fold-table-requires Inv-loop μ-loop
 fold-table-requires c κs = search needs
@@ -60,7 +60,7 @@ same-length : tie.Need-same-length Inv-loop μ-loop
 same-length c = c .before .loop .inv .selected-size ∙ sym (search needs)
 
 same-length-2 : tie.Need-same-length-2 Inv-loop μ-loop
-same-length-2 c = c .before .loop .inv .probed-size ∙ sym (c .before .before .before .before .before .before .before .before .before .before .pre .1 .1 .size)
+same-length-2 c = c .before .loop .inv .sized
 
 returns : tie.Need-returns Inv-loop μ-loop
 returns c = blocking-end (c .loop-test .left) (c .before .loop .inv)

@@ -1,18 +1,20 @@
 -- `fill` meets its contract. Invariant: the predicates of start that are not to come any more are live.
 use native.Mathlib.Omega.{arith}
+use mathlib.Core.Path.{refl}
 use borrow.Author.Needs.{needs}
-use Rattle.rows.proofs.Fills.{Filling, fill-start, fill-next, fill-end}
+use Rattle.sets.specs.Changed.{Changing}
+use Rattle.sets.specs.ChangedLaws.{change-start, change-next, change-end}
 use Rattle.rows.proofs.block.fill.Statement.{statement}
 use Rattle.rows.proofs.block.fill.Tie as tie
 
 abbrev Inv-loop : tie.InvT-loop
-Inv-loop live₀ start rows left₀ live left = Filling start rows left live₀ live
+Inv-loop live₀ start rows left₀ live left = Changing (λ word. rows) start left live₀ live
 
 abbrev μ-loop : tie.MeasureT-loop
 μ-loop live₀ start rows left₀ live left = left
 
 loop-holds : tie.Need-loop-holds Inv-loop μ-loop
-loop-holds c = let a = c .before .args in fill-start (a .start) (a .rows) (a .live .now)
+loop-holds c = let a = c .before .args in change-start (λ word. a .rows) (a .start) (a .live .now)
 
 first-requires : tie.Need-first-requires Inv-loop μ-loop
 first-requires c κs = search needs
@@ -36,13 +38,13 @@ loop-again : tie.Need-loop-again Inv-loop μ-loop
 loop-again c =
     let l = c .before .before .before .before .loop in
     let f = c .before .before .first .ensures in
-    fill-next (c .before .widen .result) (c .before .widen .ensures .0) (l .inv) f (c .rest .ensures) (omega arith)
+    change-next (l .inv) (c .before .widen .result) (c .before .widen .ensures .0) f (c .rest .ensures) (omega arith) refl
 
 same-length : tie.Need-same-length Inv-loop μ-loop
-same-length c = c .before .loop .inv .size
+same-length c = c .before .loop .inv .changed .size
 
 returns : tie.Need-returns Inv-loop μ-loop
-returns c = fill-end (c .before .loop .inv) (omega arith)
+returns c = change-end (c .before .loop .inv) (omega arith)
 
 pub fill-spec : {M : Type 1} → statement M
 fill-spec =

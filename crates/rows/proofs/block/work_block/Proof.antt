@@ -6,16 +6,16 @@ use borrow.Author.Needs.{needs}
 use Rattle.bitmaps.specs.TableLaws.{zeros}
 use Rattle.query.specs.Format.{predicateLimit}
 use Rattle.rows.specs.Ready.{slices}
-use Rattle.rows.proofs.BlockLoop.{Turning, turns-left, in-words, turning-start, turning-idle, turning-next, turning-end, turn-few, turn-outcomes, turn-room, turn-ancestors}
+use Rattle.rows.proofs.BlockLoop.{Turning, turns-left, in-words, turning-start, turning-idle, turning-next, turning-end, turn-few, turn-outcomes, turn-mark, turn-ancestors}
 use Rattle.rows.proofs.block.work_block.Statement.{statement}
 use Rattle.rows.proofs.block.work_block.Tie as tie
 
 abbrev Inv-loop : tie.InvT-loop
-Inv-loop fold catalogue question turns plan ancestors probed₀ base rows start live₀ selected₀ i₀ probed live selected i =
-    Turning (slices catalogue question turns plan ancestors) (record { base = base; rows = rows; start = start }) i live selected probed₀ probed
+Inv-loop fold catalogue question turns plan ancestors marks₀ base rows start live₀ selected₀ i₀ marks live selected i =
+    Turning (slices catalogue question turns plan ancestors) (record { base = base; rows = rows; start = start }) i live selected marks₀ marks
 
 abbrev μ-loop : tie.MeasureT-loop
-μ-loop fold catalogue question turns plan ancestors probed₀ base rows start live₀ selected₀ i₀ probed live selected i = length turns - i
+μ-loop fold catalogue question turns plan ancestors marks₀ base rows start live₀ selected₀ i₀ marks live selected i = length turns - i
 
 slice-aggregate-fill : tie.Need-slice-aggregate-fill Inv-loop μ-loop
 slice-aggregate-fill c = search needs
@@ -27,7 +27,7 @@ loop-holds : tie.Need-loop-holds Inv-loop μ-loop
 loop-holds c =
     let f = c .before .fill in
     let e = c .before .before .before .before .before .before .before .before .before .before in
-    turning-start (replicate predicateLimit 0) (f .last .0) (e .args .probed .now) (zeros predicateLimit) (search needs) (f .ensures) (e .pre .2)
+    turning-start (replicate predicateLimit 0) (f .last .0) (e .args .marks .now) (zeros predicateLimit) (search needs) (f .ensures) (e .pre .2)
 
 shared-slice-read-widen : tie.Need-shared-slice-read-widen Inv-loop μ-loop
 shared-slice-read-widen c = search needs
@@ -58,21 +58,11 @@ met-of-requires c κs =
     let w = c .before .widen in
     (p .0, turn-few l (w .result) (w .ensures .0) (c .before .before .before .loop-test .taken) e, e .2 .plan-size, turn-outcomes l (w .result) (w .ensures .0) (c .before .before .before .loop-test .taken) e)
 
-mul-put-word : tie.Need-mul-put-word Inv-loop μ-loop
-mul-put-word c = search needs
-
-add-put-word : tie.Need-add-put-word Inv-loop μ-loop
-add-put-word c =
-    let e = c .before .before .before .before .before .before .before .before .before .before .before .before .before .before .before .before .before .pre .1 in
-    let i = e .3 .inside in
-    let w = c .before .before .before .widen .ensures .1 in
-    search needs
-
-put-word-requires : tie.Need-put-word-requires Inv-loop μ-loop
-put-word-requires c κs =
+mark-requires : tie.Need-mark-requires Inv-loop μ-loop
+mark-requires c κs =
     let e = c .before .before .before .before .before .before .before .before .before .before .before .before .before .before .before .before .before in
     let w = c .before .before .before .widen in
-    turn-room (c .before .before .before .before .before .before .loop .inv) (w .result) (w .ensures .0) (c .before .before .before .before .before .loop-test .taken) (e .pre .1) (e .pre .2)
+    turn-mark (c .before .before .before .before .before .before .loop .inv) (w .result) (w .ensures .0) (c .before .before .before .before .before .loop-test .taken) (e .pre .1) (e .pre .2)
 
 mul-live : tie.Need-mul-live Inv-loop μ-loop
 mul-live c = search needs
@@ -103,8 +93,8 @@ loop-again-2 c =
     let w = c .before .before .before .before .before .before .before .before .before .widen in
     let p = c .before .propagate-rows in
     let few = turn-few (l .inv) (w .result) (w .ensures .0) (t .loop-test .taken) (t .before .before .before .before .before .before .before .before .before .before .before .before .pre .1) in
-    turning-next (l .inv) (w .result) (w .ensures .0) (t .loop-test .taken) (c .before .before .before .before .before .before .before .met-of .result) (p .result) (p .last .1 .1 .0) (c .before .before .before .before .before .put-word .last .0) (in-words few (l .inv .words))
-    (c .before .before .before .before .before .before .before .met-of .ensures) (c .before .before .before .before .before .put-word .ensures) (p .ensures)
+    turning-next (l .inv) (w .result) (w .ensures .0) (t .loop-test .taken) (c .before .before .before .before .before .before .before .met-of .result) (p .result) (p .last .1 .1 .0) (c .before .before .before .before .before .mark .last .0) (in-words few (l .inv .words))
+    (c .before .before .before .before .before .before .before .met-of .ensures) (c .before .before .before .before .before .mark .ensures) (p .ensures)
 
 same-length : tie.Need-same-length Inv-loop μ-loop
 same-length c = c .before .loop .inv .sized
@@ -129,9 +119,7 @@ work-block-spec =
     loop-less
     loop-again
     met-of-requires
-    mul-put-word
-    add-put-word
-    put-word-requires
+    mark-requires
     mul-live
     array-write-live
     slice-aggregate-propagate-rows

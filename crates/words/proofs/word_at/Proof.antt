@@ -1,9 +1,9 @@
 -- `word_at` meets its contract: the sum of the eight bytes at their weights is the word.
 use native.Mathlib.Omega.{arith}
-use Rattle.slots.proofs.Padding.{word-eight}
+use Rattle.words.proofs.WordLaws.{word-eight}
 use borrow.Author.Needs.{needs}
-use Rattle.slots.proofs.slot.word_at.Statement.{statement}
-use Rattle.slots.proofs.slot.word_at.Tie as tie
+use Rattle.words.proofs.word_at.Statement.{statement}
+use Rattle.words.proofs.word_at.Tie as tie
 
 shared-slice-read-widen64 : tie.Need-shared-slice-read-widen64
 shared-slice-read-widen64 c = search needs
