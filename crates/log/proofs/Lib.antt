@@ -1,0 +1,5 @@
+pub mod Fields
+pub mod RowLoop
+pub mod BlockLoop
+pub mod RowsLoop
+pub mod LogLaws
