@@ -1,4 +1,4 @@
--- The refusals of the calls themselves, 15 to 18.
+-- The refusals of the calls themselves, 15 to 18 and 20.
 use Prim.Native.Nat.{ℕ}
 
 -- "15, the order is not n bytes holding each number once"
@@ -16,3 +16,7 @@ counterRefused = 17
 -- "18, no such entry or condition"
 abbrev pub noSuchRowOrPredicate : ℕ
 noSuchRowOrPredicate = 18
+
+-- "20, the lent output is too short"
+abbrev pub outputTooShort : ℕ
+outputTooShort = 20

@@ -1,4 +1,4 @@
-// Document 01's refusals 15 to 18; the contracts tie them to those of specs/Refusals.antt.
+// Document 01's refusals 15 to 18 and order 1's 20; the contracts tie them to those of specs/Refusals.antt.
 pub struct Refusal;
 
 impl Refusal {
@@ -9,4 +9,6 @@ impl Refusal {
     pub const COUNTER_REFUSED: u8 = 17;
 
     pub const NO_SUCH_ROW_OR_PREDICATE: u8 = 18;
+
+    pub const OUTPUT_TOO_SHORT: u8 = 20;
 }

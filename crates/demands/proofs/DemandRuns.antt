@@ -86,7 +86,7 @@ module _ (l : Lent) where
   abbrev pub Cases : Type 0
   Cases = ((i : Input) × Kept l i) ⊎ ((e : ℕ) × FirstBroken l e)
 
-  pub run-cases : InBytes l → Cases
+  pub run-cases : InBytes (l .request) → Cases
   run-cases bytes = forms (input-cases (l .request .catalogue) (l .request .question) (bytes .0) (bytes .1))
     where
       counter : (i : Input) → Reads (l .request .catalogue) (l .request .question) i → RunningOrder i (l .request .order) → TablesFit i (l .listed) (l .looks)

@@ -40,14 +40,14 @@ unfolding sumOf
 sum-most g m zero l = omega arith
 sum-most g m (suc n) l = omega (arith, sum-most g m n l, l n)
 
+pub digit-le : (b : Bool) → digit b ≤ 1
+digit-le true = omega arith
+digit-le false = omega arith
+
 pub count-le : (f : ℕ → Bool) (n : ℕ) → countOf f n ≤ n
 unfolding sumOf
 count-le f zero = omega arith
-count-le f (suc n) = omega (arith, count-le f n, one (f n))
-  where
-    one : (b : Bool) → digit b ≤ 1
-    one true = omega arith
-    one false = omega arith
+count-le f (suc n) = omega (arith, count-le f n, digit-le (f n))
 
 sum-add : (g h : ℕ → ℕ) (n : ℕ) → sumOf g n + sumOf h n ≡ sumOf (λ k. g k + h k) n
 unfolding sumOf
@@ -158,6 +158,13 @@ module _ (i : Input) (order : List ℕ) (o : RunningOrder i order) where
       from : LookDue i order a c → Among c (predicates (trace (treeValue i) a order))
       from D = at (D .0) (D .1) (D .2) .1 (D .3)
 
+  traced-inside : (a : Assignment) (c : ℕ) → Among c (predicates (trace (treeValue i) a order)) → c < predicateCount i
+  traced-inside a c m = held .inside c (trace-among (treeValue i) a order c m)
+
+  pub probed-inside : (c e : ℕ) → isProbed (taskOf i order) c e ≡ true → c < predicateCount i
+  unfolding traceAt
+  probed-inside c e x = traced-inside (pattern i e) c (elem-among c (predicates (trace (treeValue i) (pattern i e) order)) x)
+
   pub probed-due : (c e : ℕ) → (isProbed (taskOf i order) c e ≡ true) ↔ LookDue i order (pattern i e) c
   unfolding traceAt
   probed-due c e =
@@ -171,7 +178,7 @@ module _ (i : Input) (order : List ℕ) (o : RunningOrder i order) where
   probed-count e =
       count-elem (predicates (trace (treeValue i) (pattern i e) order)) (predicateCount i)
       (trace-once (treeValue i) (pattern i e) order (held .once))
-      (λ d m. held .inside d (trace-among (treeValue i) (pattern i e) order d m))
+      (traced-inside (pattern i e))
 
 -- COUNTS
 
@@ -191,9 +198,12 @@ module _ (i : Input) (order : List ℕ) where
       (λ c. omega (arith, count-le (isProbed (taskOf i order) c) (rowCount i))))
 
   -- the same row by row
+  pub look-count-across : lookCount (taskOf i order) ≡ sumOf (λ e. countOf (λ c. isProbed (taskOf i order) c e) (predicateCount i)) (rowCount i)
+  look-count-across = look-count ∙ sum-swap (λ c e. digit (isProbed (taskOf i order) c e)) (predicateCount i) (rowCount i)
+
   pub look-count-rows : RunningOrder i order → lookCount (taskOf i order) ≡ sumOf (λ e. length (predicates (trace (treeValue i) (pattern i e) order))) (rowCount i)
   look-count-rows o =
-      look-count ∙ sum-swap (λ c e. digit (isProbed (taskOf i order) c e)) (predicateCount i) (rowCount i)
+      look-count-across
       ∙ sum-same (λ e. countOf (λ c. isProbed (taskOf i order) c e) (predicateCount i)) (λ e. length (predicates (trace (treeValue i) (pattern i e) order))) (rowCount i)
       (λ e l. probed-count i order o e)
 

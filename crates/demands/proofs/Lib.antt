@@ -4,3 +4,7 @@ pub mod DemandLaws
 pub mod DemandTables
 pub mod DemandRuns
 pub mod Demands
+pub mod CopyTables
+pub mod CopyRuns
+pub mod CopyBytes
+pub mod CopyPage

@@ -34,7 +34,7 @@ use Rattle.rows.specs.Task.{predicateAt, assignmentAt}
 use Rattle.input.specs.Input.{Input, decodeInput}
 use Rattle.answers.specs.Word.{packed}
 use Rattle.answers.specs.Answers.{catalogueAnswer, questionAnswer, outcomeNumber, outcomeAnswer}
-use Rattle.demands.specs.Run.{Lent, Ran, rowCount, predicateCount, taskOf, lookCount, runOf}
+use Rattle.demands.specs.Run.{Request, Lent, Ran, rowCount, predicateCount, taskOf, lookCount, runOf}
 
 -- WORDS OF THIS PAGE
 
@@ -53,10 +53,11 @@ questionWord b q = packed (questionAnswer (decodeInput b q))
 abbrev pub outcomeWord : (catalogue question : List ℕ) → (entry condition : ℕ) → ℕ
 outcomeWord b q entry c = packed (outcomeAnswer (decodeInput b q) entry c)
 
--- what a run is lent, and what it leaves: its word and the three tables; a lent slice is a list of bytes
-abbrev pub InBytes : Lent → Type 0
-InBytes l = Bytes (l .request .catalogue) × Bytes (l .request .question)
+-- a lent slice is a list of bytes
+abbrev pub InBytes : Request → Type 0
+InBytes r = Bytes (r .catalogue) × Bytes (r .question)
 
+-- what a run leaves: its word and the three tables
 abbrev pub after : Lent → Ran
 after l = runOf l
 
@@ -174,7 +175,7 @@ Demand1WrittenOnce =
 
 -- "Where a catalogue, question, order, number or lent table breaks a form or limit of document 01, the call gives the refusal number due there,"
 abbrev pub Demand1Number : Type 0
-Demand1Number = (l : Lent) → InBytes l → (e : ℕ) → 0 < e → (after l .word % 2 ^ 8 ≡ e) ↔ FirstBroken l e
+Demand1Number = (l : Lent) → InBytes (l .request) → (e : ℕ) → 0 < e → (after l .word % 2 ^ 8 ≡ e) ↔ FirstBroken l e
 
 -- "zero counts, and unaltered lent bytes;"
 abbrev pub Demand1Refused : Type 0
@@ -185,7 +186,7 @@ Demand1Refused =
 -- "where none is broken it is accepted and finishes." "Accepted is 0"
 -- "Nothing is left to the caller to verify beforehand.": every `Lent` is spoken of, and a slice that is lent holds bytes
 abbrev pub Demand1Accepted : Type 0
-Demand1Accepted = (l : Lent) → InBytes l → (after l .word % 2 ^ 8 ≡ 0) ↔ ((i : Input) × Kept l i)
+Demand1Accepted = (l : Lent) → InBytes (l .request) → (after l .word % 2 ^ 8 ≡ 0) ↔ ((i : Input) × Kept l i)
 
 -- "a catalogue check gives E and C"
 abbrev pub Demand1Catalogue : Type 0

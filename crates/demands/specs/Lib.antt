@@ -1,4 +1,6 @@
 pub mod Run
+pub mod Log
 pub mod Demands
+pub mod CopyPage
 pub mod Parish
 pub mod Cases

@@ -16,7 +16,7 @@ use Rattle.answers.specs.Word.{packed}
 use Rattle.answers.specs.Refusals.{notOrder, tableTooShort, counterRefused}
 use Rattle.answers.specs.Checks.{Checks, checked}
 
--- what a run is asked: the bytes of a catalogue, a question and an order
+-- what a run and a copy are asked: the bytes of a catalogue, a question and an order
 pub record Request : Type 0 where
   pub catalogue : List ℕ
   pub question : List ℕ
@@ -29,9 +29,11 @@ pub record Lent : Type 0 where
   pub looks : List ℕ
   pub tally : List ℕ
 
+abbrev pub request : (catalogue question order : List ℕ) → Request
+request b q order = record { catalogue = b; question = q; order = order }
+
 abbrev pub lent : (catalogue question order listed looks tally : List ℕ) → Lent
-lent b q order listed looks tally =
-    record { request = record { catalogue = b; question = q; order = order }; listed = listed; looks = looks; tally = tally }
+lent b q order listed looks tally = record { request = request b q order; listed = listed; looks = looks; tally = tally }
 
 -- what a run leaves: the packed word, the listed table, the looks table, the tally
 pub record Ran : Type 0 where
