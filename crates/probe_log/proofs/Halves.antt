@@ -1,0 +1,124 @@
+-- The table of marks as two tables of lines, for the probes and for those with a yes, and the log that is written from them.
+use Prim.Native.Nat.{ℕ, _-_, _*_, _≤_, _<_}
+use native.Mathlib.Omega.{arith}
+use mathlib.Core.Path.{_≡_, refl, sym, ap, _∙_}
+use mathlib.Core.Bool.{Bool, true, _&&_}
+use mathlib.Core.List.{List}
+use lib.ListN.{length, take, drop, getD, length-drop}
+use lib.Seq.{length-take-le, take-all}
+use Rattle.bools.specs.Bools.{ltb-yes}
+use Rattle.predicate.specs.declared.outcome.Outcome.{Outcome}
+use Rattle.predicate.specs.declared.outcome.Outcome.the-variants.{No, Yes}
+use Rattle.predicate.specs.Meaning.{outcome, truth}
+use Rattle.strategy.specs.Assignment.{Among}
+use Rattle.strategy.specs.AssignmentLaws.{among-at}
+use Rattle.strategy.specs.Order.{isOrder, Order}
+use Rattle.strategy.specs.OrderLaws.{order-law}
+use Rattle.bitmaps.specs.Sums.{digit}
+use Rattle.bitmaps.specs.Bitmap.{bytesFor, onesIn}
+use Rattle.bitmaps.specs.Table.{lineSize, lineBit, linesOf, HoldsBits}
+use Rattle.bitmaps.specs.TableLaws.{lines-front, lines-behind}
+use Rattle.query.specs.Format.{predicateLimit}
+use Rattle.gather.specs.Turns.{HasLines}
+use Rattle.log.specs.Log.{logFields}
+use Rattle.log.specs.MarkedLog.{markedLog}
+use Rattle.log.proofs.LogLaws.{marked-log}
+use Rattle.rows.specs.Task.{predicateAt, told, madeAt, isProbed, isMet}
+use Rattle.marks.specs.Marks.{metLine}
+use Rattle.rows.specs.Worked.{marking}
+use Rattle.rows.proofs.MarkLines.{probe-line, met-line}
+use Rattle.input.specs.Input.{Input}
+use Rattle.answers.specs.Answers.{outcomeNumber}
+use Rattle.demands.specs.Run.{predicateCount, taskOf, probeBitmaps, lookCount}
+use Rattle.demands.specs.Log.{outcomeNumberAt, taskFields, logSize}
+use Rattle.demands.proofs.DemandTables.{order-plain}
+use Rattle.demands.proofs.CopyTables.{sequence-length}
+use Rattle.probe_log.specs.Finish.{MarksOf}
+use Rattle.probe_log.proofs.InTurn.{made-marked, made-once}
+
+-- the bytes of the lines for the probes
+abbrev pub half : ℕ
+half = predicateLimit * lineSize
+
+-- the second half, as the code lends it
+pub second-half : (marks : List ℕ) → take (length marks - half) (drop half marks) ≡ drop half marks
+second-half marks = take-all (length marks - half) (drop half marks) (omega (arith, length-drop half marks))
+
+pub first-length : (marks : List ℕ) → half ≤ length marks → half ≡ length (take half marks)
+first-length marks h = sym (length-take-le half marks h)
+
+module _ {i : Input} {order marks : List ℕ} {n rows : ℕ} (M : MarksOf i order marks n rows) where
+  held : Order n order
+  held = order-law n order .0 (M .ordered)
+
+  order-length : length order ≡ n
+  order-length = order-plain n order .0 (M .ordered) .0
+
+  -- a half has a line for each turn
+  turn-lines : (table : List ℕ) → length table ≡ half → HasLines order table
+  turn-lines table s = record {
+    few = let f = M .few in let l = order-length in omega arith;
+    inside = λ j l.
+        (let f = M .few in
+        let c = held .inside (getD order j 0) (among-at order j l) in
+        omega arith);
+  }
+
+  pub half-lines : HasLines order (take half marks) × HasLines order (drop half marks)
+  half-lines =
+      let s = M .size in
+      (turn-lines (take half marks) (sym (first-length marks (omega arith))), turn-lines (drop half marks) (omega (arith, length-drop half marks)))
+
+  bits : HoldsBits (marking (taskOf i order) n) (2 * predicateLimit) marks
+  bits = M .worked .marked (2 * predicateLimit) (M .size)
+
+  module _ (c e : ℕ) (m : Among c order) (l : e < rows) where
+    few : c < n
+    few = held .inside c m
+
+    probed-bit : lineBit (take half marks) c e ≡ isProbed (taskOf i order) c e
+    probed-bit =
+        let f = M .few in
+        let d = few in
+        let s = M .short in
+        let r = M .rows-are in
+        lines-front marks predicateLimit c e (omega arith) (omega arith)
+        ∙ bits .bits c e (omega arith) (omega arith) ∙ probe-line (taskOf i order) n c e (omega arith)
+        ∙ rw (ltb-yes c n few, ltb-yes e (i .catalogue .rows) (omega arith))
+
+    met-bit : lineBit (drop half marks) c e ≡ isMet (taskOf i order) c e
+    met-bit =
+        let f = M .few in
+        let d = few in
+        let s = M .short in
+        let r = M .rows-are in
+        lines-behind marks predicateLimit c e
+        ∙ bits .bits (metLine c) e (omega arith) (omega arith) ∙ met-line (taskOf i order) n c e
+        ∙ rw (ltb-yes c n few, ltb-yes e (i .catalogue .rows) (omega arith))
+
+    outcome-bit : lineBit (take half marks) c e ≡ true → outcomeNumberAt (taskOf i order) e c ≡ digit (lineBit (drop half marks) c e)
+    outcome-bit y =
+        number (outcome (i .catalogue) (predicateAt (i .query) c) e)
+        ∙ ap digit (sym (met-bit ∙ ap (λ (b : Bool). b && told (taskOf i order) e c) (sym probed-bit ∙ y)))
+      where
+        number : (o : Outcome) → outcomeNumber o ≡ digit (truth o)
+        number No = refl
+        number Yes = refl
+
+  all-ordered : isOrder (predicateCount i) order ≡ true
+  all-ordered = rw (M .count) (M .ordered)
+
+  -- what is written are the fields in turn
+  pub marked-fields : markedLog order (take half marks) (drop half marks) rows ≡ taskFields (taskOf i order) (madeAt (taskOf i order))
+  marked-fields =
+      marked-log order (take half marks) (drop half marks) rows (outcomeNumberAt (taskOf i order)) (madeAt (taskOf i order))
+      (λ e l. made-marked i order all-ordered (take half marks) e (λ c m. probed-bit c e m l))
+      (λ e c l m. outcome-bit c e m l)
+      ∙ ap (logFields (outcomeNumberAt (taskOf i order)) (madeAt (taskOf i order))) (sym (M .rows-are))
+
+  pub fields-length : length (taskFields (taskOf i order) (madeAt (taskOf i order))) ≡ logSize (taskOf i order)
+  fields-length = sequence-length i order (order-plain (predicateCount i) order .0 all-ordered) (madeAt (taskOf i order)) (made-once i order all-ordered)
+
+  pub looks-counted : onesIn (linesOf (bytesFor rows) marks n) ≡ lookCount (taskOf i order)
+  unfolding probeBitmaps
+  looks-counted = rw (← M .rows-are) (ap onesIn (M .worked .probed-bitmaps) ∙ rw (M .count))

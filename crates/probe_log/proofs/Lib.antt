@@ -1,0 +1,4 @@
+pub mod InTurn
+pub mod Halves
+pub mod Finishing
+pub mod Logging
