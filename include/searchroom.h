@@ -19,7 +19,7 @@
  * Each call says below what its results are. A refusal comes with zeros for every result, and the call has then altered
  * nothing that it was lent. The first check that fails, in the order stated at the call, decides the number.
  *
- * Fields. Catalogues and questions are made of fields: a one-byte tag, a two-byte length, then that many bytes, the
+ * Fields. Catalogues, questions and copies are made of fields: a one-byte tag, a two-byte length, then that many bytes, the
  * payload. All numbers are unsigned, most significant byte first. Entries, columns and conditions count from 0.
  */
 #ifndef SEARCHROOM_H
@@ -29,7 +29,7 @@
 #include <stdint.h>
 
 /* The release; the pkg-config file has the same. */
-#define SEARCHROOM_VERSION "0.1.0"
+#define SEARCHROOM_VERSION "0.2.0"
 
 #ifdef __cplusplus
 extern "C" {
@@ -37,14 +37,16 @@ extern "C" {
 
 /* Limits. */
 enum {
-    SEARCHROOM_MAX_ENTRIES = 2048,  /* entries of a catalogue */
-    SEARCHROOM_MAX_COLUMNS = 16,    /* columns of a catalogue, which has at least one */
-    SEARCHROOM_MAX_TEXT = 23,       /* bytes of a text in a catalogue, or of a text operand */
-    SEARCHROOM_MAX_CONDITIONS = 64, /* conditions of a question, which has at least one */
-    SEARCHROOM_MAX_DEPTH = 8,       /* groups inside each other, the outermost being 1 */
-    SEARCHROOM_LISTED_BYTES = 256,  /* the most bytes that a run writes to the listed table */
-    SEARCHROOM_LOOKS_BYTES = 16384, /* the most bytes that a run writes to the looks table */
-    SEARCHROOM_TALLY_BYTES = 8      /* bytes of the house tally */
+    SEARCHROOM_MAX_ENTRIES = 2048,   /* entries of a catalogue */
+    SEARCHROOM_MAX_COLUMNS = 16,     /* columns of a catalogue, which has at least one */
+    SEARCHROOM_MAX_TEXT = 23,        /* bytes of a text in a catalogue, or of a text operand */
+    SEARCHROOM_MAX_CONDITIONS = 64,  /* conditions of a question, which has at least one */
+    SEARCHROOM_MAX_DEPTH = 8,        /* groups inside each other, the outermost being 1 */
+    SEARCHROOM_LISTED_BYTES = 256,   /* the most bytes that a run writes to the listed table */
+    SEARCHROOM_LOOKS_BYTES = 16384,  /* the most bytes that a run writes to the looks table */
+    SEARCHROOM_TALLY_BYTES = 8,      /* bytes of the house tally */
+    SEARCHROOM_COPY_FIELD_BYTES = 7, /* bytes that a copy writes for each look */
+    SEARCHROOM_COPY_BYTES = 917504   /* the most bytes that a copy writes to its output */
 };
 
 /* Refusal numbers. */
@@ -80,14 +82,16 @@ enum {
     SEARCHROOM_REPEATED_CONDITION = 13,
     /* Question: bytes left over after its field. */
     SEARCHROOM_QUESTION_LEFT_OVER = 14,
-    /* Run: the order is not n bytes holding each condition number once. */
+    /* Run and copy: the order is not n bytes holding each condition number once. */
     SEARCHROOM_BAD_ORDER = 15,
     /* Run: the listed table or the looks table is too short. */
     SEARCHROOM_SHORT_TABLE = 16,
     /* Run: the tally is not eight bytes, or the sum would pass 2^64 - 1. */
     SEARCHROOM_BAD_TALLY = 17,
     /* Outcome: no such entry or condition. */
-    SEARCHROOM_NO_SUCH_PLACE = 18
+    SEARCHROOM_NO_SUCH_PLACE = 18,
+    /* Copy: the output is too short for a field for each look. (19 is the program's: no call gives it.) */
+    SEARCHROOM_SHORT_OUTPUT = 20
 };
 
 /* The refusal's number in a packed word, SEARCHROOM_ACCEPTED where the call is accepted. */
@@ -121,6 +125,7 @@ static inline const char *searchroom_refusal_text(unsigned refusal)
     case SEARCHROOM_SHORT_TABLE: return "a table is too short";
     case SEARCHROOM_BAD_TALLY: return "the tally is not eight bytes, or the sum would pass 2^64 - 1";
     case SEARCHROOM_NO_SUCH_PLACE: return "there is no such entry or condition";
+    case SEARCHROOM_SHORT_OUTPUT: return "the output is too short";
     default: return "unknown refusal";
     }
 }
@@ -221,6 +226,42 @@ static inline size_t searchroom_row_bytes(unsigned entries) { return ((size_t)en
 
 /* The bit of an entry in a row: 1 or 0. */
 static inline unsigned searchroom_bit(const uint8_t *row, unsigned entry) { return row[entry / 8] >> entry % 8 & 1u; }
+
+/*
+ * Writes the steward's copy of the register: each look that searchroom_run registers on the same catalogue, question and
+ * order, with what it found.
+ *
+ * Each look has one field, and no other field is written. A field takes SEARCHROOM_COPY_FIELD_BYTES bytes:
+ *     byte 0         tag 76
+ *     bytes 1 and 2  length 4
+ *     bytes 3 and 4  the entry (searchroom_copied_entry)
+ *     byte 5         the condition's number (searchroom_copied_condition)
+ *     byte 6         the condition's outcome at that entry, as searchroom_outcome gives it: 1 for yes, 0 for no. It is the
+ *                    condition's own, so for kinds 128 to 133 the opposite is already taken (searchroom_copied_outcome)
+ * Entries ascend. In which sequence the fields of one entry follow each other is left open: rely on none.
+ *
+ *     output  the output, at least SEARCHROOM_COPY_FIELD_BYTES bytes for each look; its front is written: the fields, one
+ *             after the other
+ * Further bytes of output stay as they are. SEARCHROOM_COPY_BYTES bytes are enough for any copy.
+ *
+ * Results: third the number of bytes written, SEARCHROOM_COPY_FIELD_BYTES times the look count (searchroom_written).
+ * Refusals: 1 to 14 as for searchroom_check_question; then 15, then 20. Nothing is then written.
+ */
+uint64_t searchroom_copy(const uint8_t *catalogue, size_t catalogue_len,
+                         const uint8_t *question, size_t question_len,
+                         const uint8_t *order, size_t order_len,
+                         uint8_t *output, size_t output_len);
+
+static inline uint32_t searchroom_written(uint64_t word) { return searchroom_third(word); }
+
+/* Of a field that a copy wrote, given by its first byte: the entry looked at. */
+static inline unsigned searchroom_copied_entry(const uint8_t *field) { return field[3] * 256u + field[4]; }
+
+/* Of such a field: the number of the condition looked at. */
+static inline unsigned searchroom_copied_condition(const uint8_t *field) { return field[5]; }
+
+/* Of such a field: the condition's outcome at the entry, 1 for yes and 0 for no. */
+static inline unsigned searchroom_copied_outcome(const uint8_t *field) { return field[6]; }
 
 #ifdef __cplusplus
 }

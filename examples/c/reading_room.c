@@ -1,6 +1,6 @@
 /*
- * A small reading room: checks a catalogue and a question, runs the question, and prints the entries found and how often
- * each condition was looked at.
+ * A small reading room: checks a catalogue and a question, runs the question, and prints the entries found, how often each
+ * condition was looked at, and the steward's copy: every look with its outcome.
  *
  *     reading_room FOLDER
  *
@@ -60,6 +60,26 @@ static unsigned ones(const uint8_t *row, unsigned entries)
     return count;
 }
 
+/* Prints the looks of a copy, a line for each entry. How the looks of one entry follow each other is left open, so they are
+   gathered first and printed by condition number. */
+static void print_copy(const uint8_t *copy, size_t len)
+{
+    for (size_t at = 0; at < len;) {
+        const char *outcomes[SEARCHROOM_MAX_CONDITIONS] = {NULL};
+        unsigned entry = searchroom_copied_entry(copy + at);
+        for (; at < len && searchroom_copied_entry(copy + at) == entry; at += SEARCHROOM_COPY_FIELD_BYTES)
+            outcomes[searchroom_copied_condition(copy + at)] = searchroom_copied_outcome(copy + at) ? "yes" : "no";
+        printf("  entry %u", entry);
+        const char *before = ": ";
+        for (unsigned c = 0; c < SEARCHROOM_MAX_CONDITIONS; c++)
+            if (outcomes[c] != NULL) {
+                printf("%scondition %u %s", before, c, outcomes[c]);
+                before = ", ";
+            }
+        printf("\n");
+    }
+}
+
 int main(int argc, char **argv)
 {
     if (argc != 2) {
@@ -92,6 +112,12 @@ int main(int argc, char **argv)
     size_t row = searchroom_row_bytes(entries);
     for (unsigned c = 0; c < conditions; c++)
         printf("  condition %u at %u entries\n", c, ones(looks + c * row, entries));
+
+    static uint8_t copy[SEARCHROOM_COPY_BYTES];
+    uint64_t copied = accepted("copy", searchroom_copy(catalogue.bytes, catalogue.len, question.bytes, question.len,
+                                                       order.bytes, order.len, copy, sizeof copy));
+    printf("the steward's copy, %u bytes:\n", (unsigned)searchroom_written(copied));
+    print_copy(copy, searchroom_written(copied));
 
     free(catalogue.bytes);
     free(question.bytes);

@@ -1,9 +1,10 @@
-/* searchroom_run where the entries fill blocks of 64, or nearly do. The last column ends at an unreadable page. */
+/* searchroom_run and searchroom_copy where the entries fill blocks of 64, or nearly do. The last column ends at an unreadable
+   page. */
 #include "../../include/searchroom.h"
 #include "case.h"
 #include <string.h>
 
-enum { MOST = 2048, SLOT = 24, LONGEST = 23, CONDITIONS = 3, FURTHER = 9, FILL = 0xA7 };
+enum { MOST = 2048, SLOT = 24, LONGEST = 23, CONDITIONS = 3, FURTHER = 9, FILL = 0xA7, FIELD = SEARCHROOM_COPY_FIELD_BYTES };
 
 /* All of: the number from 2 to 5; any of: the text contains "bY", the text is blank. */
 static const uint8_t question[] = {65, 0, 28, 80, 0, 10, 0, 0, 0, 0, 0, 2, 0, 0, 0, 5,
@@ -11,6 +12,7 @@ static const uint8_t question[] = {65, 0, 28, 80, 0, 10, 0, 0, 0, 0, 0, 2, 0, 0,
 static const uint8_t order[CONDITIONS] = {0, 1, 2};
 
 static uint8_t made[6 + 3 + 4 * MOST + 3 + SLOT * MOST];
+static uint8_t filled[CONDITIONS * MOST * FIELD + FURTHER];
 
 /* The entries are of few sorts, so that neighbours differ; their texts are as long as can be or end with what is sought. */
 static unsigned number_of(unsigned entry) { return entry * 5 / 3 % 8; }
@@ -45,20 +47,64 @@ static size_t make(unsigned entries)
     return at;
 }
 
-/* What each bit of the tables must be, entry by entry. */
-static void expect_entry(unsigned entry, const uint8_t *listed, const uint8_t *looks, size_t row)
+/* What the conditions answer at an entry, and at which of them a look is due. */
+typedef struct {
+    unsigned outcomes[CONDITIONS], due[CONDITIONS];
+} Entry;
+
+static Entry expected(unsigned entry)
 {
     unsigned in_range = number_of(entry) >= 2 && number_of(entry) <= 5;
     unsigned by = has_by(entry) ? 1 : 0, blank = length_of(entry) == 0;
-    EXPECT_EQ(searchroom_bit(looks, entry), 1);
-    EXPECT_EQ(searchroom_bit(looks + row, entry), in_range);
-    EXPECT_EQ(searchroom_bit(looks + 2 * row, entry), in_range && !by);
-    EXPECT_EQ(searchroom_bit(listed, entry), in_range && (by || blank));
+    return (Entry){{in_range, by, blank}, {1, in_range, in_range && !by}};
+}
+
+static unsigned looks_at(Entry is) { return is.due[0] + is.due[1] + is.due[2]; }
+
+/* What each bit of the tables must be, entry by entry. */
+static void expect_entry(unsigned entry, const uint8_t *listed, const uint8_t *looks, size_t row)
+{
+    Entry is = expected(entry);
+    for (unsigned condition = 0; condition < CONDITIONS; condition++)
+        EXPECT_EQ(searchroom_bit(looks + condition * row, entry), is.due[condition]);
+    EXPECT_EQ(searchroom_bit(listed, entry), is.outcomes[0] && (is.outcomes[1] || is.outcomes[2]));
+}
+
+/* The fields of one entry, one for each due look, in any sequence. Gives the place after them. */
+static const uint8_t *expect_fields(unsigned entry, const uint8_t *field)
+{
+    Entry is = expected(entry);
+    for (unsigned left = looks_at(is); left > 0; left--, field += FIELD) {
+        unsigned condition = searchroom_copied_condition(field);
+        EXPECT(memcmp(field, (const uint8_t[]){76, 0, 4}, 3) == 0);
+        EXPECT_EQ(searchroom_copied_entry(field), entry);
+        EXPECT(condition < CONDITIONS && is.due[condition]);
+        EXPECT_EQ(searchroom_copied_outcome(field), is.outcomes[condition % CONDITIONS]);
+        is.due[condition % CONDITIONS] = 0;
+    }
+    return field;
+}
+
+static void expect_copy(unsigned entries, const uint8_t *catalogue, size_t catalogue_len)
+{
+    size_t written = 0;
+    for (unsigned entry = 0; entry < entries; entry++)
+        written += FIELD * looks_at(expected(entry));
+    size_t output_len = written + FURTHER;
+    uint8_t *output = lend(filled, output_len);
+    uint64_t word = searchroom_copy(catalogue, catalogue_len, question, sizeof question, order, sizeof order, output,
+                                    output_len);
+    EXPECT_EQ(searchroom_refusal(word), SEARCHROOM_ACCEPTED);
+    EXPECT_EQ(searchroom_written(word), written);
+    const uint8_t *field = output;
+    for (unsigned entry = 0; entry < entries; entry++)
+        field = expect_fields(entry, field);
+    EXPECT(memcmp(output + written, filled, FURTHER) == 0);
+    give_back(output, output_len);
 }
 
 static void expect_run(unsigned entries)
 {
-    static uint8_t filled[CONDITIONS * MOST / 8 + FURTHER];
     memset(filled, FILL, sizeof filled);
     size_t catalogue_len = make(entries), row = searchroom_row_bytes(entries);
     size_t listed_len = row + FURTHER, looks_len = CONDITIONS * row + FURTHER;
@@ -82,6 +128,7 @@ static void expect_run(unsigned entries)
         EXPECT_EQ(searchroom_bit(listed, bit) + searchroom_bit(looks + 2 * row, bit), 0);
     for (size_t i = 0; i < FURTHER; i++)
         EXPECT(listed[row + i] == FILL && looks[CONDITIONS * row + i] == FILL);
+    expect_copy(entries, catalogue, catalogue_len);
     give_back(catalogue, catalogue_len);
     give_back(listed, listed_len);
     give_back(looks, looks_len);

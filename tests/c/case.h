@@ -30,5 +30,6 @@ void catalogue_cases(void);
 void question_cases(void);
 void run_cases(void);
 void blocks_cases(void);
+void copy_cases(void);
 
 #endif

@@ -4,6 +4,9 @@
 
 int main()
 {
-    const uint8_t bytes[] = {67, 0, 3, 0, 0, 1, 78, 0, 0};
-    return searchroom_columns(searchroom_check_catalogue(bytes, sizeof bytes)) == 1 ? 0 : 1;
+    const uint8_t bytes[] = {67, 0, 3, 0, 0, 1, 78, 0, 0}, blank[] = {80, 0, 2, 0, 1}, order[] = {0};
+    uint8_t output[SEARCHROOM_COPY_FIELD_BYTES];
+    uint64_t checked = searchroom_check_catalogue(bytes, sizeof bytes);
+    uint64_t copied = searchroom_copy(bytes, sizeof bytes, blank, sizeof blank, order, sizeof order, output, sizeof output);
+    return searchroom_columns(checked) == 1 && copied == SEARCHROOM_ACCEPTED ? 0 : 1;
 }

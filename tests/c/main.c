@@ -67,6 +67,7 @@ int main(void)
     question_cases();
     run_cases();
     blocks_cases();
+    copy_cases();
     printf("%u passed, %u failed\n", passed, failed);
     return failed == 0 ? 0 : 1;
 }
