@@ -1,7 +1,5 @@
+use crate::question::MAX_CONDITIONS;
 use crate::{Counts, Refusal, check_catalogue, run};
-
-/// The most conditions that a question may have.
-const MAX_CONDITIONS: usize = 64;
 
 /// What an accepted run found: the listed entries, and the entries at which each condition was looked at.
 #[derive(Clone, Debug, PartialEq, Eq)]

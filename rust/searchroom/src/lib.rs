@@ -13,6 +13,7 @@
 
 mod catalogue;
 mod consultation;
+mod copy;
 mod question;
 mod refusal;
 mod run;
@@ -21,6 +22,7 @@ mod word;
 
 pub use catalogue::{Size, check_catalogue};
 pub use consultation::{Consultation, consult};
+pub use copy::{COPY_BYTES, Look, Looks, copy, copy_of, looks};
 pub use question::{Answer, check_question, outcome};
 pub use refusal::Refusal;
 pub use run::{Counts, run};
@@ -29,6 +31,7 @@ pub use word::Word;
 /// The calls as C sees them: the answer is the packed [`Word`], not taken apart.
 pub mod raw {
     pub use crate::catalogue::check_catalogue_word as check_catalogue;
+    pub use crate::copy::copy_word as copy;
     pub use crate::question::{check_question_word as check_question, outcome_word as outcome};
     pub use crate::run::run_word as run;
 }

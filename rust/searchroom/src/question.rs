@@ -1,10 +1,24 @@
 use crate::{Refusal, Word, sys};
 
+/// The most conditions that a question may have.
+pub(crate) const MAX_CONDITIONS: usize = 64;
+
 /// What a condition answers at an entry.
 #[derive(Clone, Copy, Debug, PartialEq, Eq, Hash)]
 pub enum Answer {
     No,
     Yes,
+}
+
+impl Answer {
+    /// The answer that a call or a copy tells by this number, if there is one.
+    pub(crate) fn from_number(number: u16) -> Option<Answer> {
+        match number {
+            0 => Some(Answer::No),
+            1 => Some(Answer::Yes),
+            _ => None,
+        }
+    }
 }
 
 /// Checks a question against a catalogue and gives the number of its conditions, 1 to 64.
@@ -48,11 +62,8 @@ pub fn check_question_word(catalogue: &[u8], question: &[u8]) -> Word {
 /// # Panics
 /// If the archive gives an answer that this wrapper does not know: the two are then not of the same release.
 pub fn outcome(catalogue: &[u8], question: &[u8], entry: u64, condition: u64) -> Result<Answer, Refusal> {
-    match outcome_word(catalogue, question, entry, condition).accepted()?.first() {
-        0 => Ok(Answer::No),
-        1 => Ok(Answer::Yes),
-        other => panic!("the archive answered {other}, unknown here"),
-    }
+    let number = outcome_word(catalogue, question, entry, condition).accepted()?.first();
+    Ok(Answer::from_number(number).unwrap_or_else(|| panic!("the archive answered {number}, unknown here")))
 }
 
 /// Works out one condition at one entry. The first result is 1 for yes and 0 for no.

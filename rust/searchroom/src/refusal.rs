@@ -52,6 +52,7 @@ refusals! {
     ShortTable = 16, "a table is too short";
     BadTally = 17, "the tally is not eight bytes, or the sum would pass 2^64 - 1";
     NoSuchPlace = 18, "there is no such entry or condition";
+    ShortOutput = 20, "the output is too short";
 }
 
 impl Refusal {

@@ -33,4 +33,15 @@ unsafe extern "C" {
         tally: *mut u8,
         tally_len: usize,
     ) -> u64;
+
+    pub fn searchroom_copy(
+        catalogue: *const u8,
+        catalogue_len: usize,
+        question: *const u8,
+        question_len: usize,
+        order: *const u8,
+        order_len: usize,
+        output: *mut u8,
+        output_len: usize,
+    ) -> u64;
 }
