@@ -1,10 +1,11 @@
-//! Document 01 in plain Rust, written from the paper alone.
+//! Document 01 and the orders done since, in plain Rust, written from the papers alone.
 //!
 //! It shares nothing with the engine and is meant to be believed by reading: values are decoded first, then every rule is
 //! worked out as its sentence says it, at whatever cost. Tests hold the engine to its answers.
 
 mod catalogue;
 mod condition;
+mod copy;
 mod field;
 mod question;
 pub mod refusal;
@@ -15,6 +16,7 @@ mod word;
 
 pub use catalogue::{BLANK_NUMBER, Catalogue, Column, read_catalogue};
 pub use condition::{Answer, Condition, Test, fold, outcome, read_condition};
+pub use copy::{Copied, copy};
 pub use question::{Question, Tree, read_question};
 pub use refusal::Number;
 pub use register::{refused_register, register};

@@ -1,4 +1,4 @@
-//! The refusal numbers of "When a call declines", once each.
+//! The refusal numbers of "When a call declines" and of the orders, once each.
 
 /// A refusal's number.
 pub type Number = u8;
@@ -42,3 +42,5 @@ pub const TALLY: Number = 17;
 pub const NO_SUCH_PLACE: Number = 18;
 /// `consult`: a file cannot be opened or read, or is longer than its limit.
 pub const FILE: Number = 19;
+/// The lent output is too short.
+pub const OUTPUT: Number = 20;

@@ -66,6 +66,6 @@ fn bits(entries: &[bool]) -> Vec<u8> {
 }
 
 /// The table with its front replaced; its further bytes stay.
-fn with_front(table: &[u8], front: Vec<u8>) -> Vec<u8> {
+pub(crate) fn with_front(table: &[u8], front: Vec<u8>) -> Vec<u8> {
     [front.as_slice(), &table[front.len()..]].concat()
 }

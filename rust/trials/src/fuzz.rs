@@ -11,8 +11,8 @@ use generator::{
 };
 
 use crate::{
-    PARISH_CATALOGUE, PARISH_ORDER, PARISH_QUESTION, Run, Seen, compare_catalogue, compare_outcome, compare_question,
-    compare_run,
+    PARISH_CATALOGUE, PARISH_ORDER, PARISH_QUESTION, Run, Seen, compare_catalogue, compare_copy, compare_outcome,
+    compare_question, compare_run,
 };
 
 /// No more inputs than this are kept.
@@ -28,7 +28,7 @@ pub struct Fuzz {
     seed: u64,
     rng: Rng,
     kept: Vec<Run>,
-    met: HashSet<[u64; 4]>,
+    met: HashSet<[u64; 5]>,
     steps: u64,
     seen: Seen,
 }
@@ -81,21 +81,36 @@ impl Fuzz {
     }
 
     /// The answers of all calls, on which the engine and the evaluator must agree.
-    fn judge(&mut self, given: &Run) -> [u64; 4] {
+    fn judge(&mut self, given: &Run) -> [u64; 5] {
         let label = format!("fuzz seed {}, step {}", self.seed, self.steps);
         let [entry, condition] = [(); 2].map(|()| match self.rng.below(8) {
             0 => self.rng.next_u64(),
             1 => 1 << self.rng.below(64),
             _ => self.rng.below(8) as u64,
         });
+        let ran = compare_run(&label, given).word;
+        let output = self.output(ran);
         let words = [
             compare_catalogue(&label, &given.catalogue),
             compare_question(&label, &given.catalogue, &given.question),
             compare_outcome(&label, &given.catalogue, &given.question, entry, condition),
-            compare_run(&label, given).word,
+            ran,
+            compare_copy(&label, &given.copying(&output)).word,
         ];
         words.iter().for_each(|&word| self.seen.count(word));
         words
+    }
+
+    /// An output for the copy of a run that was answered so: of just the bytes that an accepted run's looks take, nearly so
+    /// many, or any.
+    fn output(&mut self, ran: u64) -> Vec<u8> {
+        let fit = 7 * (ran >> 40) as usize;
+        let length = match self.rng.below(8) {
+            0 => fit.saturating_sub(self.rng.between(1, 8)),
+            1 => self.rng.below(300),
+            _ => fit + self.rng.below(9),
+        };
+        self.rng.bytes(length)
     }
 
     fn change(&mut self, given: &mut Run) {

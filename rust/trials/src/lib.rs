@@ -1,7 +1,10 @@
 //! What the tests in `tests/` share: lent memory with guards, comparison with the evaluator, and reports.
 
 mod catalogue;
+mod copy;
+mod damaged;
 mod fault;
+mod fewer;
 mod fuzz;
 mod lent;
 mod question;
@@ -11,6 +14,9 @@ mod run;
 mod seen;
 
 pub use catalogue::compare_catalogue;
+pub use copy::{Copying, compare_copy};
+pub use damaged::Damaged;
+pub use fewer::{fewer, seeds};
 pub use fuzz::Fuzz;
 pub use lent::{Lent, Side};
 pub use question::{compare_outcome, compare_question};

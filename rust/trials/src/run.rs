@@ -3,7 +3,7 @@ use std::fmt;
 use evaluator::{Catalogue, Question, Ran};
 use generator::{encode_catalogue, encode_question};
 
-use crate::{Lent, Side, fault, hex};
+use crate::{Copying, Lent, Side, fault, hex};
 
 /// All that a run is given, the tables as they are lent.
 #[derive(Clone, Debug, Default)]
@@ -38,6 +38,11 @@ impl Run {
             looks: vec![0xFF; row * question.conditions.len()],
             tally: vec![0; 8],
         }
+    }
+
+    /// The copy of the same catalogue, question and order, into this output.
+    pub fn copying<'a>(&'a self, output: &'a [u8]) -> Copying<'a> {
+        Copying { catalogue: &self.catalogue, question: &self.question, order: &self.order, output }
     }
 
     fn slices(&self) -> [&[u8]; 6] {

@@ -1,14 +1,11 @@
-//! Runs over catalogues whose entries fill blocks of 64, or nearly do: what one entry gives must not reach its
+//! Runs and copies over catalogues whose entries fill blocks of 64, or nearly do: what one entry gives must not reach its
 //! neighbours, and the last block ends where the entries end.
-
-use std::env;
-use std::ops::Range;
 
 use evaluator::{BLANK_NUMBER, Catalogue, Column, Condition, Question, Ran, Test, Tree, pack};
 use generator::{
     BLOCK, Pattern, Rng, catalogue_of, near_text, operand, question_of, running_order, tree_of, with_outcomes,
 };
-use trials::{Run, compare_run};
+use trials::{Run, compare_copy, compare_run, fewer, seeds};
 
 /// Sizes at the ends of blocks.
 const SIZES: [usize; 17] = [0, 1, 2, 8, 62, 63, 64, 65, 66, 127, 128, 129, 191, 192, 193, 2_047, 2_048];
@@ -16,16 +13,6 @@ const SIZES: [usize; 17] = [0, 1, 2, 8, 62, 63, 64, 65, 66, 127, 128, 129, 191, 
 const SMALLER: [usize; 8] = [1, 63, 64, 65, 100, 127, 128, 129];
 
 const MOST: u32 = BLANK_NUMBER - 1;
-
-/// Is less to be tried? Under valgrind (tests/valgrind) all of it would take minutes.
-fn fewer() -> bool {
-    env::var_os("SEARCHROOM_FEWER").is_some()
-}
-
-/// So many seeds, or an eighth of them.
-fn seeds(count: u64) -> Range<u64> {
-    0..if fewer() { count / 8 } else { count }
-}
 
 /// The sizes, or but one of the large ones.
 fn sizes() -> impl Iterator<Item = usize> {
@@ -45,11 +32,16 @@ fn lending(rng: &mut Rng, catalogue: &Catalogue, question: &Question, order: &[u
     Run { listed, looks, tally, ..fit }
 }
 
-/// Makes the run in an order, and sees that it is accepted.
+/// Makes the run in an order and its copy, and sees that both are accepted. Where less is to be tried, some are not copied.
 fn compare(rng: &mut Rng, label: &str, catalogue: &Catalogue, question: &Question, order: &[u8]) -> Ran {
     let given = lending(rng, catalogue, question, order);
     let ran = compare_run(label, &given);
     assert_eq!(ran.word as u8, 0, "{label} is refused");
+    if !fewer() || rng.chance(10) {
+        let (written, more) = (7 * look_count(&ran), *rng.pick(&[0, 1, 7, 300]));
+        let copied = compare_copy(label, &given.copying(&rng.bytes(written + more)));
+        assert_eq!(copied.word, pack(0, 0, written), "{label}, the copy");
+    }
     ran
 }
 

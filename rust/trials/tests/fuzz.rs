@@ -8,7 +8,9 @@ fn fuzz(seed: u64) {
     for _ in 0..10_000 {
         fuzz.step();
     }
+    // 19 is the program's.
     fuzz.seen().assert_each(0..=18, 3);
+    fuzz.seen().assert_each(20..=20, 3);
     let (_, answers) = fuzz.progress();
     assert!(answers > 1_000, "{answers} kinds of answers met");
 }

@@ -9,13 +9,14 @@ use searchroom::Refusal;
 const HEADER: &str = include_str!("../../../include/searchroom.h");
 
 /// A constant of the header and the crates' constant that it repeats.
-const SAME: [(&str, &str); 24] = [
+const SAME: [(&str, &str); 26] = [
     ("MAX_ENTRIES", "Row::LIMIT"),
     ("MAX_COLUMNS", "Column::LIMIT"),
     ("MAX_TEXT", "Text::LIMIT"),
     ("MAX_CONDITIONS", "Predicate::LIMIT"),
     ("MAX_DEPTH", "Group::DEPTH_LIMIT"),
     ("TALLY_BYTES", "Counter::SIZE"),
+    ("COPY_FIELD_BYTES", "ProbeField::SIZE"),
     ("CATALOGUE_FIELD", "Refusal::FIELD_CUT"),
     ("CATALOGUE_HEADER", "Refusal::NOT_CATALOGUE"),
     ("CATALOGUE_LIMITS", "Refusal::COUNTS_OUT_OF_RANGE"),
@@ -34,6 +35,7 @@ const SAME: [(&str, &str); 24] = [
     ("SHORT_TABLE", "Refusal::TABLE_TOO_SHORT"),
     ("BAD_TALLY", "Refusal::COUNTER_REFUSED"),
     ("NO_SUCH_PLACE", "Refusal::NO_SUCH_ROW_OR_PREDICATE"),
+    ("SHORT_OUTPUT", "Refusal::OUTPUT_TOO_SHORT"),
 ];
 
 /// Refusal 19 is the program's, and no call of the library gives it.
@@ -86,10 +88,13 @@ fn header_has_the_constants_of_the_crates() {
     expected.insert("ACCEPTED".to_string(), 0);
     expected.insert("LISTED_BYTES".to_string(), row);
     expected.insert("LOOKS_BYTES".to_string(), row * of["Predicate::LIMIT"]);
+    let most_looks = of["Row::LIMIT"] * of["Predicate::LIMIT"];
+    expected.insert("COPY_BYTES".to_string(), of["ProbeField::SIZE"] * most_looks);
     let header = header_constants();
     for name in header.keys().chain(expected.keys()) {
         assert_eq!(header.get(name), expected.get(name), "SEARCHROOM_{name}: the header's and the crates'");
     }
+    assert_eq!(header["COPY_BYTES"], searchroom::COPY_BYTES as u64, "the header's and the wrapper's");
 }
 
 #[test]

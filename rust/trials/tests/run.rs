@@ -1,12 +1,9 @@
 //! `searchroom_run` against the evaluator: the word and every lent byte, accepted and refused.
 
 use evaluator::{Catalogue, Column, Condition, Question, Ran, Test, Tree, pack, refused};
-use generator::{
-    Damage, Rng, catalogue, catalogue_of, damage, encode_catalogue, faulty_question, field, question, question_of,
-    running_order,
-};
+use generator::{Rng, catalogue, catalogue_of, field, question, question_of, running_order};
 use searchroom::{Refusal, consult};
-use trials::{PARISH_CATALOGUE, PARISH_ORDER, PARISH_QUESTION, Run, Seen, compare_run};
+use trials::{Damaged, PARISH_CATALOGUE, PARISH_ORDER, PARISH_QUESTION, Run, Seen, compare_run};
 
 fn parish(order: &[u8]) -> Run {
     Run {
@@ -366,53 +363,22 @@ fn random_and_damaged_runs_reach_every_refusal() {
     let mut seen = Seen::none();
     for seed in 0..30_000 {
         let mut rng = Rng::new(seed);
-        let (entries, columns) = (rng.between(0, 10), rng.between(1, 4));
-        let made = catalogue_of(&mut rng, entries, columns);
-        let mut catalogue = encode_catalogue(&made);
-        let faults = *rng.pick(&[0, 0, 0, 5]);
-        let mut asked = faulty_question(&mut rng, &made, faults);
-        for (bytes, percent) in [(&mut catalogue, 8), (&mut asked, 15)] {
-            if rng.chance(percent) {
-                let how = *rng.pick(&Damage::ALL);
-                damage(&mut rng, bytes, how);
-            }
-        }
-        // The number of conditions, if the question is accepted, for an order and tables that fit or nearly so.
-        let count = match evaluator::question_word(&catalogue, &asked) {
-            word if word as u8 == 0 => (word >> 8) as usize,
-            _ => rng.below(5),
-        };
-        let mut order = running_order(&mut rng, count);
-        if rng.chance(10) {
-            damage_order(&mut rng, &mut order);
-        }
+        let Damaged { catalogue, question, order, entries, conditions } = Damaged::new(&mut rng);
         let row = entries.div_ceil(8);
         let length = |rng: &mut Rng, fit: usize| match rng.below(20) {
             0 => fit.saturating_sub(1),
             1..4 => fit + rng.below(9),
             _ => fit,
         };
-        let (listed, looks) = (length(&mut rng, row), length(&mut rng, row * count));
+        let (listed, looks) = (length(&mut rng, row), length(&mut rng, row * conditions));
         let (listed, looks) = (rng.bytes(listed), rng.bytes(looks));
         let tally = match rng.below(20) {
             0 => (u64::MAX - rng.below(40) as u64).to_be_bytes().to_vec(),
             1 => vec![0; *rng.pick(&[0, 7, 9])],
             _ => rng.next_u64().to_be_bytes().to_vec(),
         };
-        let given = Run { catalogue, question: asked, order, listed, looks, tally };
+        let given = Run { catalogue, question, order, listed, looks, tally };
         seen.count(compare_run(&format!("seed {seed}"), &given).word);
     }
     seen.assert_each(0..=17, 10);
-}
-
-fn damage_order(rng: &mut Rng, order: &mut Vec<u8>) {
-    match rng.below(4) {
-        0 => drop(order.pop()),
-        1 => order.push(rng.below(65) as u8),
-        _ if !order.is_empty() => {
-            let at = rng.below(order.len());
-            order[at] = if rng.chance(50) { *rng.pick(order) } else { rng.byte() };
-        }
-        _ => {}
-    }
 }

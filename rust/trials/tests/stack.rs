@@ -4,7 +4,6 @@ use std::ffi::{c_int, c_void};
 use std::ptr;
 
 use evaluator::{Catalogue, Column, Condition, Question, Test, Tree};
-use generator::{encode_catalogue, encode_question};
 use trials::Run;
 
 /// The promise: less than this.
@@ -49,21 +48,30 @@ extern "C" fn nothing(_: *mut c_void) -> *mut c_void {
     ptr::null_mut()
 }
 
+/// What every call is made with.
+struct Given {
+    run: Run,
+    /// The copy's.
+    output: Vec<u8>,
+}
+
 extern "C" fn every_call(given: *mut c_void) -> *mut c_void {
     // SAFETY: the one argument that the test passes, which it does not use meanwhile.
-    let Run { catalogue, question, order, listed, looks, tally } = unsafe { &mut *given.cast::<Run>() };
+    let Given { run: Run { catalogue, question, order, listed, looks, tally }, output } =
+        unsafe { &mut *given.cast::<Given>() };
     let words = [
         searchroom::raw::check_catalogue(catalogue),
         searchroom::raw::check_question(catalogue, question),
         searchroom::raw::outcome(catalogue, question, 0, 0),
         searchroom::raw::outcome(catalogue, question, 0, 1),
         searchroom::raw::run(catalogue, question, order, listed, looks, tally),
+        searchroom::raw::copy(catalogue, question, order, output),
     ];
     if words.iter().all(|word| word.number() == 0) { given } else { ptr::null_mut() }
 }
 
 /// Eight groups deep, with 64 conditions on numbers and on texts, over 2,048 entries.
-fn largest() -> Run {
+fn largest() -> Given {
     let texts = vec![(1..=23).collect(); 2_048];
     let made = Catalogue { entries: 2_048, columns: vec![Column::Numbers((0..2_048).collect()), Column::Texts(texts)] };
     let condition = |number: u8| {
@@ -76,23 +84,17 @@ fn largest() -> Run {
         tree = Tree::AllOf(vec![Tree::Condition(number), tree]);
     }
     let asked = Question { tree, conditions: (0..64).map(condition).collect() };
-    Run {
-        catalogue: encode_catalogue(&made),
-        question: encode_question(&asked),
-        order: (0..64).collect(),
-        listed: vec![0; 256],
-        looks: vec![0; 16_384],
-        tally: vec![0; 8],
-    }
+    let order: Vec<u8> = (0..64).collect();
+    Given { run: Run::fitting(&made, &asked, &order), output: vec![0; searchroom::COPY_BYTES] }
 }
 
 #[test]
 fn calls_take_less_stack_than_promised() {
     let mut given = largest();
-    let before = given.tally.clone();
     let thread_alone = stack_taken(nothing, ptr::null_mut());
     let taken = stack_taken(every_call, (&raw mut given).cast()) - thread_alone;
-    assert_ne!(given.tally, before, "the run was accepted");
+    assert_ne!(given.run.tally, [0; 8], "the run was accepted");
+    assert_eq!(given.output[0], 76, "the copy was accepted");
     println!("the calls take at most {taken} bytes of stack");
     assert!(taken < PROMISED, "{taken} bytes of stack, promised are less than {PROMISED}");
     // The reader stops at the ninth group, however many there are.
@@ -100,7 +102,8 @@ fn calls_take_less_stack_than_promised() {
     while question.len() + 3 <= 65_538 {
         question = [[65].as_slice(), &(question.len() as u16).to_be_bytes(), &question].concat();
     }
-    let mut given = Run { question, ..largest() };
+    let mut given = largest();
+    given.run.question = question;
     let taken = stack_taken(every_call, (&raw mut given).cast()) - thread_alone;
     assert!(taken < PROMISED, "{taken} bytes of stack for 21,845 nested groups");
 }

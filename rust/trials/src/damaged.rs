@@ -1,0 +1,49 @@
+use generator::{Damage, Rng, catalogue_of, damage, encode_catalogue, faulty_question, running_order};
+
+/// A small catalogue, a question and a running order, as bytes, each of them damaged now and then.
+pub struct Damaged {
+    pub catalogue: Vec<u8>,
+    pub question: Vec<u8>,
+    pub order: Vec<u8>,
+    /// The entries of the catalogue before it was damaged.
+    pub entries: usize,
+    /// The conditions of the question, if it is accepted.
+    pub conditions: usize,
+}
+
+impl Damaged {
+    pub fn new(rng: &mut Rng) -> Damaged {
+        let (entries, columns) = (rng.between(0, 10), rng.between(1, 4));
+        let made = catalogue_of(rng, entries, columns);
+        let mut catalogue = encode_catalogue(&made);
+        let faults = *rng.pick(&[0, 0, 0, 5]);
+        let mut question = faulty_question(rng, &made, faults);
+        for (bytes, percent) in [(&mut catalogue, 8), (&mut question, 15)] {
+            if rng.chance(percent) {
+                let how = *rng.pick(&Damage::ALL);
+                damage(rng, bytes, how);
+            }
+        }
+        let conditions = match evaluator::question_word(&catalogue, &question) {
+            word if word as u8 == 0 => (word >> 8) as usize,
+            _ => rng.below(5),
+        };
+        let mut order = running_order(rng, conditions);
+        if rng.chance(10) {
+            damage_order(rng, &mut order);
+        }
+        Damaged { catalogue, question, order, entries, conditions }
+    }
+}
+
+fn damage_order(rng: &mut Rng, order: &mut Vec<u8>) {
+    match rng.below(4) {
+        0 => drop(order.pop()),
+        1 => order.push(rng.below(65) as u8),
+        _ if !order.is_empty() => {
+            let at = rng.below(order.len());
+            order[at] = if rng.chance(50) { *rng.pick(order) } else { rng.byte() };
+        }
+        _ => {}
+    }
+}
