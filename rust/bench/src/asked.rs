@@ -1,5 +1,5 @@
 use evaluator::{Catalogue, Column, Condition, Question, Test, Tree};
-use generator::{Rng, catalogue_of, encode_catalogue, encode_question, running_order};
+use generator::{Rng, catalogue_of, encode_catalogue, encode_question, question_of, running_order};
 use searchroom::Counts;
 
 /// A catalogue and a question with its running order, as bytes.
@@ -36,6 +36,16 @@ pub fn mixed(rng: &mut Rng, entries: usize) -> Catalogue {
         }
     }
     Catalogue { entries, columns }
+}
+
+/// Questions of one to 64 conditions over a catalogue, with the number of their conditions and how deep their groups may be.
+pub fn at_each_depth(rng: &mut Rng, catalogue: &Catalogue) -> Vec<(usize, usize, Asked)> {
+    let sizes = [(1, 1), (6, 1), (6, 3), (20, 1), (20, 3), (20, 8), (64, 1), (64, 3), (64, 8)];
+    let asked = |(count, depth)| {
+        let question = question_of(rng, catalogue, count, depth);
+        (count, depth, Asked::new(rng, catalogue, &question))
+    };
+    sizes.map(asked).into()
 }
 
 /// All of: a year that few entries have, then nineteen texts to be searched.

@@ -7,6 +7,7 @@
 mod against_sqlite;
 mod asked;
 mod catalogue;
+mod copy;
 mod look;
 mod places;
 mod plain;
@@ -23,6 +24,7 @@ fn main() {
     catalogue::report(&mut table);
     question::report(&mut table);
     run::report(&mut table);
+    copy::report(&mut table);
     against_sqlite::report(&mut table);
     table.print_end();
     look::report();

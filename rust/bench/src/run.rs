@@ -1,7 +1,7 @@
 use evaluator::{Condition, Question, Test, Tree};
 use generator::{Rng, question_of};
 
-use crate::asked::{Asked, mixed, settled_early};
+use crate::asked::{Asked, at_each_depth, mixed, settled_early};
 use crate::plain;
 use crate::table::Table;
 
@@ -13,9 +13,7 @@ const AT_64: Option<f64> = Some(0.35);
 pub fn report(table: &mut Table) {
     let mut rng = Rng::new(4);
     let made = mixed(&mut rng, 2_048);
-    for (count, depth) in [(1, 1), (6, 1), (6, 3), (20, 1), (20, 3), (20, 8), (64, 1), (64, 3), (64, 8)] {
-        let question = question_of(&mut rng, &made, count, depth);
-        let asked = Asked::new(&mut rng, &made, &question);
+    for (count, depth, asked) in at_each_depth(&mut rng, &made) {
         against_plain(table, &format!("run, conditions: {count}, depth up to {depth}"), AT_2048, &asked);
     }
     for (name, test) in [

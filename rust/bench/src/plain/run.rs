@@ -4,28 +4,24 @@ use super::question::{Question, read_question};
 /// Checks as a run does, works out every condition at every entry, and then the tree. It lists; it registers no looks,
 /// which would only cost it more.
 pub fn run_every_outcome(catalogue: &[u8], question: &[u8], order: &[u8], listed: &mut [u8]) -> Result<u32, u8> {
-    let (catalogue, question) = checked(catalogue, question, order, listed)?;
+    let (catalogue, question) = checked(catalogue, question, order)?;
     let mut outcomes = [false; 64];
-    Ok(list(&catalogue, listed, |entry| {
+    list(&catalogue, listed, |entry| {
         for (outcome, condition) in outcomes.iter_mut().zip(&question.conditions) {
             *outcome = condition.holds(entry);
         }
         question.tree.value(&|number| outcomes[number])
-    }))
+    })
 }
 
 /// The same, but works a condition out only where `&&` and `||` would, in the tree's order instead of the running order.
 pub fn run_in_tree_order(catalogue: &[u8], question: &[u8], order: &[u8], listed: &mut [u8]) -> Result<u32, u8> {
-    let (catalogue, question) = checked(catalogue, question, order, listed)?;
-    Ok(list(&catalogue, listed, |entry| question.tree.value(&|number| question.conditions[number].holds(entry))))
+    let (catalogue, question) = checked(catalogue, question, order)?;
+    list(&catalogue, listed, |entry| question.tree.value(&|number| question.conditions[number].holds(entry)))
 }
 
-fn checked<'a>(
-    catalogue: &'a [u8],
-    question: &'a [u8],
-    order: &[u8],
-    listed: &[u8],
-) -> Result<(Catalogue<'a>, Question<'a>), u8> {
+/// Checks the catalogue, the question against it, and the order.
+pub fn checked<'a>(catalogue: &'a [u8], question: &'a [u8], order: &[u8]) -> Result<(Catalogue<'a>, Question<'a>), u8> {
     let catalogue = check_catalogue(catalogue)?;
     let question = read_question(&catalogue, question)?;
     let count = question.conditions.len();
@@ -39,14 +35,14 @@ fn checked<'a>(
     if order.len() != count {
         return Err(15);
     }
-    if listed.len() < catalogue.entries.div_ceil(8) {
-        return Err(16);
-    }
     Ok((catalogue, question))
 }
 
-/// Fills the listed table and counts its ones.
-fn list(catalogue: &Catalogue, listed: &mut [u8], mut is_listed: impl FnMut(usize) -> bool) -> u32 {
+/// Fills the listed table, if it is long enough, and counts its ones.
+fn list(catalogue: &Catalogue, listed: &mut [u8], mut is_listed: impl FnMut(usize) -> bool) -> Result<u32, u8> {
+    if listed.len() < catalogue.entries.div_ceil(8) {
+        return Err(16);
+    }
     let mut found = 0;
     for (byte, first) in listed.iter_mut().zip((0..catalogue.entries).step_by(8)) {
         *byte = 0;
@@ -55,5 +51,5 @@ fn list(catalogue: &Catalogue, listed: &mut [u8], mut is_listed: impl FnMut(usiz
         }
         found += byte.count_ones();
     }
-    found
+    Ok(found)
 }
