@@ -7,7 +7,7 @@ use lib.Dec.{ltb}
 use Rattle.fields.specs.Decoded.{Decoded, refused, accepted}
 use Rattle.catalogue.specs.Catalogue.{Catalogue}
 use Rattle.predicate.specs.declared.outcome.Outcome.{Outcome}
-use Rattle.predicate.specs.declared.outcome.Outcome.the-variants.{No, Yes}
+use Rattle.predicate.specs.declared.outcome.Outcome.the-variants.{No, Yes, Blank}
 use Rattle.predicate.specs.Meaning.{outcome}
 use Rattle.rows.specs.Task.{predicateAt}
 use Rattle.input.specs.Input.{Input}
@@ -26,10 +26,11 @@ abbrev pub questionAnswer : Decoded Input → Answer
 questionAnswer (refused e) = Refused e
 questionAnswer (accepted i) = Accepted (length (i .query .predicates)) 0 0
 
--- "one condition 1 (yes) or 0"
+-- "one condition 1 (yes) or 0"; order 2: "yes, no or 2 for blank"
 abbrev pub outcomeNumber : Outcome → ℕ
 outcomeNumber No = 0
 outcomeNumber Yes = 1
+outcomeNumber Blank = 2
 
 -- "Working out one condition: 1 to 14, then 18, no such entry or condition."
 abbrev pub outcomeAnswer : Decoded Input → (row c : ℕ) → Answer

@@ -4,7 +4,7 @@ use mathlib.Core.Bool.{xor}
 use mathlib.Core.List.{[], _∷_, _++_}
 use lib.Count.{ones, onesIn as digitOnes}
 use Rattle.fields.specs.Numbers.{numberAt, bytesOf}
-use Rattle.predicate.specs.Kinds.{plainKind}
+use Rattle.predicate.specs.Kinds.{plainKind, asksContent}
 use Rattle.predicate.specs.Meaning.{folded, same, begins, occurs, numberTest, textTest, outcomeOf}
 use Rattle.strategy.specs.Assignment.{update, elem}
 use Rattle.strategy.specs.Strategy.{predicates}
@@ -34,5 +34,5 @@ parish-register : consultationOf parish question (0 ∷ 1 ∷ 2 ∷ [])
     ++ (99 ∷ 111 ∷ 110 ∷ 100 ∷ 105 ∷ 116 ∷ 105 ∷ 111 ∷ 110 ∷ 32 ∷ 48 ∷ 32 ∷ 51 ∷ 10 ∷ [])
     ++ (99 ∷ 111 ∷ 110 ∷ 100 ∷ 105 ∷ 116 ∷ 105 ∷ 111 ∷ 110 ∷ 32 ∷ 49 ∷ 32 ∷ 49 ∷ 10 ∷ [])
     ++ (99 ∷ 111 ∷ 110 ∷ 100 ∷ 105 ∷ 116 ∷ 105 ∷ 111 ∷ 110 ∷ 32 ∷ 50 ∷ 32 ∷ 50 ∷ 10 ∷ [])
-unfolding numberAt bytesOf folded same begins occurs plainKind numberTest textTest outcomeOf update elem predicates decides someOutcomes due trace eval occurrences allBelow isOrder sumOf joined bitmap bitmaps onesIn isSelected traceAt selection probeBitmaps checked runOn ones digitOnes xor bit has digits decimal line entries conditionLine conditions accepted
+unfolding numberAt bytesOf folded same begins occurs plainKind asksContent numberTest textTest outcomeOf update elem predicates decides someOutcomes due trace eval occurrences allBelow isOrder sumOf joined bitmap bitmaps onesIn isSelected traceAt selection probeBitmaps checked runOn ones digitOnes xor bit has digits decimal line entries conditionLine conditions accepted
 parish-register = ap₂ registerAfter parish-input (run-on parish question _ _ _ _ parish-input)

@@ -15,7 +15,7 @@ use Rattle.fields.specs.Header.{headerAt}
 use Rattle.catalogue.specs.Catalogue.{Catalogue}
 use Rattle.slots.specs.Slots.{textAt, textsAt, zerosAt, validSlot, validSlots}
 use Rattle.catalogue.specs.Decode.{numbersAt, countsAt, firstFieldOf, columnOf, columnsAt, decodeCatalogue}
-use Rattle.predicate.specs.Kinds.{plainKind}
+use Rattle.predicate.specs.Kinds.{plainKind, asksContent}
 use Rattle.predicate.specs.Meaning.{folded, same, begins, occurs, numberTest, textTest, outcomeOf}
 use Rattle.predicate.specs.Payload.{tagsIn, kindFits, rangeFits, operandFits, validPayload}
 use Rattle.query.specs.Query.{Query}
@@ -97,7 +97,7 @@ unfolding numberAt headerAt textAt textsAt zerosAt validSlot validSlots numbersA
 nine-nested = refl
 
 pub cases-hold : AllHold cases
-unfolding numberAt bytesOf headerAt numbersAt countsAt firstFieldOf columnOf columnsAt decodeCatalogue folded same begins occurs plainKind numberTest textTest outcomeOf update elem predicates decides someOutcomes due trace eval occurrences allBelow isOrder sumOf joined bitmap bitmaps onesIn isSelected traceAt selection probeBitmaps checked runOn ones digitOnes xor
+unfolding numberAt bytesOf headerAt numbersAt countsAt firstFieldOf columnOf columnsAt decodeCatalogue folded same begins occurs plainKind asksContent numberTest textTest outcomeOf update elem predicates decides someOutcomes due trace eval occurrences allBelow isOrder sumOf joined bitmap bitmaps onesIn isSelected traceAt selection probeBitmaps checked runOn ones digitOnes xor
 cases-hold = (
   run-on parish question _ _ _ _ parish-input,
   (run-on parish question _ _ _ _ parish-input, (refl, (refl, (refl, (refl, (refl, (refl, (refl, (refl, (refl, (refl, (refl, (refl, (refl, (refl, (finds-nothing, (refl, (nine-nested, (run-on parish bothMembers _ _ _ _ both-input, (run-on oneRow yearBlank _ _ _ _ one-input, tt)))))))))))))))))))),

@@ -17,7 +17,8 @@ use Rattle.demands.specs.Run.{Request, rowCount, taskOf}
 use Rattle.demands.specs.Demands.{pattern, LookDue}
 use Rattle.demands.specs.Log.{outcomeNumberAt, taskFields, LogGives}
 use Rattle.demands.specs.CopyPage.{copyBytes, CopyKept, CopyBroken, CopyNumber, CopyRefused, CopyAccepted, CopyLength, CopyAnySequence, CopyMost, CopyFurther}
-use Rattle.demands.specs.CopyPage.{looksOf, lookField, fieldBytes, CopyFieldThere, CopyFieldOnce, CopyAscends, CopyLooks}
+use Rattle.demands.specs.CopyPage.{looksOf, lookField, fieldBytes, CopyFieldThere, CopyBlank, CopyFieldOnce, CopyAscends, CopyLooks}
+use Rattle.demands.proofs.DemandBlanks.{blank-at}
 use Rattle.demands.proofs.DemandTables.{front-old, front-line, probed-due, look-count-le}
 use Rattle.demands.proofs.Demands.{demand-2-looks}
 use Rattle.demands.proofs.CopyTables.{sequence-count, sequence-length}
@@ -105,6 +106,12 @@ copy-field-there r old new w L i k e c o = (to, from)
         let (p, l, q) = due-place i (r .order) (k .order) (L .sequence) (kept-sequence L i k) m D in
         let F : At L i k (fieldsBefore (L .sequence) e + p) e p = record { inside = m; within = l; place = refl } in
         (fieldsBefore (L .sequence) e + p, omega (arith, field-count L i k, field-before F), field-bytes L i k F ∙ rw (q, h))
+
+pub copy-blank : CopyBlank
+copy-blank r old new w L i k e c = (
+  λ f. let (l, D, o) = copy-field-there r old new w L i k e c 2 .0 f in (l, D, blank-at i e c .0 (sym o)),
+  λ (l, D, h). copy-field-there r old new w L i k e c 2 .1 (l, D, sym (blank-at i e c .1 h)),
+)
 
 pub copy-field-once : CopyFieldOnce
 copy-field-once r old new w L i k = (some, alone)

@@ -22,9 +22,8 @@ use Rattle.query.proofs.ValidLaws.{valid-passes, passes-valid}
 use Rattle.query.proofs.EncodedBytes.{query-bytes}
 use Rattle.query.proofs.Exactly as question
 use Rattle.query.proofs.Refusals.{query-refusal}
-use Rattle.predicate.specs.declared.outcome.Outcome.{Outcome}
-use Rattle.predicate.specs.declared.outcome.Outcome.the-variants.{No, Yes}
-use Rattle.predicate.specs.Meaning.{Predicate, outcome}
+use Rattle.predicate.specs.Meaning.{Predicate, outcomeOf, outcome}
+use Rattle.predicate.specs.Outcome.{isBlank}
 use Rattle.predicate.specs.Payload.{tagsOf, validPayload, predicateOf}
 use Rattle.bools.specs.Bools.{not-true, and-parts, ltb-yes, ltb-lt}
 use Rattle.strategy.specs.Assignment.{Assignment, Among}
@@ -44,12 +43,14 @@ use Rattle.input.specs.Input.{Input}
 use Rattle.answers.specs.declared.word.Answer.the-variants.{Refused, Accepted}
 use Rattle.answers.specs.Refusals.{noSuchRowOrPredicate}
 use Rattle.answers.specs.Answers.{outcomeNumber}
+use Rattle.answers.proofs.Outcomes.{outcome-small}
 use Rattle.demands.specs.Run.{rowCount, predicateCount, taskOf, selection, probeBitmaps, foundCount, lookCount}
 use Rattle.demands.specs.Demands.{after, Reads, RunningOrder, lineBytes, Kept, FirstBroken, pattern, treeValue, listedLine, looksLine}
 use Rattle.demands.specs.Demands.{Demand1CatalogueForm, Demand1QuestionForm, Demand1Payload, Demand1FormsWritten, Demand1WrittenOnce, Demand1Number, Demand1Refused, Demand1Accepted, Demand1Limits, Demand1Catalogue, Demand1Question, Demand1Outcome}
-use Rattle.demands.specs.Demands.{Demand2Tree, Demand2Listed, Demand2Looks, Demand2Further, Demand2Counts, Demand2Tally, Demand3, Demand3Ours, Demand3Count, Demand3Run}
+use Rattle.demands.specs.Demands.{Gives, outcomeWord, Reads, conditionOf, Demand2Blank, Demand2AsNo, Demand2Opposite, Demand2Tree, Demand2Listed, Demand2Looks, Demand2Further, Demand2Counts, Demand2Tally, Demand3, Demand3Ours, Demand3Count, Demand3Run}
 use Rattle.demands.proofs.DemandLaws.{is-catalogue, is-question, reads-input, broken-input, broken-range, unpacked}
 use Rattle.demands.proofs.DemandTables.{sum-le, line-of, line-count, front-old, order-plain, held, traced-due, probed-due, found-count, look-count, look-count-le, look-count-rows, selection-length, listed-line, probeBitmaps-length, looks-line}
+use Rattle.demands.proofs.DemandBlanks.{yes-number, blank-answer, blank-at, opposite-of, blank-false, other-opposite}
 use Rattle.demands.proofs.DemandRuns.{Cases, kept-run, broken-run, broken-number, run-cases, broken-gives, kept-gives}
 
 -- DEMAND 1: WHAT IS ACCEPTED
@@ -126,7 +127,7 @@ demand-1-outcome b q entry c = (
       rw (broken-input b q e x) (unpacked (Refused e) (omega arith)),
   λ i r n. rw (reads-input b q i r, not-true (ltb entry (rowCount i) && ltb c (predicateCount i)) (λ h. n (inside i h)))
       (unpacked (Refused noSuchRowOrPredicate) (omega arith)),
-  λ i r x y. let z = small (outcome (i .catalogue) (predicateAt (i .query) c) entry) in
+  λ i r x y. let z = outcome-small (outcome (i .catalogue) (predicateAt (i .query) c) entry) in
       rw (reads-input b q i r, ltb-yes entry (rowCount i) x, ltb-yes c (predicateCount i) y)
       (unpacked (Accepted (outcomeNumber (outcome (i .catalogue) (predicateAt (i .query) c) entry)) 0 0) (omega arith)),
 )
@@ -136,10 +137,6 @@ demand-1-outcome b q entry c = (
         let p = and-parts (ltb entry (rowCount i)) (ltb c (predicateCount i)) h in
         (ltb-lt entry (rowCount i) (p .0), ltb-lt c (predicateCount i) (p .1))
 
-    small : (a : Outcome) → outcomeNumber a ≤ 1
-    small No = omega arith
-    small Yes = omega arith
-
 pub demand-1-limits : Demand1Limits
 demand-1-limits = (
   catalogue-refusal,
@@ -148,6 +145,32 @@ demand-1-limits = (
 )
 
 -- DEMAND 2
+
+-- what working out a condition gives
+told-outcome : (b q : List ℕ) (i : Input) → Reads b q i → (entry c : ℕ) → entry < rowCount i → c < predicateCount i
+    → Gives (outcomeWord b q entry c) 0 (outcomeNumber (outcome (i .catalogue) (conditionOf i c) entry)) 0 0
+told-outcome b q i r entry c x y = demand-1-outcome b q entry c .2 i r x y
+
+pub demand-2-blank : Demand2Blank
+demand-2-blank b q i r entry c x y =
+    let told = told-outcome b q i r entry c x y in (
+      λ g. blank-at i entry c .0 (sym (told .2) ∙ g .2),
+      λ h. rw (blank-at i entry c .1 h) at told,
+    )
+
+pub demand-2-as-no : Demand2AsNo
+demand-2-as-no b q i r entry c x y =
+    let o = outcome (i .catalogue) (conditionOf i c) entry in
+    let told = told-outcome b q i r entry c x y in (
+      λ h. rw (yes-number o .0 h) at told,
+      λ g. yes-number o .1 (sym (told .2) ∙ g .2),
+    )
+
+pub demand-2-opposite : Demand2Opposite
+demand-2-opposite column kind o e l = rw (opposite-of column kind o e l) (
+  λ h. blank-false (outcomeOf column kind o e) (blank-answer column kind o e .1 h),
+  λ n. other-opposite (outcomeOf column kind o e) (not-true (isBlank (outcomeOf column kind o e)) (λ h. n (blank-answer column kind o e .0 h))),
+)
 
 pub demand-2-tree : Demand2Tree
 unfolding eval

@@ -1,6 +1,7 @@
 pub mod CaseInputs
 pub mod Cases
 pub mod DemandLaws
+pub mod DemandBlanks
 pub mod DemandTables
 pub mod DemandRuns
 pub mod Demands

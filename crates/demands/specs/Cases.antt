@@ -9,7 +9,7 @@ use Rattle.fields.specs.Numbers.{Bytes}
 use Rattle.catalogue.specs.Catalogue.{numbers}
 use Rattle.catalogue.specs.Decode.{decodeCatalogue}
 use Rattle.predicate.specs.declared.outcome.Outcome.{Outcome}
-use Rattle.predicate.specs.declared.outcome.Outcome.the-variants.{No, Yes}
+use Rattle.predicate.specs.declared.outcome.Outcome.the-variants.{No, Yes, Blank}
 use Rattle.predicate.specs.Meaning.{fold, contains, outcomeOf}
 use Rattle.strategy.specs.Order.{isOrder}
 use Rattle.input.specs.Input.{Input, decodeInput}
@@ -67,7 +67,7 @@ p2 =
 abbrev pub p3 : List Case
 p3 = folds 65 97 ∷ folds 215 215 ∷ folds 222 254 ∷ folds 255 255 ∷ []
 
--- "kind 0, 1700 to 1799: 1699 no, 1700 yes, 1799 yes, 1800 no, blank no; kind 128 at blank yes"
+-- "kind 0, 1700 to 1799: 1699 no, 1700 yes, 1799 yes, 1800 no"; order 2: "Case P4 now has blank for kind 0 and for kind 128 at a blank"
 abbrev pub century : List ℕ
 century = 0x00 ∷ 0x00 ∷ 0x06 ∷ 0xA4 ∷ 0x00 ∷ 0x00 ∷ 0x07 ∷ 0x07 ∷ []
 
@@ -77,8 +77,8 @@ p4 =
     ∷ numberOutcome 0 century 1700 Yes
     ∷ numberOutcome 0 century 1799 Yes
     ∷ numberOutcome 0 century 1800 No
-    ∷ numberOutcome 0 century 4294967295 No
-    ∷ numberOutcome 128 century 4294967295 Yes
+    ∷ numberOutcome 0 century 4294967295 Blank
+    ∷ numberOutcome 128 century 4294967295 Blank
     ∷ []
 
 -- ""by" is in "ASHBY", not in "B""

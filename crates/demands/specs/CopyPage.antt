@@ -9,11 +9,10 @@ use lib.ListN.{length, take, drop}
 use Rattle.predicate.specs.Meaning.{outcome}
 use Rattle.strategy.specs.Order.{occurrences}
 use Rattle.bitmaps.specs.Bit.{bit}
-use Rattle.rows.specs.Task.{predicateAt}
 use Rattle.input.specs.Input.{Input}
 use Rattle.answers.specs.Answers.{outcomeNumber}
 use Rattle.demands.specs.Run.{Request, Lent, rowCount, predicateCount, taskOf, lookCount}
-use Rattle.demands.specs.Demands.{Gives, InBytes, after, Reads, FormBroken, RunningOrder, Kept, pattern, LookDue, looksLine}
+use Rattle.demands.specs.Demands.{Gives, InBytes, after, Reads, FormBroken, RunningOrder, Kept, conditionOf, BlankAt, pattern, LookDue, looksLine}
 use Rattle.demands.specs.Log.{taskFields, LogGives}
 
 -- WORDS OF THIS PAGE
@@ -98,7 +97,13 @@ abbrev pub CopyFieldThere : Type 0
 CopyFieldThere =
     (r : Request) (old new : List ℕ) (w : ℕ) → LogGives r old w new → (i : Input) → CopyKept r old i → (e c o : ℕ)
     → ((j : ℕ) × (j < looksOf i r) × (fieldBytes new j ≡ lookField e c o))
-    ↔ ((e < rowCount i) × LookDue i (r .order) (pattern i e) c × (o ≡ outcomeNumber (outcome (i .catalogue) (predicateAt (i .query) c) e)))
+    ↔ ((e < rowCount i) × LookDue i (r .order) (pattern i e) c × (o ≡ outcomeNumber (outcome (i .catalogue) (conditionOf i c) e)))
+
+-- order 2: "The steward's copy gains outcome 2 for blank."
+abbrev pub CopyBlank : Type 0
+CopyBlank =
+    (r : Request) (old new : List ℕ) (w : ℕ) → LogGives r old w new → (i : Input) → CopyKept r old i → (e c : ℕ)
+    → ((j : ℕ) × (j < looksOf i r) × (fieldBytes new j ≡ lookField e c 2)) ↔ ((e < rowCount i) × LookDue i (r .order) (pattern i e) c × BlankAt i e c)
 
 -- "each look has one field": there is nothing but fields among the bytes written, and no field twice
 abbrev pub CopyFieldOnce : Type 0

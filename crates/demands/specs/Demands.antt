@@ -5,17 +5,17 @@
 -- and crates/query/specs/WellFormed.antt, their bytes in Encode.antt beside them.
 use Prim.Native.Nat.{ℕ, _+_, _*_, _/_, _%_, _^_, _≤_, _<_}
 use mathlib.Core.Path.{_≡_}
-use mathlib.Core.Bool.{true, false, _&&_, _||_}
+use mathlib.Core.Bool.{true, false, not, _&&_, _||_}
 use mathlib.Core.Logic.{_↔_, _⊎_}
-use mathlib.Core.List.{List, _∷_, _++_}
-use lib.ListN.{length, take, drop}
+use mathlib.Core.List.{List, [], _∷_, _++_}
+use lib.ListN.{length, getD, take, drop}
 use Rattle.fields.specs.Decoded.{refused, accepted}
 use Rattle.fields.specs.Numbers.{numberAt, bytesOf, Bytes}
-use Rattle.catalogue.specs.Catalogue.{Catalogue}
+use Rattle.catalogue.specs.Catalogue.{Catalogue, Column, numbers, texts}
 use Rattle.catalogue.specs.Decode.{decodeCatalogue}
 use Rattle.catalogue.specs.Encode.{encodeCatalogue}
 use Rattle.catalogue.specs.Formed.{Formed}
-use Rattle.predicate.specs.Meaning.{Predicate, outcome}
+use Rattle.predicate.specs.Meaning.{Predicate, truth, outcomeOf, columnAsked, outcome}
 use Rattle.predicate.specs.Payload.{tagsOf, validPayload}
 use Rattle.query.specs.Query.{Query}
 use Rattle.query.specs.Depth.{depth}
@@ -109,7 +109,25 @@ pub data FirstBroken (l : Lent) (e : ℕ) : Type 0 where
   badTally : (i : Input) → Reads (l .request .catalogue) (l .request .question) i → RunningOrder i (l .request .order) → TablesFit i (l .listed) (l .looks)
       → (TallyFits i (l .request .order) (l .tally) → ⊥) → e ≡ 17 → FirstBroken l e
 
--- "On an entry of a run the pattern is that entry's true outcomes": each condition's by document 01's rules
+-- a condition of the question
+abbrev pub conditionOf : Input → (c : ℕ) → Predicate
+conditionOf i c = predicateAt (i .query) c
+
+-- "4,294,967,295 means blank", "length 0 means blank"
+abbrev pub BlankField : Column → (entry : ℕ) → Type 0
+BlankField (numbers ns) e = getD ns e 0 ≡ 4294967295
+BlankField (texts ts) e = length (getD ts e []) ≡ 0
+
+-- order 2's "for kinds 0 and 2 to 4 and for 128 and 130 to 132". "Kinds 1, 5, 129 and 133 never answer blank."
+abbrev pub MayAnswerBlank : (kind : ℕ) → Type 0
+MayAnswerBlank kind = (kind ≡ 0) ⊎ ((2 ≤ kind) × (kind ≤ 4)) ⊎ (kind ≡ 128) ⊎ ((130 ≤ kind) × (kind ≤ 132))
+
+-- the condition answers blank at the entry: its field there is blank, and its kind is one of these
+abbrev pub BlankAt : Input → (entry c : ℕ) → Type 0
+BlankAt i e c = BlankField (columnAsked (i .catalogue) (conditionOf i c)) e × MayAnswerBlank (conditionOf i c .kind)
+
+-- "On an entry of a run the pattern is that entry's true outcomes": each condition's by document 01's rules and order 2's, "A run takes blank as no",
+-- "lists and looks are judged by these outcomes from here on"
 abbrev pub pattern : Input → (entry : ℕ) → Assignment
 pattern i e = assignmentAt (i .catalogue) (i .query) e
 
@@ -202,14 +220,14 @@ Demand1Question =
     → ((e : ℕ) → FormBroken b q e → Gives (questionWord b q) e 0 0 0)
     × ((i : Input) → Reads b q i → Gives (questionWord b q) 0 (predicateCount i) 0 0)
 
--- "one condition 1 (yes) or 0"; "1 to 14, then 18, no such entry or condition"
+-- "one condition 1 (yes) or 0", order 2's "2 for blank"; "1 to 14, then 18, no such entry or condition"
 abbrev pub Demand1Outcome : Type 0
 Demand1Outcome =
     (b q : List ℕ) (entry c : ℕ)
     → ((e : ℕ) → FormBroken b q e → Gives (outcomeWord b q entry c) e 0 0 0)
     × ((i : Input) → Reads b q i → ((entry < rowCount i) × (c < predicateCount i) → ⊥) → Gives (outcomeWord b q entry c) 18 0 0 0)
     × ((i : Input) → Reads b q i → entry < rowCount i → c < predicateCount i
-    → Gives (outcomeWord b q entry c) 0 (outcomeNumber (outcome (i .catalogue) (predicateAt (i .query) c) entry)) 0 0)
+    → Gives (outcomeWord b q entry c) 0 (outcomeNumber (outcome (i .catalogue) (conditionOf i c) entry)) 0 0)
 
 -- the numbers of the forms are 1 to 6 and 7 to 14, never 0, and what is accepted keeps the limits: entries, columns, conditions, depth
 abbrev pub Demand1Limits : Type 0
@@ -221,6 +239,25 @@ Demand1Limits =
     × (1 ≤ predicateCount i) × (predicateCount i ≤ 64) × (depth (i .query .tree) ≤ 8))
 
 -- DEMAND 2
+
+-- order 2: "Working out a condition therefore answers yes, no or 2 for blank."
+abbrev pub Demand2Blank : Type 0
+Demand2Blank =
+    (b q : List ℕ) (i : Input) → Reads b q i → (entry c : ℕ) → entry < rowCount i → c < predicateCount i
+    → Gives (outcomeWord b q entry c) 0 2 0 0 ↔ BlankAt i entry c
+
+-- order 2: "A run takes blank as no": the pattern has a yes exactly where working out the condition answers 1
+abbrev pub Demand2AsNo : Type 0
+Demand2AsNo =
+    (b q : List ℕ) (i : Input) → Reads b q i → (entry c : ℕ) → entry < rowCount i → c < predicateCount i
+    → (pattern i entry c ≡ true) ↔ Gives (outcomeWord b q entry c) 0 1 0 0
+
+-- order 2: "a blank field meets neither a condition nor its opposite"; elsewhere "the opposite outcome of 0 to 5" is still the opposite
+abbrev pub Demand2Opposite : Type 0
+Demand2Opposite =
+    (column : Column) (kind : ℕ) (o : List ℕ) (e : ℕ) → kind < 128
+    → (BlankField column e × MayAnswerBlank kind → (truth (outcomeOf column kind o e) ≡ false) × (truth (outcomeOf column (kind + 128) o e) ≡ false))
+    × ((BlankField column e × MayAnswerBlank kind → ⊥) → truth (outcomeOf column (kind + 128) o e) ≡ not (truth (outcomeOf column kind o e)))
 
 -- "the question's tree, read as document 000 reads a boolean formula": each member of an all-of group, some member of an any-of group
 abbrev pub Demand2Tree : Type 0

@@ -20,7 +20,7 @@ use Rattle.answers.specs.Checks.{Checks, checked}
 use Rattle.answers.specs.Answers.{outcomeNumber}
 use Rattle.demands.specs.Run.{Request, predicateCount, taskOf, lookCount}
 
--- "outcome (1 yes, 0 no)": the condition's own at that entry
+-- "outcome (1 yes, 0 no)", order 2's "gains outcome 2 for blank": the condition's own at that entry
 abbrev pub outcomeNumberAt : Task → (row c : ℕ) → ℕ
 outcomeNumberAt T row c = outcomeNumber (outcome (T .catalogue) (predicateAt (T .query) c) row)
 

@@ -1,4 +1,4 @@
--- Sets of turns, one for each row of a block, from a table that has a line for each predicate.
+-- Sets of turns, one for each row of a block, as from a table that has a line for each predicate.
 use Prim.Native.Nat.{ℕ, _+_, _*_, _≤_, _<_}
 use mathlib.Core.Path.{_≡_}
 use mathlib.Core.Bool.{Bool, _&&_}
@@ -19,14 +19,18 @@ pub record HasLines (turns table : List ℕ) : Type 0 where
   pub few : length turns ≤ turnLimit
   pub inside : (i : ℕ) → i < length turns → getD turns i 0 * lineSize + lineSize ≤ length table
 
--- a set of turns for each row of a block: of the first `count` turns those whose predicates are marked there
-pub record TurnsBelow (count : ℕ) (turns table : List ℕ) (base : ℕ) (rows : List ℕ) : Type 0 where
-  pub size : length rows ≡ blockRows
-  pub sets : (d i : ℕ) → d < blockRows → has (getD rows d 0) i ≡ (ltb i count && lineBit table (getD turns i 0) (base + d))
+-- a set of turns for each row of a block: of the first `count` turns those that have the row
+pub record TurnsWhere (marked : (i d : ℕ) → Bool) (count : ℕ) (gathered : List ℕ) : Type 0 where
+  pub size : length gathered ≡ blockRows
+  pub sets : (d i : ℕ) → d < blockRows → has (getD gathered d 0) i ≡ (ltb i count && marked i d)
+
+-- whose predicates are marked in a table
+abbrev pub TurnsBelow : (count : ℕ) → (turns table : List ℕ) → (base : ℕ) → (gathered : List ℕ) → Type 0
+TurnsBelow count turns table base gathered = TurnsWhere (λ i d. lineBit table (getD turns i 0) (base + d)) count gathered
 
 -- of all turns
-abbrev pub TurnsFor : (turns table : List ℕ) → (base : ℕ) → (rows : List ℕ) → Type 0
-TurnsFor turns table base rows = TurnsBelow (length turns) turns table base rows
+abbrev pub TurnsFor : (turns table : List ℕ) → (base : ℕ) → (gathered : List ℕ) → Type 0
+TurnsFor turns table base gathered = TurnsBelow (length turns) turns table base gathered
 
 -- turn i is added to the sets of the rows that pass a test
 abbrev pub AddedTo : (test : ℕ → Bool) → (i : ℕ) → (before after : List ℕ) → Type 0

@@ -21,7 +21,7 @@ fn add_to_all(gathered: &mut [u64], i: u8)
 }
 
 // Adds turn i to the rows of a word. A full word, as at a first turn, takes the loop with no branch (docs/DECISIONS.md has what it saves).
-fn add_turn(gathered: &mut [u64], word: u64, i: u8)
+pub fn add_turn(gathered: &mut [u64], word: u64, i: u8)
     requires { ⌜ (length (now gathered) ≡ blockRows) × (i < turnLimit) ⌝ }
     ensures { λ _. ⌜ Added word i (now (gathered .entry)) (now (gathered .exit)) ⌝ }
 {

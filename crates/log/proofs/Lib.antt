@@ -1,5 +1,4 @@
 pub mod Fields
 pub mod RowLoop
 pub mod BlockLoop
-pub mod RowsLoop
 pub mod LogLaws

@@ -1,5 +1,5 @@
 -- The loop that writes a row's fields: those of the turns passed are written, the other turns of `due` are in `left`.
-use Prim.Native.Nat.{ℕ, suc, _+_, _≤_, _<_}
+use Prim.Native.Nat.{ℕ, suc, _+_, _*_, _≤_, _<_}
 use native.Mathlib.Omega.{arith}
 use mathlib.Core.Path.{_≡_, refl, sym, ap, _∙_}
 use mathlib.Core.Bool.{Bool, true, false, _&&_, cond}
@@ -18,19 +18,24 @@ use Rattle.sets.specs.KeptLaws.{first-least, rest-has}
 use Rattle.bitmaps.specs.Sums.{joined, digit}
 use Rattle.bitmaps.specs.SumLaws.{joined-below, joined-grows}
 use Rattle.log.specs.Log.{probeFieldSize, probeField}
-use Rattle.log.specs.MarkedLog.{turnField, turnFields, HasTurns}
+use Rattle.log.specs.MarkedLog.{markedNumber, turnField, turnFields, HasTurns}
 use Rattle.log.proofs.Fields.{probe-length}
 
-pub record RowLoop (turns : List ℕ) (row due met at : ℕ) (old : List ℕ) (left end : ℕ) (new : List ℕ) : Type 0 where
+-- a mark as a byte
+pub mark-small : (b : Bool) → boolByte b ≤ 1
+mark-small true = omega arith
+mark-small false = omega arith
+
+pub record RowLoop (turns : List ℕ) (row due met blank at : ℕ) (old : List ℕ) (left end : ℕ) (new : List ℕ) : Type 0 where
   pub passed : ℕ
   pub inside : passed ≤ length turns
   pub to-come : (i : ℕ) → has left i ≡ (leb passed i && has due i)
-  pub wrote : Wrote at (joined (turnField turns row due met) passed) old end new
+  pub wrote : Wrote at (joined (turnField turns row due met blank) passed) old end new
   pub size : length new ≡ length old
 
-pub row-start : (turns : List ℕ) (row due met at : ℕ) (old : List ℕ) → RowLoop turns row due met at old due at old
+pub row-start : (turns : List ℕ) (row due met blank at : ℕ) (old : List ℕ) → RowLoop turns row due met blank at old due at old
 unfolding joined
-row-start turns row due met at old = record {
+row-start turns row due met blank at old = record {
   passed = 0;
   inside = omega arith;
   to-come = λ i. sym (ap (λ (b : Bool). b && has due i) (leb·zero i));
@@ -38,14 +43,14 @@ row-start turns row due met at old = record {
   size = refl;
 }
 
-module _ {turns : List ℕ} {row due met at : ℕ} {old : List ℕ} {left end : ℕ} {new : List ℕ} (L : RowLoop turns row due met at old left end new) where
+module _ {turns : List ℕ} {row due met blank at : ℕ} {old : List ℕ} {left end : ℕ} {new : List ℕ} (L : RowLoop turns row due met blank at old left end new) where
   -- a turn that is passed over has no field
-  none : (i : ℕ) → L .passed ≤ i → has left i ≡ false → turnField turns row due met i ≡ []
+  none : (i : ℕ) → L .passed ≤ i → has left i ≡ false → turnField turns row due met blank i ≡ []
   none i l e = rw (sym (L .to-come i ∙ ap (λ (b : Bool). b && has due i) (leb-yes (L .passed) i l)) ∙ e)
 
-  pub row-end : left ≡ 0 → Wrote at (turnFields turns row due met) old end new
+  pub row-end : left ≡ 0 → Wrote at (turnFields turns row due met blank) old end new
   unfolding turnFields
-  row-end e = wrote-same (sym (joined-below (turnField turns row due met) (L .passed) (length turns) (L .inside) (λ i l k. none i l (ap (λ (x : ℕ). has x i) e ∙ has-none i)))) (L .wrote)
+  row-end e = wrote-same (sym (joined-below (turnField turns row due met blank) (L .passed) (length turns) (L .inside) (λ i l k. none i l (ap (λ (x : ℕ). has x i) e ∙ has-none i)))) (L .wrote)
 
   module _ {t : ℕ} (T : FirstIs left t) where
     next-due : (leb (L .passed) t ≡ true) × (has due t ≡ true)
@@ -54,30 +59,30 @@ module _ {turns : List ℕ} {row due met at : ℕ} {old : List ℕ} {left end : 
     passed-le : L .passed ≤ t
     passed-le = leb-le (L .passed) t (next-due .0)
 
-    text : joined (turnField turns row due met) (suc t) ≡ joined (turnField turns row due met) (L .passed) ++ probeField row (getD turns t 0) (digit (has met t))
+    text : joined (turnField turns row due met blank) (suc t) ≡ joined (turnField turns row due met blank) (L .passed) ++ probeField row (getD turns t 0) (markedNumber (has met t) (has blank t))
     unfolding joined
-    text = rw (joined-below (turnField turns row due met) (L .passed) t passed-le (λ i l k. none i l (first-least T i k)), next-due .1)
+    text = rw (joined-below (turnField turns row due met blank) (L .passed) t passed-le (λ i l k. none i l (first-least T i k)), next-due .1)
 
     module _ (few : HasTurns turns due) where
       pub next-inside : t < length turns
       next-inside = few t (next-due .1)
 
-      module _ (room : at + length (turnFields turns row due met) ≤ length old) where
+      module _ (room : at + length (turnFields turns row due met blank) ≤ length old) where
         pub next-room : end + probeFieldSize ≤ length new
         unfolding turnFields
         next-room =
-            let g = joined-grows (turnField turns row due met) (suc t) (length turns) next-inside in
-            let e = ap length text ∙ length-append (joined (turnField turns row due met) (L .passed)) (probeField row (getD turns t 0) (digit (has met t))) in
-            omega (arith, L .wrote .place, L .size, probe-length row (getD turns t 0) (digit (has met t)))
+            let g = joined-grows (turnField turns row due met blank) (suc t) (length turns) next-inside in
+            let e = ap length text ∙ length-append (joined (turnField turns row due met blank) (L .passed)) (probeField row (getD turns t 0) (markedNumber (has met t) (has blank t))) in
+            omega (arith, L .wrote .place, L .size, probe-length row (getD turns t 0) (markedNumber (has met t) (has blank t)))
 
-        -- the field is written: w is t at another width, p tells whether the turn is one of a yes
-        pub row-next : {w next r : ℕ} {newer : List ℕ} {p : Bool} → w ≡ t → p ≡ has met t → RestIs left next → length newer ≡ length new
-            → Wrote end (probeField row (getD turns w 0) (boolByte p)) new r newer → RowLoop turns row due met at old next r newer
-        row-next {w} {next} {r} {newer} {p} w-is p-is R size wrote = record {
+        -- the field is written: w is t at another width, p and q tell whether the turn is one of a yes or of a blank
+        pub row-next : {w next r : ℕ} {newer : List ℕ} {p q : Bool} → w ≡ t → p ≡ has met t → q ≡ has blank t → RestIs left next → length newer ≡ length new
+            → Wrote end (probeField row (getD turns w 0) (boolByte p + 2 * boolByte q)) new r newer → RowLoop turns row due met blank at old next r newer
+        row-next w-is p-is q-is R size wrote = record {
           passed = suc t;
           inside = next-inside;
           to-come = λ i. rest-has T R i ∙ after i (same? i t);
-          wrote = wrote-same (sym text) (wrote-then (omega (arith, next-room, L .size)) (L .wrote) (rw (w-is, p-is, digit-is (has met t)) at wrote));
+          wrote = wrote-same (sym text) (wrote-then (omega (arith, next-room, L .size)) (L .wrote) (rw (w-is, p-is, q-is, digit-is (has met t), digit-is (has blank t)) at wrote));
           size = size ∙ L .size;
         }
           where

@@ -13,7 +13,7 @@ probeTag = 76
 abbrev pub probeFieldSize : ℕ
 probeFieldSize = 7
 
--- "one field per look: tag 76, length 4, entry (two bytes), condition number, outcome (1 yes, 0 no)"
+-- "one field per look: tag 76, length 4, entry (two bytes), condition number, outcome (1 yes, 0 no)"; order 2: it "gains outcome 2 for blank"
 unfoldable pub probeField : (row c outcome : ℕ) → List ℕ
 probeField row c o = fieldOf probeTag (bytesOf 2 row ++ (c ∷ o ∷ []))
 

@@ -32,18 +32,27 @@ fn put_probe(out: &mut [u8], at: usize, row: usize, c: u8, outcome: u8) -> usize
     fields::output::put(out, at, &field)
 }
 
-// Writes the fields of a row in the turns' sequence: of the turns of `due`, each with a yes where it is in `met`.
-pub fn put_row(out: &mut [u8], at: usize, turns: &[u8], row: usize, due: u64, met: u64) -> usize
+// Writes the fields of a row in the turns' sequence: of the turns of `due`, each with a yes where it is in `met`, a blank where it is in `blank`.
+pub fn put_row(
+    out: &mut [u8],
+    at: usize,
+    turns: &[u8],
+    row: usize,
+    due: u64,
+    met: u64,
+    blank: u64,
+) -> usize
     requires { ⌜ HasTurns (now turns) due ⌝ }
-    requires { ⌜ at + length (turnFields (now turns) row due met) ≤ length (now out) ⌝ }
-    ensures { λ r. ⌜ Wrote at (turnFields (now (turns .entry)) row due met) (now (out .entry)) r (now (out .exit)) ⌝ }
+    requires { ⌜ at + length (turnFields (now turns) row due met blank) ≤ length (now out) ⌝ }
+    ensures { λ r. ⌜ Wrote at (turnFields (now (turns .entry)) row due met blank) (now (out .entry)) r (now (out .exit)) ⌝ }
 {
     let mut end = at;
     let mut left = due;
     while left != 0 {
         let i = sets::first(left);
         let c = turns[fields::number::widen(i)];
-        end = put_probe(out, end, row, c, sets::has(met, i) as u8);
+        let outcome = sets::has(met, i) as u8 + 2 * (sets::has(blank, i) as u8);
+        end = put_probe(out, end, row, c, outcome);
         left = sets::rest(left);
     }
     end

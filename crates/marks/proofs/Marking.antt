@@ -14,7 +14,7 @@ use Rattle.bitmaps.specs.Table.{lineSize, lineBits, lineBit}
 use Rattle.bitmaps.specs.TableLaws.{holds-none}
 use Rattle.bitmaps.specs.Word.{blockRows, BlockAt, WordPut}
 use Rattle.query.specs.Format.{predicateLimit}
-use Rattle.marks.specs.Marks.{metLine, MarkReady, Marked, HasBlankMarks}
+use Rattle.marks.specs.Marks.{metLine, MarkReady, Marked, HasEmptyMarks}
 
 -- the word at place `at`, that of line k in the block at `base`
 module _ (k base at : ℕ) (place : at ≡ k * lineSize + base / 8) (block : BlockAt base)
@@ -72,8 +72,8 @@ module _ {c base at due : ℕ} {P Q : List ℕ} (place : at ≡ c * lineSize + b
       met-beside = line-beside (metLine c) base met-at met-place (R .block) N
 
 -- a table of zeros, with as many lines as a table of marks may have
-pub blank-marks : (lines : ℕ) → predicateLimit ≤ lines → lines ≤ 2 * predicateLimit → HasBlankMarks (replicate (lines * lineSize) 0)
-blank-marks lines enough few = let h = holds-none lines in record {
+pub empty-marks : (lines : ℕ) → predicateLimit ≤ lines → lines ≤ 2 * predicateLimit → HasEmptyMarks (replicate (lines * lineSize) 0)
+empty-marks lines enough few = let h = holds-none lines in record {
   table-lines = record { lines = lines; size = h .size; enough = enough; few = few };
-  blank = h;
+  no-bits = h;
 }

@@ -44,6 +44,6 @@ abbrev pub HasNoBits : (lines : ℕ) → (table : List ℕ) → Type 0
 HasNoBits lines T = HoldsBits (λ c e. false) lines T
 
 -- a table of marks with no bit set
-pub record HasBlankMarks (table : List ℕ) : Type 0 where
+pub record HasEmptyMarks (table : List ℕ) : Type 0 where
   pub table-lines : HasMarkLines table
-  pub blank : HasNoBits (table-lines .lines) table
+  pub no-bits : HasNoBits (table-lines .lines) table

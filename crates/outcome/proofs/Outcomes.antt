@@ -1,5 +1,5 @@
 -- The answers of working out one condition, from what was decoded.
-use Prim.Native.Nat.{ℕ, _^_, _≤_, _<_}
+use Prim.Native.Nat.{ℕ, _≤_, _<_}
 use native.Mathlib.Omega.{arith}
 use mathlib.Core.Path.{_≡_, sym, _∙_}
 use mathlib.Core.Bool.{true}
@@ -9,7 +9,6 @@ use lib.Dec.{ltb}
 use borrow.Author.Tests.{le-ltb, lt-ltb}
 use Rattle.fields.specs.Decoded.{Decoded, refused}
 use Rattle.predicate.specs.declared.outcome.Outcome.{Outcome}
-use Rattle.predicate.specs.declared.outcome.Outcome.the-variants.{No, Yes}
 use Rattle.predicate.specs.Meaning.{outcome}
 use Rattle.reader.specs.Tables.{Tables}
 use Rattle.rows.specs.Task.{predicateAt}
@@ -19,13 +18,10 @@ use Rattle.input.specs.Beginning.{HasInput}
 use Rattle.answers.specs.declared.word.Answer.the-variants.{Refused, Accepted}
 use Rattle.answers.specs.Refusals.{noSuchRowOrPredicate}
 use Rattle.answers.specs.Answers.{outcomeNumber, outcomeAnswer, Answered}
+use Rattle.answers.proofs.Outcomes.{outcome-small}
 
 pub outcome-answer-refused : (d : Decoded Input) (row c k : ℕ) → (d ≡ refused k) × (k < 256) → Answered (outcomeAnswer d row c) (Refused k)
 outcome-answer-refused d row c k h = (rw (h .0), omega arith)
-
-number-small : (a : Outcome) → outcomeNumber a < 2 ^ 16
-number-small No = omega arith
-number-small Yes = omega arith
 
 -- the three ends of working out one condition, once the input is accepted
 module _ {b q : List ℕ} {r : Beginning} {T : Tables} (G : HasInput b q r T) (row c : ℕ) where
@@ -49,5 +45,5 @@ module _ {b q : List ℕ} {r : Beginning} {T : Tables} (G : HasInput b q r T) (r
       → x ≡ outcomeNumber a → Answered (outcomeAnswer (decodeInput b q) row c) (Accepted x 0 0)
   outcome-told g h a x e f = (
     rw (G .decoded, has-row g, lt-ltb c (length (G .input .query .predicates)) (omega (arith, G .tabled .count)), f, e),
-    omega (arith, number-small a),
+    omega (arith, outcome-small a),
   )

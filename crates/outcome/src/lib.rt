@@ -16,6 +16,7 @@ fn number_of(outcome: predicate::outcome::Outcome) -> u64
     match outcome {
         predicate::outcome::Outcome::No => 0,
         predicate::outcome::Outcome::Yes => 1,
+        predicate::outcome::Outcome::Blank => 2,
     }
 }
 

@@ -2,4 +2,4 @@ pub mod Table
 pub mod TextLaws
 pub mod PayloadLaws
 pub mod OutcomeLaws
-pub mod KindLaws
+pub mod BlankLaws

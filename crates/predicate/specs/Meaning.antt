@@ -8,9 +8,9 @@ use lib.Dec.{ltb, leb, eqb}
 use Rattle.fields.specs.Numbers.{numberAt}
 use Rattle.catalogue.specs.Format.{numberSize, blankNumber}
 use Rattle.catalogue.specs.Catalogue.{Catalogue, Column, numbers, texts}
-use Rattle.predicate.specs.Kinds.{rangeKind, numberBlankKind, equalsKind, beginsKind, containsKind, textBlankKind, oppositeFrom, plainKind}
+use Rattle.predicate.specs.Kinds.{rangeKind, numberBlankKind, equalsKind, beginsKind, containsKind, textBlankKind, oppositeFrom, plainKind, asksContent}
 use Rattle.predicate.specs.declared.outcome.Outcome.{Outcome}
-use Rattle.predicate.specs.declared.outcome.Outcome.the-variants.{No, Yes}
+use Rattle.predicate.specs.declared.outcome.Outcome.the-variants.{No, Yes, Blank}
 
 abbrev pub between : (low high n : ℕ) → Bool
 between low high n = leb low n && leb n high
@@ -60,10 +60,6 @@ textBlank t = eqb (length t) 0
 abbrev pub numberBlank : ℕ → Bool
 numberBlank n = eqb n blankNumber
 
--- "from low to high", both among them; "A blank gives no"
-abbrev pub inRange : (low high n : ℕ) → Bool
-inRange low high n = not (numberBlank n) && between low high n
-
 -- The operand of a range: "two four-byte numbers"
 abbrev pub rangeSize : ℕ
 rangeSize = numberSize + numberSize
@@ -74,10 +70,10 @@ lowOf o = numberAt o 0 numberSize
 abbrev pub highOf : (operand : List ℕ) → ℕ
 highOf o = numberAt o numberSize numberSize
 
--- "Kind 0, number from low to high", "Kind 1, number blank"
+-- "Kind 0, number from low to high", both among them; "Kind 1, number blank"
 unfoldable pub numberTest : (kind : ℕ) (operand : List ℕ) (n : ℕ) → Bool
 numberTest kind o n =
-    cond (eqb kind rangeKind) (inRange (lowOf o) (highOf o) n)
+    cond (eqb kind rangeKind) (between (lowOf o) (highOf o) n)
     (cond (eqb kind numberBlankKind) (numberBlank n) false)
 
 -- "Kind 2 equals, 3 begins with, 4 contains", "Kind 5, text blank"
@@ -95,18 +91,36 @@ yesIf false = No
 abbrev pub opposite : Outcome → Outcome
 opposite No = Yes
 opposite Yes = No
+opposite Blank = Blank
 
--- what a run takes an outcome for
+-- what a run takes an outcome for: order 2's "A run takes blank as no"
 abbrev pub truth : Outcome → Bool
 truth No = false
 truth Yes = true
+truth Blank = false
 
--- the outcome of a kind from 0 to 5 at a row, document 01's entry
+-- order 2's "a blank field meets neither a condition nor its opposite": where it is asked what it holds, it answers blank
+abbrev pub answersBlank : (kind : ℕ) (blank : Bool) → Bool
+answersBlank kind blank = blank && asksContent kind
+
+-- the outcome of a kind from 0 to 5, from whether the field is blank and whether it passes the kind's test
+abbrev pub plainOutcome : (kind : ℕ) (blank test : Bool) → Outcome
+plainOutcome kind blank test = cond (answersBlank kind blank) Blank (yesIf test)
+
+-- of the value at a row, document 01's entry: whether it is blank, and whether it passes the kind's test
+abbrev pub valueBlank : Column → (row : ℕ) → Bool
+valueBlank (numbers ns) row = numberBlank (getD ns row 0)
+valueBlank (texts ts) row = textBlank (getD ts row [])
+
+abbrev pub valueTest : Column → (kind : ℕ) (operand : List ℕ) (row : ℕ) → Bool
+valueTest (numbers ns) kind o row = numberTest kind o (getD ns row 0)
+valueTest (texts ts) kind o row = textTest kind o (getD ts row [])
+
+-- the outcome of a kind from 0 to 5 at a row
 abbrev pub plainOf : Column → (kind : ℕ) (operand : List ℕ) (row : ℕ) → Outcome
-plainOf (numbers ns) kind o row = yesIf (numberTest kind o (getD ns row 0))
-plainOf (texts ts) kind o row = yesIf (textTest kind o (getD ts row []))
+plainOf c kind o row = plainOutcome kind (valueBlank c row) (valueTest c kind o row)
 
--- "Kinds 128 to 133: the opposite outcome of 0 to 5, at every entry"
+-- "Kinds 128 to 133: the opposite outcome of 0 to 5", and a blank is its own opposite
 abbrev pub turned : (kind : ℕ) → Outcome → Outcome
 turned kind a = cond (ltb kind oppositeFrom) a (opposite a)
 
@@ -121,5 +135,9 @@ pub record Predicate : Type 0 where
   pub operand : List ℕ
   pub place : ℕ
 
+-- the column that it asks; there is none past the last
+abbrev pub columnAsked : Catalogue → Predicate → Column
+columnAsked c p = getD (c .columns) (p .column) (numbers [])
+
 abbrev pub outcome : Catalogue → Predicate → (row : ℕ) → Outcome
-outcome c p row = outcomeOf (getD (c .columns) (p .column) (numbers [])) (p .kind) (p .operand) row
+outcome c p row = outcomeOf (columnAsked c p) (p .kind) (p .operand) row

@@ -1,11 +1,13 @@
--- The terms of this crate's contracts.
+-- The terms of the contracts of this crate and of those above it.
 use Prim.Native.Nat.{ℕ, _<_, _≤_}
 use mathlib.Core.Path.{_≡_}
+use mathlib.Core.Bool.{Bool, true, false}
 use mathlib.Core.List.{List}
 use lib.ListN.{length, getD}
 use Rattle.catalogue.specs.Catalogue.{Column}
 use Rattle.catalogue.specs.InPlace.{Shows}
 use Rattle.predicate.specs.declared.outcome.Outcome.{Outcome}
+use Rattle.predicate.specs.declared.outcome.Outcome.the-variants.{No, Yes, Blank}
 use Rattle.predicate.specs.Kinds.{rangeKind}
 use Rattle.predicate.specs.Meaning.{fold, rangeSize, plainOf, outcomeOf}
 
@@ -26,3 +28,9 @@ PlainIs b tag start kind o row r =
 abbrev pub OutcomeIs : List ℕ → (tag start kind : ℕ) (operand : List ℕ) (row : ℕ) → Outcome → Type 0
 OutcomeIs b tag start kind o row r =
     (rows : ℕ) (c : Column) → Shows b rows tag start c → row < rows → r ≡ outcomeOf c kind o row
+
+-- whether an outcome is blank
+abbrev pub isBlank : Outcome → Bool
+isBlank No = false
+isBlank Yes = false
+isBlank Blank = true

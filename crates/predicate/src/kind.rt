@@ -1,6 +1,6 @@
 // The kinds of a predicate.
 ghost use mathlib.Core.Path.{_≡_};
-ghost use Rattle.predicate.specs.Kinds.{plainKind};
+ghost use Rattle.predicate.specs.Kinds.{plainKind, asksContent};
 
 pub struct Kind;
 
@@ -28,4 +28,11 @@ pub fn plain_kind(kind: u8) -> u8
         return kind;
     }
     kind - Kind::OPPOSITE_FROM
+}
+
+// Whether a kind below the opposites asks what a field holds, and not whether it is blank.
+pub fn asks_content(kind: u8) -> bool
+    ensures { λ r. ⌜ r ≡ asksContent kind ⌝ }
+{
+    kind == Kind::RANGE || Kind::EQUALS <= kind && kind <= Kind::CONTAINS
 }

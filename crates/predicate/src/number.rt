@@ -2,15 +2,12 @@
 use crate::kind::Kind;
 use catalogue::format::Number;
 ghost use mathlib.Core.Path.{_≡_};
-ghost use Rattle.predicate.specs.Meaning.{inRange, numberTest};
+ghost use Rattle.predicate.specs.Meaning.{between, numberTest};
 ghost use Rattle.predicate.specs.Outcome.{HasRange};
 
-pub fn in_range(low: u32, high: u32, n: u32) -> bool
-    ensures { λ r. ⌜ r ≡ inRange low high n ⌝ }
+pub fn is_between(low: u32, high: u32, n: u32) -> bool
+    ensures { λ r. ⌜ r ≡ between low high n ⌝ }
 {
-    if n == Number::BLANK {
-        return false;
-    }
     low <= n && n <= high
 }
 
@@ -22,7 +19,7 @@ pub fn number_test(kind: u8, operand: &[u8], n: u32) -> bool
     if kind == Kind::RANGE {
         let low = fields::number::four_bytes(operand, 0);
         let high = fields::number::four_bytes(operand, Number::SIZE);
-        return in_range(low, high, n);
+        return is_between(low, high, n);
     }
     if kind == Kind::NUMBER_BLANK {
         return n == Number::BLANK;

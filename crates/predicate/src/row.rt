@@ -2,6 +2,7 @@
 use crate::kind::Kind;
 use crate::outcome::Outcome;
 use catalogue::format::Column;
+use catalogue::format::Number;
 ghost use Rattle.catalogue.specs.InPlace.{HasRow};
 ghost use Rattle.predicate.specs.Kinds.{plainKind};
 ghost use Rattle.predicate.specs.Outcome.{Folds, HasRange, PlainIs, OutcomeIs};
@@ -21,9 +22,15 @@ fn plain_at(
 {
     if tag == Column::NUMBER_TAG {
         let n = catalogue::column::number_at(b, start, row);
+        if crate::outcome::answers_blank(kind, n == Number::BLANK) {
+            return Outcome::Blank;
+        }
         return crate::outcome::yes_if(crate::number::number_test(kind, operand, n));
     }
     let text = catalogue::column::text_at(b, start, row);
+    if crate::outcome::answers_blank(kind, text.len() == 0) {
+        return Outcome::Blank;
+    }
     crate::outcome::yes_if(crate::text::text_test(table, kind, operand, text))
 }
 

@@ -1,4 +1,2 @@
 pub mod InTurn
-pub mod Halves
-pub mod Finishing
-pub mod Logging
+mod Logging

@@ -1,40 +1,15 @@
-// The copy of the register: the input of a request read, its rows worked, and the field of each probe written.
+// The copy of the register: the input of a request read, its rows worked, and the end of the copy.
 use ancestors::Ancestors;
 use answers::refusal::Refusal;
 use answers::word::Answer;
 use bitmaps::copy::Line;
-use log::field::ProbeField;
 use marks::MarkTable;
+use plan::table::Plan;
 use query::format::Predicate;
 ghost use mathlib.Core.Path.{_≡_};
 ghost use Rattle.answers.specs.Word.{packed, FitsWord};
 ghost use Rattle.demands.specs.Log.{logged};
 ghost use Rattle.probe_log.specs.Sequence.{logInTurn};
-ghost use Rattle.probe_log.specs.Finish.{HasMarks, LogFinished};
-
-// Ends a copy whose own table is this: the looks are counted, the output's length tested, and only then the fields written.
-fn finish_log(order: &[u8], marks: &[u8], n: usize, rows: usize, output: &mut [u8]) -> Answer
-    requires { ⌜ HasMarks (now order) (now marks) n rows ⌝ }
-    ensures { λ r. ⌜ LogFinished (now (order .entry)) (now (marks .entry)) n rows (now (output .entry)) r (now (output .exit)) ⌝ }
-{
-    let looked = bitmaps::ones::count_lines(marks, n, bitmaps::size::bytes_for(rows));
-    let size = ProbeField::SIZE as u64 * looked;
-    if (output.len() as u64) < size {
-        return Answer::Refused(Refusal::OUTPUT_TOO_SHORT);
-    }
-    log::all::put_rows(
-        order,
-        &marks[..MarkTable::PROBES],
-        &marks[MarkTable::PROBES..],
-        rows,
-        output,
-    );
-    Answer::Accepted {
-        first: 0,
-        second: 0,
-        third: size,
-    }
-}
 
 // The checks, the work, the end.
 pub fn log_question(catalogue: &[u8], question: &[u8], order: &[u8], output: &mut [u8]) -> Answer
@@ -52,6 +27,8 @@ pub fn log_question(catalogue: &[u8], question: &[u8], order: &[u8], output: &mu
     if !orders::is_order(order, fields::number::narrow(n)) {
         return Answer::Refused(Refusal::NOT_ORDER);
     }
+    let mut plan = [0usize; Plan::TABLE_SIZE];
+    work::make_plan(question, begun, &offsets, &mut plan);
     let mut selected = [0u8; Line::SIZE];
     let mut marks = [0u8; 2 * MarkTable::PROBES];
     work::work(
@@ -59,10 +36,10 @@ pub fn log_question(catalogue: &[u8], question: &[u8], order: &[u8], output: &mu
         question,
         order,
         begun,
-        &offsets,
+        &plan,
         &ancestors,
         &mut selected,
         &mut marks,
     );
-    finish_log(order, &marks, n, rows, output)
+    finish_log::finish_log(catalogue, &plan, order, &marks, n, rows, output)
 }

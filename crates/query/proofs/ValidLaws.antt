@@ -14,7 +14,7 @@ use Rattle.catalogue.specs.Format.{numberTag, textTag, blankNumber}
 use Rattle.slots.specs.Slots.{textLimit}
 use Rattle.catalogue.specs.Catalogue.{Catalogue, Column, numbers, texts}
 use Rattle.predicate.specs.Kinds.{plainKind}
-use Rattle.predicate.specs.Meaning.{Predicate, rangeSize, lowOf, highOf}
+use Rattle.predicate.specs.Meaning.{Predicate, rangeSize, lowOf, highOf, columnAsked}
 use Rattle.predicate.specs.Payload.{payloadHead, tagOf, tagsOf, kindFits, rangeFits, operandFits, validPayload}
 use Rattle.predicate.proofs.PayloadLaws.{tags-length, tags-at}
 use Rattle.query.specs.Decode.{payloadOf}
@@ -91,13 +91,10 @@ module _ (kind : ℕ) (o : List ℕ) where
         go (inr n) = let l = text-kind h in inl (omega arith, omega arith, text-operand (omega arith) (omega arith))
 
 module _ (c : Catalogue) (p : Predicate) where
-  abbrev columnOf : Column
-  columnOf = getD (c .columns) (p .column) (numbers [])
-
   pub valid-passes : ValidPredicate c p → validPayload (tagsOf c) (payloadOf p) ≡ true
   unfolding validPayload
   valid-passes (inside, suits) =
-      let s = suits-passes (plainKind (p .kind)) (p .operand) columnOf suits in
+      let s = suits-passes (plainKind (p .kind)) (p .operand) (columnAsked c p) suits in
       rw (le-leb payloadHead (length (payloadOf p)) (omega arith), tags-length (c .columns), lt-ltb _ _ inside, tags-at (c .columns) (p .column) (numbers []) inside, s .0, s .1)
 
   pub passes-valid : validPayload (tagsOf c) (payloadOf p) ≡ true → ValidPredicate c p
@@ -108,5 +105,5 @@ module _ (c : Catalogue) (p : Predicate) where
       let i : p .column < length (c .columns) = rw (tags-length (c .columns)) at j in
       let r = and-right (ltb (p .column) (length (tagsOf c))) _ a in
       let f : kindFits (getD (tagsOf c) (p .column) 0) (plainKind (p .kind)) ≡ true = and-left _ _ r in
-      let k : kindFits (tagOf columnOf) (plainKind (p .kind)) ≡ true = rw (tags-at (c .columns) (p .column) (numbers []) i) at f in
-      (i, passes-suits (plainKind (p .kind)) (p .operand) (and-right (kindFits (getD (tagsOf c) (p .column) 0) (plainKind (p .kind))) _ r) columnOf k)
+      let k : kindFits (tagOf (columnAsked c p)) (plainKind (p .kind)) ≡ true = rw (tags-at (c .columns) (p .column) (numbers []) i) at f in
+      (i, passes-suits (plainKind (p .kind)) (p .operand) (and-right (kindFits (getD (tagsOf c) (p .column) 0) (plainKind (p .kind))) _ r) (columnAsked c p) k)

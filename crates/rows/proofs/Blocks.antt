@@ -42,7 +42,7 @@ LiveWithin B L = (c d : ℕ) → rowLive L d c ≡ true → has (B .rows) d ≡ 
 pub record Working (T : Task) (B : Block) (i : ℕ) (L : List ℕ) (sel : ℕ) (P₀ P : List ℕ) : Type 0 where
   pub rows : (d : ℕ) → d < blockRows → work (T .query .tree) (told T (B .base + d)) (drop i (turnsOf T)) (rowNow B L sel P d) ≡ rowOf T B d
   pub once : Once (drop i (turnsOf T))
-  pub blank : (c : ℕ) → c < predicateLimit → Among c (drop i (turnsOf T)) → (d : ℕ) → d < blockRows → lineBit P c (B .base + d) ≡ false
+  pub unmarked : (c : ℕ) → c < predicateLimit → Among c (drop i (turnsOf T)) → (d : ℕ) → d < blockRows → lineBit P c (B .base + d) ≡ false
   pub meets : (c d : ℕ) → c < predicateLimit → HasMetLine P c → d < blockRows → lineBit P (metLine c) (B .base + d) ≡ (lineBit P c (B .base + d) && told T (B .base + d) c)
   pub same : SameBeside B P₀ P
 
@@ -59,10 +59,10 @@ module _ (T : Task) (B : Block) where
   pub block-start : (Z L P : List ℕ) → ((c : ℕ) → getD Z c 0 ≡ 0) → Filled (B .start) (B .rows) Z L → Once (turnsOf T) → HasNoMarks B P → Working T B 0 L 0 P P
   block-start Z L P z F o U = record {
     rows = λ d l. ap (work (T .query .tree) (told T (B .base + d)) (turnsOf T))
-        (row-same (fun-ext (λ c. live c d)) (fun-ext (λ c. ap (λ (b : Bool). ltb c predicateLimit && b) (U .blank c d l) ∙ and-false (ltb c predicateLimit))) (has-none d));
+        (row-same (fun-ext (λ c. live c d)) (fun-ext (λ c. ap (λ (b : Bool). ltb c predicateLimit && b) (U .no-bits c d l) ∙ and-false (ltb c predicateLimit))) (has-none d));
     once = o;
-    blank = λ c k m d l. U .blank c d l;
-    meets = λ c d k h l. U .blank (metLine c) d l ∙ sym (ap (λ (b : Bool). b && told T (B .base + d) c) (U .blank c d l));
+    unmarked = λ c k m d l. U .no-bits c d l;
+    meets = λ c d k h l. U .no-bits (metLine c) d l ∙ sym (ap (λ (b : Bool). b && told T (B .base + d) c) (U .no-bits c d l));
     same = same-self B P;
   }
     where
@@ -117,7 +117,7 @@ module _ (T : Task) (B : Block) where
     block-idle e = record {
       rows = taken sel L P (λ d l. turn-idle (T .query .tree) (told T (B .base + d)) (getD (turnsOf T) i 0) (rowNow B L sel P d) (ap (λ (x : ℕ). has x d) e ∙ has-none d));
       once = once-at .1;
-      blank = λ k x m. W .blank k x (among-later k m);
+      unmarked = λ k x m. W .unmarked k x (among-later k m);
       meets = W .meets;
       same = W .same;
     }
@@ -136,8 +136,8 @@ module _ (T : Task) (B : Block) where
               ∙ sym (without-in c 1 k (rowLive L d) (omega arith))
           go k (inr e) = ap (λ (x : ℕ). has x d) (getD-set-other L c k 0 0 e) ∙ sym (without-off c 1 k (rowLive L d) (λ r. e (omega arith)))
 
-      blank-here : (d : ℕ) → d < blockRows → lineBit P c (B .base + d) ≡ false
-      blank-here = W .blank c below (subst (Among c) (sym at) (inl refl))
+      unmarked-here : (d : ℕ) → d < blockRows → lineBit P c (B .base + d) ≡ false
+      unmarked-here = W .unmarked c below (subst (Among c) (sym at) (inl refl))
 
       in-line : (d : ℕ) → d < blockRows → B .base + d < lineBits
       in-line d l = let m = I .block .whole in let n = I .block .inside in omega arith
@@ -159,7 +159,7 @@ module _ (T : Task) (B : Block) where
 
       marked : (k d : ℕ) → d < blockRows → (ltb k predicateLimit ≡ true) ⊎ (ltb k predicateLimit ≡ false) → (k ≡ c) ⊎ (k ≡ c → ⊥)
           → ((ltb k predicateLimit && lineBit P k (B .base + d)) || (eqb k c && rowLive L d c)) ≡ (ltb k predicateLimit && lineBit P′ k (B .base + d))
-      marked k d l b (inl e) = rw (e, eqb-self c, blank-here d l, ltb-yes c predicateLimit below) (sym (M .probes d l))
+      marked k d l b (inl e) = rw (e, eqb-self c, unmarked-here d l, ltb-yes c predicateLimit below) (sym (M .probes d l))
       marked k d l (inl y) (inr ne) = rw (y, eqb-ne k c ne, or-false (lineBit P k (B .base + d))) (sym (other k d l (ltb-lt k predicateLimit y) ne))
       marked k d l (inr y) (inr ne) = rw (y, eqb-ne k c ne)
 
@@ -186,8 +186,8 @@ module _ (T : Task) (B : Block) where
       block-turn = record {
         rows = taken (bitOr sel (bitAnd passed met)) N P′ turned;
         once = once-at .1;
-        blank = λ k x m d l.
-            other k d l x (λ q. once-at .0 (subst (λ (y : ℕ). Among y (drop (i + 1) (turnsOf T))) q m)) ∙ W .blank k x (among-later k m) d l;
+        unmarked = λ k x m d l.
+            other k d l x (λ q. once-at .0 (subst (λ (y : ℕ). Among y (drop (i + 1) (turnsOf T))) q m)) ∙ W .unmarked k x (among-later k m) d l;
         meets = λ k d x h l. met-marked k d x h l (same? k c);
         same = record {
           size = M .size ∙ W .same .size;

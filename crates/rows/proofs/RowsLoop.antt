@@ -29,7 +29,7 @@ use Rattle.rows.specs.declared.block.Block.{Block}
 use Rattle.rows.specs.declared.all.Extent.{Extent}
 use Rattle.rows.specs.Task.{Task, turnsOf, told, isSelected, traceAt, isProbed, isMet}
 use Rattle.rows.specs.Ready.{Slices, Ready}
-use Rattle.marks.specs.Marks.{HasMarkLines, metLine, HasNoBits, HasBlankMarks}
+use Rattle.marks.specs.Marks.{HasMarkLines, metLine, HasNoBits, HasEmptyMarks}
 use Rattle.rows.specs.Worked.{rowOf, BlockIn, HasNoMarks, BlockDone, BlockReady, BlockWorked, marking, ExtentOf, RowsReady, RowsWorked}
 use Rattle.rows.proofs.MarkLines.{probe-line, met-line}
 
@@ -202,7 +202,7 @@ module _ {G : Slices} {E : Extent} {base : ℕ} {S P₀ P : List ℕ} (W : Block
   block-ready (n, T, R, X) = (n, T, R, block-in R X)
 
   pub block-no-marks : RowsReady G E → HasNoMarks (blockAt E base) P
-  block-no-marks (n, T, R, X) = record { table-lines = W .table-lines; blank = λ c d l. go c d l (which (ltb c (W .table-lines .lines))) }
+  block-no-marks (n, T, R, X) = record { table-lines = W .table-lines; no-bits = λ c d l. go c d l (which (ltb c (W .table-lines .lines))) }
     where
       D : Done T n base (W .table-lines .lines) S P
       D = W .done n T R X
@@ -250,13 +250,13 @@ module _ {G : Slices} {E : Extent} {base : ℕ} {S P₀ P : List ℕ} (W : Block
 
 -- ALL BLOCKS
 
-pub blocking-start : {G : Slices} {E : Extent} {S P : List ℕ} → HasNoBits 1 S → HasBlankMarks P → Blocking G E 0 S P P
+pub blocking-start : {G : Slices} {E : Extent} {S P : List ℕ} → HasNoBits 1 S → HasEmptyMarks P → Blocking G E 0 S P P
 blocking-start s p = record {
   whole = refl;
   selected-size = let z = s .size in omega arith;
   sized = refl;
   table-lines = p .table-lines;
-  done = λ n T R X. record { selected = none-before (selection T) s; marks = none-before (marking T n) (p .blank) };
+  done = λ n T R X. record { selected = none-before (selection T) s; marks = none-before (marking T n) (p .no-bits) };
 }
 
 pub rows-left : {base rows : ℕ} → base < rows → rows - (base + blockRows) < rows - base

@@ -21,7 +21,7 @@ pub record Task : Type 0 where
 abbrev pub predicateAt : Query → (c : ℕ) → Predicate
 predicateAt Q c = getD (Q .predicates) c (record { column = 0; kind = 0; operand = []; place = 0 })
 
--- "On an entry of a run the pattern is that entry's true outcomes."
+-- "On an entry of a run the pattern is that entry's true outcomes."; order 2: "A run takes blank as no"
 abbrev pub assignmentAt : Catalogue → Query → (row : ℕ) → Assignment
 assignmentAt C Q row c = truth (outcome C (predicateAt Q c) row)
 

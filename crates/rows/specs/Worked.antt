@@ -37,7 +37,7 @@ pub record BlockIn (B : Block) (rows : ℕ) : Type 0 where
 -- nothing is marked in the block yet
 pub record HasNoMarks (B : Block) (table : List ℕ) : Type 0 where
   pub table-lines : HasMarkLines table
-  pub blank : (c d : ℕ) → d < blockRows → lineBit table c (B .base + d) ≡ false
+  pub no-bits : (c d : ℕ) → d < blockRows → lineBit table c (B .base + d) ≡ false
 
 -- outside the block a table is as it was
 pub record SameBeside (B : Block) (before after : List ℕ) : Type 0 where

@@ -2,7 +2,7 @@
 use crate::block::Block;
 use bitmaps::word::Word;
 ghost use Rattle.rows.specs.Ready.{slices};
-ghost use Rattle.marks.specs.Marks.{HasNoBits, HasBlankMarks};
+ghost use Rattle.marks.specs.Marks.{HasNoBits, HasEmptyMarks};
 ghost use Rattle.rows.specs.Worked.{RowsReady, RowsWorked};
 
 // How many rows there are, and the predicates that are live at first.
@@ -23,7 +23,7 @@ pub fn work_rows(
     marks: &mut [u8],
 )
     requires { ⌜ RowsReady (slices (now catalogue) (now question) (now turns) (now plan) (now ancestors)) extent ⌝ }
-    requires { ⌜ HasNoBits 1 (now selected) × HasBlankMarks (now marks) ⌝ }
+    requires { ⌜ HasNoBits 1 (now selected) × HasEmptyMarks (now marks) ⌝ }
     ensures { λ _. ⌜ RowsWorked (slices (now (catalogue .entry)) (now (question .entry)) (now (turns .entry)) (now (plan .entry)) (now (ancestors .entry))) extent (now (selected .exit)) (now (marks .exit)) ⌝ }
 {
     let fold = predicate::fold::fold_table();

@@ -3,6 +3,7 @@ use ancestors::Ancestors;
 use answers::word::Answer;
 use bitmaps::copy::Line;
 use marks::MarkTable;
+use plan::table::Plan;
 use query::format::Predicate;
 ghost use mathlib.Core.Path.{_≡_};
 ghost use Rattle.answers.specs.Word.{packed, FitsWord};
@@ -32,6 +33,8 @@ pub fn run_question(
     if failing != 0 {
         return Answer::Refused(failing);
     }
+    let mut plan = [0usize; Plan::TABLE_SIZE];
+    work::make_plan(question, begun, &offsets, &mut plan);
     let mut selected = [0u8; Line::SIZE];
     let mut probed = [0u8; MarkTable::PROBES];
     work::work(
@@ -39,7 +42,7 @@ pub fn run_question(
         question,
         order,
         begun,
-        &offsets,
+        &plan,
         &ancestors,
         &mut selected,
         &mut probed,

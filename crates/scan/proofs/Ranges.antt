@@ -1,18 +1,18 @@
 -- The number kinds as one test: a lowest number and how many follow it, and one comparison.
 use Prim.Native.Nat.{ℕ, _+_, _-_, _%_, _^_, _≤_, _<_}
 use native.Mathlib.Omega.{arith}
-use mathlib.Core.Path.{_≡_, refl}
-use mathlib.Core.Bool.{Bool, true, false, _&&_}
+use mathlib.Core.Path.{_≡_}
+use mathlib.Core.Bool.{true, _&&_}
 use mathlib.Core.Logic.{_⊎_, inl, inr}
 use mathlib.Core.List.{List}
 use lib.ListN.{length}
 use lib.Dec.{leb, ltb, eqb}
-use borrow.Author.Tests.{le-leb, lt-leb, leb-true, eq-eqb, eqb-true, ltb-true}
+use borrow.Author.Tests.{le-leb, leb-true, eq-eqb, eqb-true, ltb-true}
 use Rattle.bools.specs.Bools.{both, and-parts, iff-eq, same?, eqb-ne}
 use Rattle.catalogue.specs.Format.{blankNumber}
 use Rattle.slots.specs.Slots.{textLimit}
 use Rattle.predicate.specs.Kinds.{rangeKind, numberBlankKind, equalsKind, containsKind, textBlankKind}
-use Rattle.predicate.specs.Meaning.{inRange, numberBlank, lowOf, highOf, numberTest}
+use Rattle.predicate.specs.Meaning.{between, numberBlank, lowOf, highOf, numberTest}
 use Rattle.predicate.specs.Payload.{rangeFits, operandFits}
 use Rattle.scan.specs.declared.range.Range.{Range}
 use Rattle.scan.specs.Met.{RangeFor, within}
@@ -50,21 +50,10 @@ text-fits kind o h l m =
 
 -- a range, and the blank as a range of one number
 
-in-range : (low high n : ℕ) → low ≤ high → high < blankNumber → within low (high - low) n ≡ inRange low high n
-in-range low high n l h = go (same? n blankNumber)
-  where
-    top : low + (high - low) ≡ high
-    top = omega arith
+in-range : (low high n : ℕ) → low ≤ high → within low (high - low) n ≡ between low high n
+in-range low high n l = let top : low + (high - low) ≡ high = omega arith in rw top
 
-    go : (n ≡ blankNumber) ⊎ (n ≡ blankNumber → ⊥) → within low (high - low) n ≡ inRange low high n
-    go (inl e) = rw (top, eq-eqb n blankNumber e) (out (leb low n))
-      where
-        out : (p : Bool) → (p && leb n high) ≡ false
-        out true = lt-leb n high (omega arith)
-        out false = refl
-    go (inr ne) = rw (top, eqb-ne n blankNumber ne)
-
-is-blank : (n : ℕ) → within blankNumber 0 n ≡ numberBlank n
+pub is-blank : (n : ℕ) → within blankNumber 0 n ≡ numberBlank n
 is-blank n = iff-eq (within blankNumber 0 n) (numberBlank n) to from
   where
     to : within blankNumber 0 n ≡ true → numberBlank n ≡ true
@@ -98,5 +87,5 @@ module _ {kind : ℕ} {o : List ℕ} {r : Range} (P : RangeFor kind o r) (fits :
   number-means n = go each
     where
       go : (kind ≡ rangeKind) ⊎ (kind ≡ numberBlankKind) → within (r .low) (r .width) n ≡ numberTest kind o n
-      go (inl e) = let p = P .range e in let f = range-fits kind o fits e in rw (p .0, p .1, e) (in-range (lowOf o) (highOf o) n (f .1) (f .2))
+      go (inl e) = let p = P .range e in let f = range-fits kind o fits e in rw (p .0, p .1, e) (in-range (lowOf o) (highOf o) n (f .1))
       go (inr e) = let p = P .blank e in rw (p .0, p .1, e) (is-blank n)

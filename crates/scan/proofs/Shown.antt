@@ -2,31 +2,35 @@
 use Prim.Native.Nat.{ℕ, _+_, _-_, _*_, _^_, _≤_, _<_}
 use native.Mathlib.Omega.{arith}
 use mathlib.Core.Path.{_≡_, refl, sym, ap, _∙_}
-use mathlib.Core.Bool.{Bool, true, false, not}
+use mathlib.Core.Bool.{Bool, true, false, _&&_, _||_, and-false, and-true}
 use mathlib.Core.List.{List, []}
 use lib.ListN.{length, getD, take, drop}
 use lib.Dec.{leb, eqb}
-use lib.Bits.{bitXor}
+use lib.Bits.{bitOr, bitXor}
 use borrow.Author.Tests.{lt-ltb, le-ltb, le-leb, lt-leb, leb-true}
 use Rattle.bools.specs.Bools.{and-parts, eqb-eq}
 use Rattle.fields.specs.Numbers.{numberAt}
-use Rattle.catalogue.specs.Format.{numberTag, numberSize, textTag}
+use Rattle.catalogue.specs.Format.{numberTag, numberSize, textTag, blankNumber}
 use Rattle.catalogue.specs.Catalogue.{Column, numbers, texts}
 use Rattle.slots.specs.Slots.{textLimit, textAt}
 use Rattle.catalogue.specs.InPlace.{Shows, HasRow, NumberIs, TextIs}
 use Rattle.catalogue.proofs.Rows.{number-is, text-is}
 use Rattle.predicate.specs.declared.outcome.Outcome.{Outcome}
-use Rattle.predicate.specs.declared.outcome.Outcome.the-variants.{No, Yes}
-use Rattle.predicate.specs.Kinds.{numberBlankKind, containsKind, textBlankKind, oppositeFrom, plainKind}
-use Rattle.predicate.specs.Meaning.{yesIf, opposite, truth, textBlank, numberTest, textTest, plainOf, outcomeOf}
+use Rattle.predicate.specs.Kinds.{numberBlankKind, containsKind, textBlankKind, oppositeFrom, plainKind, asksContent}
+use Rattle.predicate.specs.Meaning.{truth, textBlank, numberBlank, numberTest, textTest, valueBlank, plainOf, outcomeOf}
+use Rattle.predicate.specs.Outcome.{isBlank}
 use Rattle.predicate.specs.Payload.{kindFits, operandFits}
 use Rattle.predicate.proofs.OutcomeLaws.{number-row, text-row}
+use Rattle.predicate.proofs.BlankLaws.{truth-opposite, blank-turned, blank-is}
+use Rattle.sets.specs.Set.{has}
+use Rattle.sets.specs.SetLaws.{has-none}
 use Rattle.sets.specs.Kept.{KeptBy, Sifted}
-use Rattle.sets.specs.KeptLaws.{sift-kept, kept-same, kept-others}
+use Rattle.sets.specs.KeptLaws.{sift-kept, kept-same, kept-others, kept-either}
 use Rattle.heads.specs.Block.{HasDueRows, slotOf, textOf}
 use Rattle.scan.specs.declared.range.Range.{Range}
-use Rattle.scan.specs.Met.{RangeFor, ShownRows, HasRows, MetFor, PlainMetFor, within}
-use Rattle.scan.proofs.Ranges.{text-fits, width-fits, number-means}
+use Rattle.scan.specs.Met.{RangeFor, ShownRows, HasRows, MetFor, PlainMetFor, BlankFor, within}
+use Rattle.scan.proofs.Ranges.{text-fits, width-fits, number-means, is-blank}
+use Rattle.scan.proofs.Blanks.{number-truth, text-truth}
 
 abbrev pub numberOf : List ℕ → (start row : ℕ) → ℕ
 numberOf b start row = numberAt b (start + numberSize * row) numberSize
@@ -60,14 +64,6 @@ unfolding kindFits
 text-kind tag kind h l =
     let p = and-parts (leb kind textBlankKind) (eqb tag textTag) (rw (lt-leb kind numberBlankKind l) at h) in
     (leb-true kind textBlankKind (p .0), eqb-eq tag textTag (p .1))
-
-truth-of : (p : Bool) → truth (yesIf p) ≡ p
-truth-of true = refl
-truth-of false = refl
-
-truth-opposite : (a : Outcome) → not (truth a) ≡ truth (opposite a)
-truth-opposite No = refl
-truth-opposite Yes = refl
 
 -- one predicate, and its plain kind
 module _ {b : List ℕ} {start base kind : ℕ} {o : List ℕ} {due plain : ℕ} (k : plain ≡ plainKind kind) where
@@ -108,7 +104,7 @@ module _ {b : List ℕ} {start base kind : ℕ} {o : List ℕ} {due plain : ℕ}
         kept-same _ _ due r
         (λ d m. number-means P (fits R) l (numberOf b start (base + d)) ∙ ap (λ (j : ℕ). numberTest j o (numberOf b start (base + d))) k
         ∙ ap (numberTest (plainKind kind) o) (number-is b start (base + d) (numberOf b start (base + d)) refl rows ns (refl, R .shown .1, R .shown .2) (R .inside d m))
-        ∙ sym (truth-of (numberTest (plainKind kind) o (getD ns (base + d) 0)))) K
+        ∙ sym (number-truth (plainKind kind) o (R .operand-fits) (omega arith) (getD ns (base + d) 0))) K
     numbers-met P l K rows tag (texts ts) R =
         let e = number-kind tag (plainKind kind) (R .kind-fits) (omega arith) in let f : tag ≡ textTag = R .shown .0 in absurd (omega arith)
 
@@ -119,7 +115,7 @@ module _ {b : List ℕ} {start base kind : ℕ} {o : List ℕ} {due plain : ℕ}
         kept-same _ _ due r
         (λ d m. ap (λ (j : ℕ). textTest j o (textOf b start (base + d))) k
         ∙ ap (textTest (plainKind kind) o) (text-shown b start (base + d) rows ts (refl, R .shown .1, R .shown .2, R .shown .3) (R .inside d m))
-        ∙ sym (truth-of (textTest (plainKind kind) o (getD ts (base + d) [])))) K
+        ∙ sym (text-truth (plainKind kind) o (R .operand-fits) (omega arith) (getD ts (base + d) []))) K
 
     pub blanks-met : plain ≡ textBlankKind → KeptBy (λ d. textBlank (textOf b start (base + d))) due r → PlainMetFor b start base kind o due r
     unfolding textTest
@@ -129,15 +125,47 @@ module _ {b : List ℕ} {start base kind : ℕ} {o : List ℕ} {due plain : ℕ}
         → KeptBy (λ d. textTest plain o (textOf b start (base + d))) may r → PlainMetFor b start base kind o due r
     sifted-met may l S K = texts-met l (sift-kept r S K)
 
+-- where the outcome is blank, of either kind
+
+is-value : (kind : ℕ) {plain : ℕ} → plain ≡ plainKind kind → asksContent plain ≡ true → (c : Column) (o : List ℕ) (row : ℕ) → valueBlank c row ≡ isBlank (outcomeOf c kind o row)
+is-value kind k asks c o row = sym (blank-is c kind o row ∙ rw (sym k, asks, and-true (valueBlank c row)))
+
+module _ {b : List ℕ} {start base : ℕ} (kind : ℕ) {due plain : ℕ} (k : plain ≡ plainKind kind) where
+  pub none-blank : asksContent plain ≡ false → BlankFor b start base kind due 0
+  none-blank e o rows tag c R d =
+      has-none d ∙ sym (and-false (has due d))
+      ∙ sym (ap (λ (x : Bool). has due d && x) (blank-is c kind o (base + d) ∙ rw (sym k, e, and-false (valueBlank c (base + d)))))
+
+  module _ (asks : asksContent plain ≡ true) (r : ℕ) where
+    pub numbers-blank : plain ≤ numberBlankKind → KeptBy (λ d. within blankNumber 0 (numberOf b start (base + d))) due r → BlankFor b start base kind due r
+    numbers-blank l K o rows tag (numbers ns) R =
+        kept-same _ _ due r
+        (λ d m. is-blank (numberOf b start (base + d))
+        ∙ ap numberBlank (number-is b start (base + d) (numberOf b start (base + d)) refl rows ns (refl, R .shown .1, R .shown .2) (R .inside d m))
+        ∙ is-value kind k asks (numbers ns) o (base + d)) K
+    numbers-blank l K o rows tag (texts ts) R =
+        let e = number-kind tag (plainKind kind) (R .kind-fits) (omega arith) in let f : tag ≡ textTag = R .shown .0 in absurd (omega arith)
+
+    pub texts-blank : numberBlankKind < plain → KeptBy (λ d. textBlank (textOf b start (base + d))) due r → BlankFor b start base kind due r
+    texts-blank l K o rows tag (numbers ns) R =
+        let e = text-kind tag (plainKind kind) (R .kind-fits) (omega arith) in let f : tag ≡ numberTag = R .shown .0 in absurd (omega arith)
+    texts-blank l K o rows tag (texts ts) R =
+        kept-same _ _ due r
+        (λ d m. ap textBlank (text-shown b start (base + d) rows ts (refl, R .shown .1, R .shown .2, R .shown .3) (R .inside d m))
+        ∙ is-value kind k asks (texts ts) o (base + d)) K
+
 -- a kind below the opposites, and an opposite one
 module _ {b : List ℕ} {start base kind : ℕ} {o : List ℕ} {due : ℕ} (r : ℕ) (K : PlainMetFor b start base kind o due r) where
   pub plain-met : kind < oppositeFrom → MetFor b start base kind o due r
   unfolding outcomeOf
   plain-met h rows tag c R = rw (lt-ltb kind oppositeFrom h) (K rows tag c R)
 
-  pub opposite-met : oppositeFrom ≤ kind → MetFor b start base kind o due (bitXor due r)
+  pub opposite-met : (blank : ℕ) → oppositeFrom ≤ kind → BlankFor b start base kind due blank → MetFor b start base kind o due (bitXor due (bitOr r blank))
   unfolding outcomeOf
-  opposite-met h rows tag c R =
+  opposite-met blank h B rows tag c R =
       rw (le-ltb kind oppositeFrom h)
-      (kept-same _ _ due (bitXor due r) (λ d m. truth-opposite (plainOf c (plainKind kind) o (base + d)))
-      (kept-others (λ d. truth (plainOf c (plainKind kind) o (base + d))) due r (K rows tag c R)))
+      (kept-same _ _ due (bitXor due (bitOr r blank)) (λ d m. truth-opposite (plainOf c (plainKind kind) o (base + d)))
+      (kept-others (λ d. truth (at d) || isBlank (at d)) due (bitOr r blank) (kept-either _ _ due r blank (K rows tag c R) (kept-same _ _ due blank (λ d m. blank-turned kind (at d)) (B o rows tag c R)))))
+    where
+      at : ℕ → Outcome
+      at d = plainOf c (plainKind kind) o (base + d)

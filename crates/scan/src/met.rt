@@ -1,7 +1,8 @@
-// The due rows at which a predicate's outcome is yes, the kind looked at once.
+// The due rows at which a predicate's outcome is yes, or blank: the kind is looked at for a block, not for each row.
+use catalogue::format::Number;
 use predicate::kind::Kind;
 ghost use Rattle.predicate.specs.Outcome.{Folds};
-ghost use Rattle.scan.specs.Met.{HasRows, PlainMetFor, MetFor};
+ghost use Rattle.scan.specs.Met.{HasRows, PlainMetFor, MetFor, HasRowsAnyOperand, BlankFor};
 
 // Of the kind below the opposites. What a leaf takes of the operand is worked out for each block: a table of it is no faster.
 fn plain_met_at(
@@ -28,6 +29,22 @@ fn plain_met_at(
     crate::text::texts_that_pass(table, b, start, base, plain, operand, may)
 }
 
+// Those at which it is blank. No operand is asked for: a kind that asks for content answers so at every blank.
+pub fn blank_at(b: &[u8], start: usize, base: usize, kind: u8, due: u64) -> u64
+    requires { ⌜ HasRowsAnyOperand (now b) start base kind due ⌝ }
+    ensures { λ r. ⌜ BlankFor (now (b .entry)) start base kind due r ⌝ }
+{
+    let plain = predicate::kind::plain_kind(kind);
+    if !predicate::kind::asks_content(plain) {
+        return 0;
+    }
+    if plain <= Kind::NUMBER_BLANK {
+        return crate::number::numbers_within(b, start, base, Number::BLANK, 0, due);
+    }
+    crate::text::texts_blank(b, start, base, due)
+}
+
+// Those of any kind at which it is yes.
 pub fn met_at(
     table: &[u8],
     b: &[u8],
@@ -44,6 +61,6 @@ pub fn met_at(
     if kind < Kind::OPPOSITE_FROM {
         return met;
     }
-    // An opposite kind: the due rows that its plain kind leaves.
-    due ^ met
+    // An opposite kind: the due rows that its plain kind leaves, but for those of a blank.
+    due ^ (met | blank_at(b, start, base, kind, due))
 }

@@ -195,3 +195,11 @@ kept-others P x r K d = has-xor x r d ∙ ap (xor (has x d)) (K d) ∙ bits (has
     bits true true = refl
     bits true false = refl
     bits false p = refl
+
+-- what either of two tests keeps
+pub kept-either : (P Q : ℕ → Bool) (x r s : ℕ) → KeptBy P x r → KeptBy Q x s → KeptBy (λ d. P d || Q d) x (bitOr r s)
+kept-either P Q x r s K L d = has-or r s d ∙ ap₂ (λ (a b : Bool). a || b) (K d) (L d) ∙ bits (has x d) (P d) (Q d)
+  where
+    bits : (a p q : Bool) → (a && p || a && q) ≡ (a && (p || q))
+    bits true p q = refl
+    bits false p q = refl

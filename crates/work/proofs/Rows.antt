@@ -19,17 +19,18 @@ use Rattle.demands.specs.Run.{taskOf}
 use Rattle.work.specs.Worked.{RunWorked}
 
 module _ {b q : List ℕ} {r : Beginning} {T : Tables} (G : HasInput b q r T) (order P : List ℕ) (o : isOrder (r .n) order ≡ true) (s : length P ≡ planSize)
-    (p : Planned (r .tags) (r .starts) (recordAt q (T .offsets)) P (r .n)) (E : Extent) (rows : E .rows ≡ r .rows) (start : E .start ≡ belowSet (r .n)) where
-  input-ready : Ready (slices b q order P (T .ancestors)) (r .n) (taskOf (G .input) order)
+    (p : Planned (r .tags) (r .starts) (recordAt q (T .offsets)) P (r .n)) where
+  pub input-ready : Ready (slices b q order P (T .ancestors)) (r .n) (taskOf (G .input) order)
   input-ready = ready (G .laid) (G .tabled) o s (rw (G .tags, G .starts) at p)
 
-  extent-of : ExtentOf E (r .n) (taskOf (G .input) order)
-  extent-of = record { rows = rows ∙ G .rows ∙ G .laid .rows; start = start }
+  module _ (E : Extent) (rows : E .rows ≡ r .rows) (start : E .start ≡ belowSet (r .n)) where
+    extent-of : ExtentOf E (r .n) (taskOf (G .input) order)
+    extent-of = record { rows = rows ∙ G .rows ∙ G .laid .rows; start = start }
 
-  pub input-rows-ready : RowsReady (slices b q order P (T .ancestors)) E
-  input-rows-ready = (r .n, taskOf (G .input) order, input-ready, extent-of)
+    pub input-rows-ready : RowsReady (slices b q order P (T .ancestors)) E
+    input-rows-ready = (r .n, taskOf (G .input) order, input-ready, extent-of)
 
-  pub input-worked : (S L : List ℕ) → RowsWorked (slices b q order P (T .ancestors)) E S L → RunWorked b q order (r .n) S L
-  input-worked S L W i d =
-      let same : G .input ≡ i = cc in
-      rw same at (W (r .n) (taskOf (G .input) order) input-ready extent-of)
+    pub input-worked : (S L : List ℕ) → RowsWorked (slices b q order P (T .ancestors)) E S L → RunWorked b q order (r .n) S L
+    input-worked S L W i d =
+        let same : G .input ≡ i = cc in
+        rw same at (W (r .n) (taskOf (G .input) order) input-ready extent-of)

@@ -1,6 +1,7 @@
 -- `met_of` meets its contract: what it hands on is what the access of the predicate shows.
 use borrow.Author.Needs.{needs}
-use Rattle.access.proofs.Outcomes.{kind-small, operand-in, has-rows, met-is}
+use Rattle.predicate.specs.Meaning.{truth}
+use Rattle.access.proofs.Outcomes.{kind-small, operand-in, has-rows, outcomes-are}
 use Rattle.access.proofs.met_of.Statement.{statement}
 use Rattle.access.proofs.met_of.Tie as tie
 
@@ -69,7 +70,7 @@ returns : tie.Need-returns
 returns c =
     let a = c .before .before .before .before .before .before .before .before .before .before .before .args in
     let n = c .before .before .before .before .narrow in
-    met-is (a .catalogue .now) (a .q .now) (a .plan .now) (a .c) (a .base) (a .due) (n .result) (n .ensures) (c .met-at .result) (c .met-at .ensures)
+    outcomes-are (a .catalogue .now) (a .q .now) (a .plan .now) (a .c) (a .base) (a .due) (n .result) (n .ensures) truth (c .met-at .result) (c .met-at .ensures)
 
 pub met-of-spec : {M : Type 1} → statement M
 met-of-spec =

@@ -10,10 +10,10 @@ use Rattle.gather.proofs.add_to_all.Statement.{statement}
 use Rattle.gather.proofs.add_to_all.Tie as tie
 
 abbrev Inv-loop : tie.InvT-loop
-Inv-loop rows₀ i row₀ rows row = (row ≤ blockRows) × AddedTo (λ d. ltb d row) i rows₀ rows
+Inv-loop gathered₀ i row₀ gathered row = (row ≤ blockRows) × AddedTo (λ d. ltb d row) i gathered₀ gathered
 
 abbrev μ-loop : tie.MeasureT-loop
-μ-loop rows₀ i row₀ rows row = blockRows - row
+μ-loop gathered₀ i row₀ gathered row = blockRows - row
 
 loop-holds : tie.Need-loop-holds Inv-loop μ-loop
 loop-holds c = (omega arith, all-start (c .before .args .i) (c .before .args .gathered .now))

@@ -9,10 +9,10 @@ use Rattle.gather.proofs.add_turn.Statement.{statement}
 use Rattle.gather.proofs.add_turn.Tie as tie
 
 abbrev Inv-loop : tie.InvT-loop
-Inv-loop rows₀ word i left₀ rows left = Changing (λ s. setWith s i) word left rows₀ rows
+Inv-loop gathered₀ word i left₀ gathered left = Changing (λ s. setWith s i) word left gathered₀ gathered
 
 abbrev μ-loop : tie.MeasureT-loop
-μ-loop rows₀ word i left₀ rows left = left
+μ-loop gathered₀ word i left₀ gathered left = left
 
 below-requires : tie.Need-below-requires Inv-loop μ-loop
 below-requires c κs = search needs

@@ -5,20 +5,20 @@ use borrow.Author.Needs.{needs}
 use mathlib.Core.Path.{_≡_}
 use lib.ListN.{length}
 use Rattle.gather.specs.Turns.{TurnsBelow}
-use Rattle.gather.proofs.Gathering.{word-inside, gather-none, gather-next}
+use Rattle.gather.proofs.Gathering.{word-inside, word-bits, turns-none, turn-added}
 use Rattle.gather.proofs.gather.Statement.{statement}
 use Rattle.gather.proofs.gather.Tie as tie
 
 abbrev Inv-loop : tie.InvT-loop
-Inv-loop turns table base rows₀ i₀ rows i = (i ≤ length turns) × TurnsBelow i turns table base rows
+Inv-loop turns table base gathered₀ i₀ gathered i = (i ≤ length turns) × TurnsBelow i turns table base gathered
 
 abbrev μ-loop : tie.MeasureT-loop
-μ-loop turns table base rows₀ i₀ rows i = length turns - i
+μ-loop turns table base gathered₀ i₀ gathered i = length turns - i
 
 loop-holds : tie.Need-loop-holds Inv-loop μ-loop
 loop-holds c =
-    let s = c .before .before .before in
-    (omega arith, gather-none (s .args .turns .now) (s .args .table .now) (s .args .base) (s .pre .1 .0) (s .pre .1 .1))
+    let z = c .before .before .before .pre .1 in
+    (omega arith, turns-none (z .0) (z .1))
 
 shared-slice-read-widen : tie.Need-shared-slice-read-widen Inv-loop μ-loop
 shared-slice-read-widen c = search needs
@@ -55,7 +55,8 @@ loop-again c =
     let w = t .before .before .before in
     let l = w .before .before .before .before in
     let s = l .before .before .before .before in
-    (omega arith, gather-next (l .loop .inv .1) (λ k. l .before .before .shared-slice-known2 .given k .fits) (s .pre .0 .1) (t .before .narrow .ensures) (w .before .widen .ensures .0) (w .word-at .ensures) (t .add-turn .ensures))
+    let bits = word-bits (s .args .table .now) (λ k. l .before .before .shared-slice-known2 .given k .fits) (s .pre .0 .1) (w .before .widen .ensures .0) (w .word-at .ensures) in
+    (omega arith, turn-added (w .word-at .result) (l .loop .inv .1) bits (t .before .narrow .ensures) (t .add-turn .ensures))
 
 same-length : tie.Need-same-length Inv-loop μ-loop
 same-length c = search needs

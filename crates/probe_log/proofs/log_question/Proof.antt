@@ -2,7 +2,7 @@
 use native.Mathlib.Omega.{arith}
 use mathlib.Core.Path.{refl, sym}
 use Rattle.bitmaps.specs.TableLaws.{holds-none}
-use Rattle.marks.proofs.Marking.{blank-marks}
+use Rattle.marks.proofs.Marking.{empty-marks}
 use borrow.Author.Tests.{not-true, not-false}
 use Rattle.strategy.specs.OrderLaws.{order-is}
 use Rattle.probe_log.proofs.Logging.{log-refused, log-not-order, has-marks, log-finished}
@@ -33,6 +33,17 @@ returns-2 c =
     let G = c .before .before .before .before .before .before .begin .ensures .accepts (c .before .before .before .if1 .left) in
     (log-not-order G _ _ (order-is _ _ _ _ _ (c .before .before .narrow .ensures) (c .before .is-order .ensures) (not-true _ (c .if2 .taken))), omega arith)
 
+slice-aggregate-make-plan : tie.Need-slice-aggregate-make-plan
+slice-aggregate-make-plan c = search needs
+
+slice-aggregate-make-plan-2 : tie.Need-slice-aggregate-make-plan-2
+slice-aggregate-make-plan-2 c = refl
+
+make-plan-requires : tie.Need-make-plan-requires
+make-plan-requires c κs =
+    let a = c .before .before in
+    ((_, (_, a .before .before .before .before .before .before .begin .ensures .accepts (a .before .before .before .if1 .left))), refl)
+
 slice-aggregate-work : tie.Need-slice-aggregate-work
 slice-aggregate-work c = search needs
 
@@ -47,29 +58,32 @@ slice-aggregate-work-4 c = refl
 
 work-requires : tie.Need-work-requires
 work-requires c κs =
-    let a = c .before .before .before .before in
+    let a = c .before .before .before .before .before .before .before .before in
     let G = a .before .before .before .before .before .before .begin .ensures .accepts (a .before .before .before .if1 .left) in
-    ((G, order-is _ _ _ _ _ (a .before .before .narrow .ensures) (a .before .is-order .ensures) (not-false _ (a .if2 .left))), (holds-none 1, blank-marks 128 (omega arith) (omega arith)))
+    ((c .before .before .before .before .before .make-plan .ensures _ _ G, order-is _ _ _ _ _ (a .before .before .narrow .ensures) (a .before .is-order .ensures) (not-false _ (a .if2 .left))), (holds-none 1, empty-marks 128 (omega arith) (omega arith)))
 
 slice-aggregate-finish-log : tie.Need-slice-aggregate-finish-log
-slice-aggregate-finish-log c = sym (c .before .before .before .work .kept .1 .1 .1 .1 .1 .1 .1 .0)
+slice-aggregate-finish-log c = search needs
+
+slice-aggregate-finish-log-2 : tie.Need-slice-aggregate-finish-log-2
+slice-aggregate-finish-log-2 c = sym (c .before .before .before .before .work .kept .1 .1 .1 .1 .1 .1 .1 .0)
 
 finish-log-requires : tie.Need-finish-log-requires
 finish-log-requires c κs =
-    let a = c .before .before .before .before .before .before .before .before .before in
-    let w = c .before .before .before .before .work in
+    let a = c .before .before .before .before .before .before .before .before .before .before .before .before .before .before in
+    let w = c .before .before .before .before .before .work in
     let G = a .before .before .before .before .before .before .begin .ensures .accepts (a .before .before .before .if1 .left) in
-    has-marks G _ (order-is _ _ _ _ _ (a .before .before .narrow .ensures) (a .before .is-order .ensures) (not-false _ (a .if2 .left))) (w .kept .1 .1 .1 .1 .1 .1 .1 .0) (w .ensures)
+    has-marks (c .before .before .before .before .before .before .before .before .before .before .before .make-plan .ensures _ _ G) _ (order-is _ _ _ _ _ (a .before .before .narrow .ensures) (a .before .is-order .ensures) (not-false _ (a .if2 .left))) (w .kept .1 .1 .1 .1 .1 .1 .1 .0) (w .ensures)
 
 same-length : tie.Need-same-length
 same-length c = search needs
 
 returns-3 : tie.Need-returns-3
 returns-3 c =
-    let a = c .before .before .before .before .before .before .before .before .before .before .before .before in
-    let w = c .before .before .before .before .before .before .before .work in
+    let a = c .before .before .before .before .before .before .before .before .before .before .before .before .before .before .before .before .before in
+    let w = c .before .before .before .before .before .before .before .before .work in
     let G = a .before .before .before .before .before .before .begin .ensures .accepts (a .before .before .before .if1 .left) in
-    log-finished G _ (order-is _ _ _ _ _ (a .before .before .narrow .ensures) (a .before .is-order .ensures) (not-false _ (a .if2 .left))) (w .kept .1 .1 .1 .1 .1 .1 .1 .0) (w .ensures)
+    log-finished (c .before .before .before .before .before .before .before .before .before .before .before .before .before .before .make-plan .ensures _ _ G) _ (order-is _ _ _ _ _ (a .before .before .narrow .ensures) (a .before .is-order .ensures) (not-false _ (a .if2 .left))) (w .kept .1 .1 .1 .1 .1 .1 .1 .0) (w .ensures)
     (c .before .before .finish-log .ensures)
 
 pub log-question-spec : {M : Type 1} → statement M
@@ -83,12 +97,16 @@ log-question-spec =
     narrow-requires
     is-order-requires
     returns-2
+    slice-aggregate-make-plan
+    slice-aggregate-make-plan-2
+    make-plan-requires
     slice-aggregate-work
     slice-aggregate-work-2
     slice-aggregate-work-3
     slice-aggregate-work-4
     work-requires
     slice-aggregate-finish-log
+    slice-aggregate-finish-log-2
     finish-log-requires
     same-length
     returns-3)

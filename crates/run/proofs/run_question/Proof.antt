@@ -3,7 +3,7 @@ use native.Mathlib.Omega.{arith}
 use mathlib.Core.Path.{refl, sym}
 use lib.ListN.{length}
 use Rattle.bitmaps.specs.TableLaws.{holds-none}
-use Rattle.marks.proofs.Marking.{blank-marks}
+use Rattle.marks.proofs.Marking.{empty-marks}
 use Rattle.request.proofs.Request.{request-order, request-room}
 use Rattle.run.proofs.Running.{run-refused, rows-room, size-short, run-declined, run-finished}
 use borrow.Author.Needs.{needs}
@@ -35,6 +35,17 @@ returns-2 c =
     let G = c .before .before .before .before .before .before .begin .ensures .accepts (c .before .before .before .if1 .left) in
     (run-declined G _ _ _ _ _ (c .before .before .bytes-for .ensures) _ (c .before .check-request .ensures) (c .if2 .taken), omega arith)
 
+slice-aggregate-make-plan : tie.Need-slice-aggregate-make-plan
+slice-aggregate-make-plan c = search needs
+
+slice-aggregate-make-plan-2 : tie.Need-slice-aggregate-make-plan-2
+slice-aggregate-make-plan-2 c = refl
+
+make-plan-requires : tie.Need-make-plan-requires
+make-plan-requires c κs =
+    let a = c .before .before in
+    ((_, (_, a .before .before .before .before .before .before .begin .ensures .accepts (a .before .before .before .if1 .left))), refl)
+
 slice-aggregate-work : tie.Need-slice-aggregate-work
 slice-aggregate-work c = search needs
 
@@ -49,11 +60,11 @@ slice-aggregate-work-4 c = refl
 
 work-requires : tie.Need-work-requires
 work-requires c κs =
-    let a = c .before .before .before .before in
+    let a = c .before .before .before .before .before .before .before .before in
     let x = a .before .before .before .before .before .before .before .before .before .before .before .before .before .before .before .args in
     let G = a .before .before .before .before .before .before .begin .ensures .accepts (a .before .before .before .if1 .left) in
     let order = request-order _ (a .before .before .bytes-for .result) (x .order .now) (length (x .listed .now)) (length (x .looks .now)) _ (a .before .check-request .ensures) (a .if2 .left) in
-    ((G, order), (holds-none 1, blank-marks 64 (omega arith) (omega arith)))
+    ((c .before .before .before .before .before .make-plan .ensures _ _ G, order), (holds-none 1, empty-marks 64 (omega arith) (omega arith)))
 
 slice-aggregate-finish : tie.Need-slice-aggregate-finish
 slice-aggregate-finish c = sym (c .before .before .before .work .kept .1 .1 .1 .1 .1 .1 .0)
@@ -63,7 +74,7 @@ slice-aggregate-finish-2 c = sym (c .before .before .before .before .work .kept 
 
 finish-requires : tie.Need-finish-requires
 finish-requires c κs =
-    let a = c .before .before .before .before .before .before .before .before .before .before .before .before in
+    let a = c .before .before .before .before .before .before .before .before .before .before .before .before .before .before .before .before in
     let x = a .before .before .before .before .before .before .before .before .before .before .before .before .before .before .before .args in
     let G = a .before .before .before .before .before .before .begin .ensures .accepts (a .before .before .before .if1 .left) in
     let W = c .before .before .before .before .before .before .before .work .ensures (G .input) (G .decoded) in (
@@ -82,7 +93,7 @@ same-length-3 c = c .before .before .before .before .before .before .finish .kep
 
 returns-3 : tie.Need-returns-3
 returns-3 c =
-    let a = c .before .before .before .before .before .before .before .before .before .before .before .before .before .before .before .before .before .before .before in
+    let a = c .before .before .before .before .before .before .before .before .before .before .before .before .before .before .before .before .before .before .before .before .before .before .before in
     let G = a .before .before .before .before .before .before .begin .ensures .accepts (a .before .before .before .if1 .left) in
     let end = c .before .before .before .before .before .before .finish .ensures in
     (run-finished G _ _ _ _ _ (a .before .before .bytes-for .ensures) _ (a .before .check-request .ensures) (a .if2 .left) (c .before .before .before .before .before .before .before .before .before .before .before .before .before .before .work .ensures) (end .0), end .1)
@@ -98,6 +109,9 @@ run-question-spec =
     bytes-for-requires
     check-request-requires
     returns-2
+    slice-aggregate-make-plan
+    slice-aggregate-make-plan-2
+    make-plan-requires
     slice-aggregate-work
     slice-aggregate-work-2
     slice-aggregate-work-3

@@ -10,17 +10,17 @@ use Rattle.log.proofs.block.put_block.Statement.{statement}
 use Rattle.log.proofs.block.put_block.Tie as tie
 
 abbrev Inv-loop : tie.InvT-loop
-Inv-loop out₀ at turns probed met base count dues mets end₀ d₀ out end d = (d ≤ count) × BlockLoop turns probed met base at out₀ d end out
+Inv-loop out₀ at turns probed met blanks base count dues mets end₀ d₀ out end d = (d ≤ count) × BlockLoop turns probed met blanks base at out₀ d end out
 
 abbrev μ-loop : tie.MeasureT-loop
-μ-loop out₀ at turns probed met base count dues mets end₀ d₀ out end d = count - d
+μ-loop out₀ at turns probed met blanks base count dues mets end₀ d₀ out end d = count - d
 
 slice-aggregate-gather : tie.Need-slice-aggregate-gather Inv-loop μ-loop
 slice-aggregate-gather c = search needs
 
 gather-requires : tie.Need-gather-requires Inv-loop μ-loop
 gather-requires c κs =
-    let p = c .before .before .before .before .before .pre .0 in
+    let p = c .before .before .before .before .before .before .pre .0 in
     ((p .0, p .2), (refl, zeros blockRows))
 
 slice-aggregate-gather-2 : tie.Need-slice-aggregate-gather-2 Inv-loop μ-loop
@@ -28,13 +28,13 @@ slice-aggregate-gather-2 c = search needs
 
 gather-requires-2 : tie.Need-gather-requires-2 Inv-loop μ-loop
 gather-requires-2 c κs =
-    let p = c .before .before .before .before .before .before .before .before .pre .0 in
+    let p = c .before .before .before .before .before .before .before .before .before .pre .0 in
     ((p .1, p .2), (refl, zeros blockRows))
 
 loop-holds : tie.Need-loop-holds Inv-loop μ-loop
 loop-holds c =
-    let a = c .before .before .before .before .before .before .before .before .before .before .args in
-    (omega arith, block-start (a .turns .now) (a .probed .now) (a .met .now) (a .base) (a .at) (a .out .now))
+    let a = c .before .before .before .before .before .before .before .before .before .before .before .args in
+    (omega arith, block-start (a .turns .now) (a .probed .now) (a .met .now) (a .blanks .now) (a .base) (a .at) (a .out .now))
 
 add-put-row : tie.Need-add-put-row Inv-loop μ-loop
 add-put-row c = search needs
@@ -51,13 +51,20 @@ mul-put-row-2 c = search needs
 array-read-put-row-2 : tie.Need-array-read-put-row-2 Inv-loop μ-loop
 array-read-put-row-2 c = search needs
 
+mul-put-row-3 : tie.Need-mul-put-row-3 Inv-loop μ-loop
+mul-put-row-3 c = search needs
+
+shared-slice-read-put-row : tie.Need-shared-slice-read-put-row Inv-loop μ-loop
+shared-slice-read-put-row c = search needs
+
 put-row-requires : tie.Need-put-row-requires Inv-loop μ-loop
 put-row-requires c κs =
-    let l = c .before .before in
+    let l = c .before .before .before in
     let h = l .before .before in
     let g = h .before .before .before in
-    let s = g .before .before .before .before .before .before in
-    (due-turns (g .gather .ensures) (h .gather2 .ensures) (omega arith), row-room (g .gather .ensures) (h .gather2 .ensures) (omega arith) (l .loop .inv .1) (omega arith) (s .pre .1))
+    let s = g .before .before .before .before .before .before .before in
+    let i = l .loop .inv .1 in
+    (due-turns i (g .gather .ensures) (h .gather2 .ensures) (omega arith), row-room i (g .gather .ensures) (h .gather2 .ensures) (omega arith) (omega arith) (s .pre .1))
 
 add-d : tie.Need-add-d Inv-loop μ-loop
 add-d c = search needs
@@ -67,11 +74,12 @@ loop-less c = search needs
 
 loop-again : tie.Need-loop-again Inv-loop μ-loop
 loop-again c =
-    let l = c .before .before .before .before .before in
+    let p = c .before .before in
+    let l = p .before .before .before .before in
     let h = l .before .before in
     let g = h .before .before .before in
-    let s = g .before .before .before .before .before .before in
-    (omega arith, block-next (g .gather .ensures) (h .gather2 .ensures) (omega arith) (l .loop .inv .1) (omega arith) (s .pre .1) (omega arith) (c .before .before .put-row .ensures))
+    let s = g .before .before .before .before .before .before .before in
+    (omega arith, block-next (l .loop .inv .1) (g .gather .ensures) (h .gather2 .ensures) (omega arith) (omega arith) (s .pre .1) (omega arith) (p .put-row .ensures))
 
 same-length : tie.Need-same-length Inv-loop μ-loop
 same-length c = c .before .loop .inv .1 .size
@@ -79,7 +87,7 @@ same-length c = c .before .loop .inv .1 .size
 returns : tie.Need-returns Inv-loop μ-loop
 returns c =
     let l = c .before in
-    let a = l .before .before .before .before .before .before .before .before .before .before .before .args in
+    let a = l .before .before .before .before .before .before .before .before .before .before .before .before .args in
     let e : l .loop .d ≡ a .count = omega arith in
     rw e at (l .loop .inv .1 .wrote)
 
@@ -99,6 +107,8 @@ put-block-spec =
     array-read-put-row
     mul-put-row-2
     array-read-put-row-2
+    mul-put-row-3
+    shared-slice-read-put-row
     put-row-requires
     add-d
     loop-less

@@ -12,12 +12,12 @@ four-bytes-requires c κs = omega (arith, c .before .before .pre (c .if1 .taken)
 four-bytes-requires-2 : tie.Need-four-bytes-requires-2
 four-bytes-requires-2 c κs = omega (arith, c .before .before .before .pre (c .before .if1 .taken))
 
-in-range-requires : tie.Need-in-range-requires
-in-range-requires c κs = search needs
+is-between-requires : tie.Need-is-between-requires
+is-between-requires c κs = search needs
 
 returns : tie.Need-returns
 unfolding numberTest
-returns c = search (tests, ← c .before .before .four-bytes .ensures, ← c .before .four-bytes2 .ensures, c .in-range .ensures)
+returns c = search (tests, ← c .before .before .four-bytes .ensures, ← c .before .four-bytes2 .ensures, c .is-between .ensures)
 
 returns-2 : tie.Need-returns-2
 unfolding numberTest
@@ -33,7 +33,7 @@ number-test-spec =
     (tie.spec
     four-bytes-requires
     four-bytes-requires-2
-    in-range-requires
+    is-between-requires
     returns
     returns-2
     returns-3)

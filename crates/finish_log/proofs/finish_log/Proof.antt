@@ -1,10 +1,10 @@
 -- `finish_log` meets its contract: refused before anything is written, or the fields of all probes.
 use native.Mathlib.Omega.{arith}
-use Rattle.probe_log.proofs.Halves.{second-half, first-length, half-lines}
-use Rattle.probe_log.proofs.Finishing.{size-short, looks-few, log-short, log-room, log-written}
+use Rattle.finish_log.proofs.Halves.{second-half, first-length}
+use Rattle.finish_log.proofs.Finishing.{size-short, looks-few, log-short, log-room, log-written}
 use borrow.Author.Needs.{needs}
-use Rattle.probe_log.proofs.finish_log.Statement.{statement}
-use Rattle.probe_log.proofs.finish_log.Tie as tie
+use Rattle.finish_log.proofs.finish_log.Statement.{statement}
+use Rattle.finish_log.proofs.finish_log.Tie as tie
 
 bytes-for-requires : tie.Need-bytes-for-requires
 bytes-for-requires c κs = search needs
@@ -14,18 +14,18 @@ count-lines-requires c κs = search needs
 
 mul-size : tie.Need-mul-size
 mul-size c =
-    let a = c .before .before .before .before .before in
-    omega (arith, looks-few (a .args .n) (c .before .bytes-for .result) (c .count-lines .result) (a .pre .1 .few) (size-short (a .pre .1) (c .before .bytes-for .ensures)) (c .count-lines .ensures .1))
+    let a = c .before .before .before .before .before .before .before in
+    omega (arith, looks-few (a .args .n) (c .before .bytes-for .result) (c .count-lines .result) (a .pre .2 .few) (size-short (a .pre .2) (c .before .bytes-for .ensures)) (c .count-lines .ensures .1))
 
 returns : tie.Need-returns
 returns c =
-    let a = c .before .before .before .before .before .before in
+    let a = c .before .before .before .before .before .before .before .before in
     record { fits = omega arith; leaves = log-short (c .before .before .bytes-for .ensures) (c .before .count-lines .ensures .0) (a .args .output .now) (c .if1 .taken) }
 
 slice-aggregate-put-rows : tie.Need-slice-aggregate-put-rows
 slice-aggregate-put-rows c =
-    let a = c .before .before .before .before .before .before .before in
-    let s = a .pre .1 .size in
+    let a = c .before .before .before .before .before .before .before .before .before in
+    let s = a .pre .2 .size in
     first-length (a .args .marks .now) (omega arith)
 
 sub-put-rows : tie.Need-sub-put-rows
@@ -39,19 +39,19 @@ part-put-rows-end c = search needs
 
 put-rows-requires : tie.Need-put-rows-requires
 put-rows-requires c κs =
-    let a = c .before .before .before .before .before .before .before .before .before in
+    let a = c .before .before .before .before .before .before .before .before .before .before .before in
     let b = c .before .before .before .before in
-    rw (second-half (a .args .marks .now)) ((half-lines (a .pre .1) .0, half-lines (a .pre .1) .1, a .pre .1 .short), log-room (b .before .bytes-for .ensures) (b .count-lines .ensures .0) (a .args .output .now) (c .before .before .before .if1 .left) (a .pre))
+    rw (second-half (a .args .marks .now)) (log-room (b .before .bytes-for .ensures) (b .count-lines .ensures .0) (a .args .output .now) (c .before .before .before .if1 .left) (a .pre))
 
 same-length : tie.Need-same-length
 same-length c = search needs
 
 returns-2 : tie.Need-returns-2
 returns-2 c =
-    let a = c .before .before .before .before .before .before .before .before .before .before .before .before in
+    let a = c .before .before .before .before .before .before .before .before .before .before .before .before .before .before in
     let b = c .before .before .before .before .before .before .before .before in
     let n = c .before .before .before .before .before .before .before .count-lines in
-    let few = looks-few (a .args .n) (b .bytes-for .result) (n .result) (a .pre .1 .few) (size-short (a .pre .1) (b .bytes-for .ensures)) (n .ensures .1) in
+    let few = looks-few (a .args .n) (b .bytes-for .result) (n .result) (a .pre .2 .few) (size-short (a .pre .2) (b .bytes-for .ensures)) (n .ensures .1) in
     record {
       fits = omega arith;
       leaves = log-written (b .bytes-for .ensures) (n .ensures .0) (a .args .output .now) (c .before .before .before .before .before .before .if1 .left)

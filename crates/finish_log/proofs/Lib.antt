@@ -1,0 +1,3 @@
+pub mod InTurn
+mod Halves
+mod Finishing
