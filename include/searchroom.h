@@ -29,7 +29,7 @@
 #include <stdint.h>
 
 /* The release; the pkg-config file has the same. */
-#define SEARCHROOM_VERSION "0.2.0"
+#define SEARCHROOM_VERSION "0.3.0"
 
 #ifdef __cplusplus
 extern "C" {
@@ -47,6 +47,13 @@ enum {
     SEARCHROOM_TALLY_BYTES = 8,      /* bytes of the house tally */
     SEARCHROOM_COPY_FIELD_BYTES = 7, /* bytes that a copy writes for each look */
     SEARCHROOM_COPY_BYTES = 917504   /* the most bytes that a copy writes to its output */
+};
+
+/* Outcomes: what a condition answers at an entry. */
+enum {
+    SEARCHROOM_NO = 0,
+    SEARCHROOM_YES = 1,
+    SEARCHROOM_BLANK = 2 /* the field is blank: searchroom_check_question says which kinds answer so */
 };
 
 /* Refusal numbers. */
@@ -157,11 +164,13 @@ static inline unsigned searchroom_columns(uint64_t word) { return searchroom_sec
  *     groups stand at most 8 deep;
  *     tag 80, a condition: a column byte, a kind byte, and an operand.
  * There are 1 to 64 conditions, numbered from 0 as they stand. Kinds:
- *     0  number from low to high: two four-byte numbers, low <= high < 4,294,967,295; a blank gives no
+ *     0  number from low to high: two four-byte numbers, low <= high < 4,294,967,295
  *     1  number blank: no operand
  *     2  text equals, 3 text begins with, 4 text contains: an operand of 1 to 23 bytes
  *     5  text blank: no operand
- *     128 to 133  the opposite outcome of 0 to 5, at every entry; operands as there
+ *     128 to 133  the opposites of 0 to 5, yes where these answer no and no where they answer yes; operands as there
+ * A blank field meets neither a condition nor its opposite: there kinds 0, 2, 3, 4 and their opposites 128, 130, 131, 132
+ * answer SEARCHROOM_BLANK, and a run takes that as no. Kinds 1, 5, 129 and 133 ask for the blank itself and never answer so.
  * Text and operand are compared after folding (ISO/IEC 8859-1): bytes 65 to 90, and 192 to 222 except 215, gain 32; every
  * other byte is unchanged.
  *
@@ -178,7 +187,8 @@ static inline unsigned searchroom_conditions(uint64_t word) { return searchroom_
 /*
  * Works out one condition of a question at one entry of a catalogue.
  *
- * Results: first the outcome, 1 for yes and 0 for no (searchroom_answer).
+ * Results: first the outcome, SEARCHROOM_NO, SEARCHROOM_YES or SEARCHROOM_BLANK (searchroom_answer). Compare it with these:
+ * a blank is not zero.
  * Refusals: 1 to 14 as for searchroom_check_question; then 18, the entry is not below the number of entries or the
  * condition not below the number of conditions. Any 64-bit numbers may be given.
  * Writes nothing.
@@ -192,11 +202,11 @@ static inline unsigned searchroom_answer(uint64_t word) { return searchroom_firs
 /*
  * Runs a question over a catalogue in a running order.
  *
- * An entry is listed exactly if the question's tree holds of it. On each entry the conditions are taken in the running
- * order, n bytes that hold each condition number once. A look at a condition is registered exactly if it is due: with the
- * conditions earlier in the order at their true outcomes, some outcomes of the later ones make this condition alone decide
- * the tree, its yes and its no giving the tree different values. Any way of working in the same order that is right whatever
- * the pattern of outcomes makes each of these looks, so none makes fewer.
+ * An entry is listed exactly if the question's tree holds of it, blank taken as no. On each entry the conditions are taken in
+ * the running order, n bytes that hold each condition number once. A look at a condition is registered exactly if it is due:
+ * with the conditions earlier in the order at their true outcomes, blank as no again, some outcomes of the later ones make
+ * this condition alone decide the tree, its yes and its no giving the tree different values. Any way of working in the same
+ * order that is right whatever the pattern of outcomes makes each of these looks, so none makes fewer.
  *
  * With E entries, a row of bits takes searchroom_row_bytes(E) bytes: entry e is the bit of weight 2^(e mod 8) in byte
  * e div 8, unused bits are zero (searchroom_bit).
@@ -236,8 +246,9 @@ static inline unsigned searchroom_bit(const uint8_t *row, unsigned entry) { retu
  *     bytes 1 and 2  length 4
  *     bytes 3 and 4  the entry (searchroom_copied_entry)
  *     byte 5         the condition's number (searchroom_copied_condition)
- *     byte 6         the condition's outcome at that entry, as searchroom_outcome gives it: 1 for yes, 0 for no. It is the
- *                    condition's own, so for kinds 128 to 133 the opposite is already taken (searchroom_copied_outcome)
+ *     byte 6         the condition's outcome at that entry, as searchroom_outcome gives it: SEARCHROOM_NO, SEARCHROOM_YES or
+ *                    SEARCHROOM_BLANK. It is the condition's own, so for kinds 128 to 133 the opposite is already taken
+ *                    (searchroom_copied_outcome); compare it with these: a blank is not zero
  * Entries ascend. In which sequence the fields of one entry follow each other is left open: rely on none.
  *
  *     output  the output, at least SEARCHROOM_COPY_FIELD_BYTES bytes for each look; its front is written: the fields, one
@@ -260,7 +271,7 @@ static inline unsigned searchroom_copied_entry(const uint8_t *field) { return fi
 /* Of such a field: the number of the condition looked at. */
 static inline unsigned searchroom_copied_condition(const uint8_t *field) { return field[5]; }
 
-/* Of such a field: the condition's outcome at the entry, 1 for yes and 0 for no. */
+/* Of such a field: the condition's outcome at the entry. */
 static inline unsigned searchroom_copied_outcome(const uint8_t *field) { return field[6]; }
 
 #ifdef __cplusplus

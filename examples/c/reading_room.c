@@ -64,11 +64,12 @@ static unsigned ones(const uint8_t *row, unsigned entries)
    gathered first and printed by condition number. */
 static void print_copy(const uint8_t *copy, size_t len)
 {
+    static const char *const words[] = {[SEARCHROOM_NO] = "no", [SEARCHROOM_YES] = "yes", [SEARCHROOM_BLANK] = "blank"};
     for (size_t at = 0; at < len;) {
         const char *outcomes[SEARCHROOM_MAX_CONDITIONS] = {NULL};
         unsigned entry = searchroom_copied_entry(copy + at);
         for (; at < len && searchroom_copied_entry(copy + at) == entry; at += SEARCHROOM_COPY_FIELD_BYTES)
-            outcomes[searchroom_copied_condition(copy + at)] = searchroom_copied_outcome(copy + at) ? "yes" : "no";
+            outcomes[searchroom_copied_condition(copy + at)] = words[searchroom_copied_outcome(copy + at)];
         printf("  entry %u", entry);
         const char *before = ": ";
         for (unsigned c = 0; c < SEARCHROOM_MAX_CONDITIONS; c++)

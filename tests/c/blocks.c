@@ -6,17 +6,19 @@
 
 enum { MOST = 2048, SLOT = 24, LONGEST = 23, CONDITIONS = 3, FURTHER = 9, FILL = 0xA7, FIELD = SEARCHROOM_COPY_FIELD_BYTES };
 
-/* All of: the number from 2 to 5; any of: the text contains "bY", the text is blank. */
+/* All of: the number from 2 to 5; any of: the text does not contain "bY", the text is blank. */
 static const uint8_t question[] = {65, 0, 28, 80, 0, 10, 0, 0, 0, 0, 0, 2, 0, 0, 0, 5,
-                                   79, 0, 12, 80, 0, 4, 1, 4, 'b', 'Y', 80, 0, 2, 1, 5};
+                                   79, 0, 12, 80, 0, 4, 1, 132, 'b', 'Y', 80, 0, 2, 1, 5};
 static const uint8_t order[CONDITIONS] = {0, 1, 2};
 
 static uint8_t made[6 + 3 + 4 * MOST + 3 + SLOT * MOST];
 static uint8_t filled[CONDITIONS * MOST * FIELD + FURTHER];
 
-/* The entries are of few sorts, so that neighbours differ; their texts are as long as can be or end with what is sought. */
+/* The entries are of few sorts, so that neighbours differ; their texts are as long as can be or end with what is sought. The
+   number 6 stands for a blank. Entry 191 has it, and entry 127 a blank text: each is the last of its block. */
+enum { NUMBER_BLANK = 6 };
 static unsigned number_of(unsigned entry) { return entry * 5 / 3 % 8; }
-static unsigned length_of(unsigned entry) { return entry * 7 % (LONGEST + 1); }
+static unsigned length_of(unsigned entry) { return (entry * 7 + 23) % (LONGEST + 1); }
 static int has_by(unsigned entry) { return entry % 3 != 0 && length_of(entry) >= 2; }
 
 static size_t make(unsigned entries)
@@ -35,6 +37,8 @@ static size_t make(unsigned entries)
             uint8_t *slot = made + at + sizes[column] * entry;
             if (column == 0) {
                 slot[3] = (uint8_t)number_of(entry);
+                if (slot[3] == NUMBER_BLANK)
+                    memset(slot, 0xFF, 4);
                 continue;
             }
             slot[0] = (uint8_t)length_of(entry);
@@ -54,9 +58,11 @@ typedef struct {
 
 static Entry expected(unsigned entry)
 {
-    unsigned in_range = number_of(entry) >= 2 && number_of(entry) <= 5;
-    unsigned by = has_by(entry) ? 1 : 0, blank = length_of(entry) == 0;
-    return (Entry){{in_range, by, blank}, {1, in_range, in_range && !by}};
+    unsigned number = number_of(entry), blank = length_of(entry) == 0;
+    unsigned in_range = number == NUMBER_BLANK ? SEARCHROOM_BLANK : number >= 2 && number <= 5;
+    unsigned without_by = blank ? SEARCHROOM_BLANK : !has_by(entry);
+    unsigned open = in_range == SEARCHROOM_YES;
+    return (Entry){{in_range, without_by, blank}, {1, open, open && without_by != SEARCHROOM_YES}};
 }
 
 static unsigned looks_at(Entry is) { return is.due[0] + is.due[1] + is.due[2]; }
@@ -67,7 +73,8 @@ static void expect_entry(unsigned entry, const uint8_t *listed, const uint8_t *l
     Entry is = expected(entry);
     for (unsigned condition = 0; condition < CONDITIONS; condition++)
         EXPECT_EQ(searchroom_bit(looks + condition * row, entry), is.due[condition]);
-    EXPECT_EQ(searchroom_bit(listed, entry), is.outcomes[0] && (is.outcomes[1] || is.outcomes[2]));
+    EXPECT_EQ(searchroom_bit(listed, entry), is.outcomes[0] == SEARCHROOM_YES &&
+                                                 (is.outcomes[1] == SEARCHROOM_YES || is.outcomes[2] == SEARCHROOM_YES));
 }
 
 /* The fields of one entry, one for each due look, in any sequence. Gives the place after them. */

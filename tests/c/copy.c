@@ -13,15 +13,21 @@ static const uint8_t forward[] = {0, 1, 2}, backward[] = {2, 1, 0}, repeated[] =
 /* The output afterwards. */
 static uint8_t output[SEARCHROOM_COPY_BYTES];
 
-/* A copy into so many bytes against an unreadable page, which are filled with one byte. */
-static uint64_t copy(const uint8_t *order, size_t order_len, size_t output_len)
+/* The copy of a question into so many bytes against an unreadable page, which are filled with one byte. */
+static uint64_t copy_asked(const uint8_t *asked, size_t asked_len, const uint8_t *order, size_t order_len, size_t output_len)
 {
     memset(output, FILL, sizeof output);
     uint8_t *lent = lend(output, output_len);
-    uint64_t word = searchroom_copy(catalogue, catalogue_len, question, question_len, order, order_len, lent, output_len);
+    uint64_t word = searchroom_copy(catalogue, catalogue_len, asked, asked_len, order, order_len, lent, output_len);
     memcpy(output, lent, output_len);
     give_back(lent, output_len);
     return word;
+}
+
+/* That of the parish's question. */
+static uint64_t copy(const uint8_t *order, size_t order_len, size_t output_len)
+{
+    return copy_asked(question, question_len, order, order_len, output_len);
 }
 
 /* Every byte from a place on still holds what it was filled with. */
@@ -59,7 +65,7 @@ static void parish_copied(void)
     static const uint8_t pairs[][2 * FIELD] = {
         {76, 0, 4, 0, 0, 0, 1, 76, 0, 4, 0, 0, 1, 1}, /* 1701 is in the century, "Ash" begins with "ash" */
         {76, 0, 4, 0, 1, 0, 0, 76, 0, 4, 0, 1, 2, 0}, /* 1822 is not, and is no blank */
-        {76, 0, 4, 0, 2, 0, 0, 76, 0, 4, 0, 2, 2, 1}, /* the blank */
+        {76, 0, 4, 0, 2, 0, 2, 76, 0, 4, 0, 2, 2, 1}, /* the blank: neither in the century nor outside it */
     };
     static const size_t lengths[] = {PARISH, PARISH + 1, PARISH + FIELD, SEARCHROOM_COPY_BYTES};
     for (size_t i = 0; i < sizeof lengths / sizeof *lengths; i++) {
@@ -101,20 +107,31 @@ static void opposite_tells_its_own_outcome(void)
 {
     static const uint8_t not_blank[] = {80, 0, 2, 0, 129}, order[] = {0};
     static const uint8_t fields[] = {76, 0, 4, 0, 0, 0, 1, 76, 0, 4, 0, 1, 0, 1, 76, 0, 4, 0, 2, 0, 0};
-    uint8_t *lent = lend(output, sizeof fields);
-    uint64_t word = searchroom_copy(catalogue, catalogue_len, not_blank, sizeof not_blank, order, sizeof order, lent,
-                                    sizeof fields);
-    EXPECT_EQ(searchroom_written(word), sizeof fields);
-    EXPECT(memcmp(lent, fields, sizeof fields) == 0);
-    give_back(lent, sizeof fields);
+    expect_accepted(copy_asked(not_blank, sizeof not_blank, order, sizeof order, sizeof fields), sizeof fields);
+    EXPECT(memcmp(output, fields, sizeof fields) == 0);
+}
+
+/* Any of, and then all of: year from 1700 to 1799, year not so. At the blank both answer blank; all-of is settled by one. */
+static void condition_and_its_opposite_at_a_blank(void)
+{
+    uint8_t asked[] = {79, 0, 26,
+                       80, 0, 10, 0, 0, 0, 0, 6, 0xA4, 0, 0, 7, 7,
+                       80, 0, 10, 0, 128, 0, 0, 6, 0xA4, 0, 0, 7, 7};
+    static const uint8_t order[] = {0, 1};
+    static const uint8_t blanks[2 * FIELD] = {76, 0, 4, 0, 2, 0, SEARCHROOM_BLANK, 76, 0, 4, 0, 2, 1, SEARCHROOM_BLANK};
+    expect_accepted(copy_asked(asked, sizeof asked, order, sizeof order, 5 * FIELD), 5 * FIELD);
+    EXPECT(are_pair(output + 3 * FIELD, blanks));
+    asked[0] = 65;
+    expect_accepted(copy_asked(asked, sizeof asked, order, sizeof order, 4 * FIELD), 4 * FIELD);
+    EXPECT(memcmp(output + 3 * FIELD, blanks, FIELD) == 0);
 }
 
 static void field_is_taken_apart(void)
 {
-    static const uint8_t field[FIELD] = {76, 0, 4, 0x07, 0xFE, 63, 1};
+    static const uint8_t field[FIELD] = {76, 0, 4, 0x07, 0xFE, 63, 2};
     EXPECT_EQ(searchroom_copied_entry(field), 2046);
     EXPECT_EQ(searchroom_copied_condition(field), 63);
-    EXPECT_EQ(searchroom_copied_outcome(field), 1);
+    EXPECT_EQ(searchroom_copied_outcome(field), SEARCHROOM_BLANK);
 }
 
 static void copies_refused_alter_nothing(void)
@@ -152,6 +169,7 @@ void copy_cases(void)
     CASE(parish_copied);
     CASE(copy_tells_the_run);
     CASE(opposite_tells_its_own_outcome);
+    CASE(condition_and_its_opposite_at_a_blank);
     CASE(field_is_taken_apart);
     CASE(copies_refused_alter_nothing);
     CASE(no_entries_no_fields);

@@ -91,7 +91,9 @@ static void each_refusal(void)
 
 static void parish_outcomes(void)
 {
-    static const unsigned expected[3][3] = {{1, 0, 0}, {1, 1, 0}, {0, 0, 1}};
+    static const unsigned expected[3][3] = {{SEARCHROOM_YES, SEARCHROOM_NO, SEARCHROOM_BLANK},
+                                            {SEARCHROOM_YES, SEARCHROOM_YES, SEARCHROOM_BLANK},
+                                            {SEARCHROOM_NO, SEARCHROOM_NO, SEARCHROOM_YES}};
     size_t len;
     uint8_t *question = read_file("examples/parish/question.bin", &len);
     for (unsigned c = 0; c < 3; c++) {
@@ -103,6 +105,36 @@ static void parish_outcomes(void)
         }
     }
     free(question);
+}
+
+/* Each kind and its opposite at 1701 and "Ash", and where year and parish are blank. */
+static void each_kind_at_values_and_at_blanks(void)
+{
+    enum { YES = SEARCHROOM_YES, NO = SEARCHROOM_NO, BLANK = SEARCHROOM_BLANK, OPPOSITE = 128 };
+    static const struct {
+        uint8_t len, payload[10];
+        unsigned at_value[2], at_blank[2];
+    } kinds[] = {
+        {10, {0, 0, 0, 0, 6, 0xA4, 0, 0, 7, 7}, {YES, NO}, {BLANK, BLANK}}, /* from 1700 to 1799 */
+        {2, {0, 1}, {NO, YES}, {YES, NO}},
+        {5, {1, 2, 'a', 's', 'h'}, {YES, NO}, {BLANK, BLANK}},
+        {4, {1, 3, 'a', 's'}, {YES, NO}, {BLANK, BLANK}},
+        {4, {1, 4, 's', 'h'}, {YES, NO}, {BLANK, BLANK}},
+        {2, {1, 5}, {NO, YES}, {YES, NO}},
+    };
+    for (size_t i = 0; i < sizeof kinds / sizeof *kinds; i++) {
+        uint8_t question[3 + sizeof kinds->payload] = {80, 0, kinds[i].len};
+        memcpy(question + 3, kinds[i].payload, kinds[i].len);
+        for (unsigned turned = 0; turned < 2; turned++) {
+            question[4] = (uint8_t)(kinds[i].payload[1] + turned * OPPOSITE);
+            size_t len = 3 + (size_t)kinds[i].len;
+            uint64_t at_value = searchroom_outcome(catalogue, catalogue_len, question, len, 0, 0);
+            uint64_t at_blank = searchroom_outcome(catalogue, catalogue_len, question, len, 2, 0);
+            EXPECT_EQ(searchroom_refusal(at_value) + searchroom_refusal(at_blank), SEARCHROOM_ACCEPTED);
+            EXPECT_EQ(searchroom_answer(at_value), kinds[i].at_value[turned]);
+            EXPECT_EQ(searchroom_answer(at_blank), kinds[i].at_blank[turned]);
+        }
+    }
 }
 
 static void no_such_entry_or_condition(void)
@@ -125,6 +157,7 @@ void question_cases(void)
     CASE(limits_of_questions);
     CASE(each_refusal);
     CASE(parish_outcomes);
+    CASE(each_kind_at_values_and_at_blanks);
     CASE(no_such_entry_or_condition);
     free(catalogue);
 }

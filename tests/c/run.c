@@ -83,6 +83,20 @@ static void parish_in_reverse(void)
     EXPECT_EQ(listed[0], 5);
 }
 
+/* Year not from 1700 to 1799: of 1701, 1822 and a blank the second alone is listed, and each is looked at. */
+static void undated_is_not_outside_the_century(void)
+{
+    static const uint8_t outside[] = {80, 0, 10, 0, 128, 0, 0, 6, 0xA4, 0, 0, 7, 7}, order[] = {0};
+    memset(tally, 0, sizeof tally);
+    uint64_t word = searchroom_run(catalogue, catalogue_len, outside, sizeof outside, order, sizeof order, listed,
+                                   sizeof listed, looks, sizeof looks, tally, SEARCHROOM_TALLY_BYTES);
+    EXPECT_EQ(searchroom_refusal(word), SEARCHROOM_ACCEPTED);
+    EXPECT_EQ(searchroom_found(word), 1);
+    EXPECT_EQ(searchroom_look_count(word), 3);
+    EXPECT_EQ(listed[0], 2);
+    EXPECT_EQ(looks[0], 7);
+}
+
 static void longer_tables_keep_their_further_bytes(void)
 {
     uint64_t word = run((Lengths){forward, 3, 40, 90, 8, 0x5A});
@@ -118,6 +132,7 @@ void run_cases(void)
     question = read_file("examples/parish/question.bin", &question_len);
     CASE(parish_in_order);
     CASE(parish_in_reverse);
+    CASE(undated_is_not_outside_the_century);
     CASE(longer_tables_keep_their_further_bytes);
     CASE(refusals_alter_nothing);
     free(catalogue);
