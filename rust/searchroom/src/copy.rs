@@ -13,8 +13,8 @@ pub const COPY_BYTES: usize = FIELD * MAX_CONDITIONS * 2_048;
 /// order registers, with its outcome. Gives the number of bytes written, seven times the look count.
 ///
 /// Each look has one field: tag 76, length 4, the entry (two bytes, most significant first), the condition's number, and
-/// what [`outcome`](crate::outcome) gives there (1 yes, 0 no). Entries ascend; in which sequence the fields of one entry
-/// follow each other is left open. They stand at the front of `output`, whose further bytes stay as they are;
+/// what [`outcome`](crate::outcome) gives there ([`Answer::number`]). Entries ascend; in which sequence the fields of one
+/// entry follow each other is left open. They stand at the front of `output`, whose further bytes stay as they are;
 /// [`COPY_BYTES`] bytes are enough for any copy. A refusal alters none. [`looks`] reads the fields.
 ///
 /// [`copy_of`] does the same with memory of its own.
@@ -60,12 +60,13 @@ pub fn copy_word(catalogue: &[u8], question: &[u8], order: &[u8], output: &mut [
 /// ```
 /// use searchroom::{Answer, Look};
 ///
+/// // Years 1701 and a blank. Year not from 1700 to 1799.
 /// let catalogue = [67, 0, 3, 0, 2, 1, 78, 0, 8, 0, 0, 6, 0xA5, 255, 255, 255, 255];
-/// let blank = [80, 0, 2, 0, 1];
-/// let copy = searchroom::copy_of(&catalogue, &blank, &[0])?;
+/// let outside = [80, 0, 10, 0, 128, 0, 0, 6, 0xA4, 0, 0, 7, 7];
+/// let copy = searchroom::copy_of(&catalogue, &outside, &[0])?;
 /// let looks: Vec<Look> = searchroom::looks(&copy).collect();
 /// assert_eq!(looks[0], Look { entry: 0, condition: 0, answer: Answer::No });
-/// assert_eq!(looks[1], Look { entry: 1, condition: 0, answer: Answer::Yes });
+/// assert_eq!(looks[1], Look { entry: 1, condition: 0, answer: Answer::Blank });
 /// # Ok::<(), searchroom::Refusal>(())
 /// ```
 ///

@@ -4,20 +4,30 @@ use crate::{Refusal, Word, sys};
 pub(crate) const MAX_CONDITIONS: usize = 64;
 
 /// What a condition answers at an entry.
+///
+/// A blank field meets neither a condition nor its opposite. A condition that asks for the blank itself, or its opposite,
+/// answers yes or no there.
 #[derive(Clone, Copy, Debug, PartialEq, Eq, Hash)]
+#[repr(u8)]
 pub enum Answer {
-    No,
-    Yes,
+    No = 0,
+    Yes = 1,
+    /// The field is blank. A run takes this as no.
+    Blank = 2,
 }
 
 impl Answer {
+    /// Every answer, by ascending number.
+    pub const ALL: [Answer; 3] = [Answer::No, Answer::Yes, Answer::Blank];
+
+    /// The number by which a call or a copy tells the answer.
+    pub fn number(self) -> u8 {
+        self as u8
+    }
+
     /// The answer that a call or a copy tells by this number, if there is one.
     pub(crate) fn from_number(number: u16) -> Option<Answer> {
-        match number {
-            0 => Some(Answer::No),
-            1 => Some(Answer::Yes),
-            _ => None,
-        }
+        Answer::ALL.into_iter().find(|answer| u16::from(answer.number()) == number)
     }
 }
 
@@ -49,11 +59,13 @@ pub fn check_question_word(catalogue: &[u8], question: &[u8]) -> Word {
 /// ```
 /// use searchroom::{Answer, Refusal, outcome};
 ///
-/// let catalogue = [67, 0, 3, 0, 1, 1, 78, 0, 4, 0, 0, 0x06, 0xA5];
-/// let question = [79, 0, 10, 80, 0, 2, 0, 1, 80, 0, 2, 0, 129];
+/// // Years 1701 and a blank. Year not from 1700 to 1799 (kind 128), or year blank (kind 1).
+/// let catalogue = [67, 0, 3, 0, 2, 1, 78, 0, 8, 0, 0, 6, 0xA5, 255, 255, 255, 255];
+/// let question = [79, 0, 18, 80, 0, 10, 0, 128, 0, 0, 6, 0xA4, 0, 0, 7, 7, 80, 0, 2, 0, 1];
 /// assert_eq!(outcome(&catalogue, &question, 0, 0), Ok(Answer::No));
-/// assert_eq!(outcome(&catalogue, &question, 0, 1), Ok(Answer::Yes));
-/// assert_eq!(outcome(&catalogue, &question, 1, 0), Err(Refusal::NoSuchPlace));
+/// assert_eq!(outcome(&catalogue, &question, 1, 0), Ok(Answer::Blank));
+/// assert_eq!(outcome(&catalogue, &question, 1, 1), Ok(Answer::Yes));
+/// assert_eq!(outcome(&catalogue, &question, 2, 0), Err(Refusal::NoSuchPlace));
 /// ```
 ///
 /// # Errors
@@ -66,7 +78,7 @@ pub fn outcome(catalogue: &[u8], question: &[u8], entry: u64, condition: u64) ->
     Ok(Answer::from_number(number).unwrap_or_else(|| panic!("the archive answered {number}, unknown here")))
 }
 
-/// Works out one condition at one entry. The first result is 1 for yes and 0 for no.
+/// Works out one condition at one entry. The first result is the number of an [`Answer`].
 pub fn outcome_word(catalogue: &[u8], question: &[u8], entry: u64, condition: u64) -> Word {
     // SAFETY: the call only reads the bytes of the two slices, and no pointer of a slice is null.
     Word(unsafe {

@@ -9,7 +9,8 @@ pub struct Counts {
     pub looks: u32,
 }
 
-/// Runs a question over a catalogue in a running order, into tables of the caller's.
+/// Runs a question over a catalogue in a running order, into tables of the caller's. It takes
+/// [`Answer::Blank`](crate::Answer::Blank) as no.
 ///
 /// With E entries and n conditions, a row takes ceiling(E / 8) bytes: entry e is the bit of weight 2^(e mod 8) in byte
 /// e div 8, unused bits zero. `listed` receives one row, `looks` one row for each condition in condition-number order;
