@@ -4,7 +4,7 @@ use crate::refusal::{self, Number};
 const MAX_OPERAND: usize = 23;
 const OPPOSITE: u8 = 128;
 
-/// A condition on one column. At every entry it gives what its test gives, or the opposite.
+/// A condition on one column: its test, or the opposite of that.
 #[derive(Clone, Debug, PartialEq, Eq)]
 pub struct Condition {
     pub column: usize,
@@ -23,11 +23,12 @@ pub enum Test {
     TextBlank,
 }
 
-/// What working out a condition at an entry answers.
+/// What working out a condition at an entry answers (order 2: yes, no or blank).
 #[derive(Clone, Copy, Debug, PartialEq, Eq)]
 pub enum Answer {
     No,
     Yes,
+    Blank,
 }
 
 impl Answer {
@@ -36,10 +37,11 @@ impl Answer {
         match self {
             Answer::No => 0,
             Answer::Yes => 1,
+            Answer::Blank => 2,
         }
     }
 
-    /// How a run takes it.
+    /// How a run takes it: blank as no.
     pub fn truth(self) -> bool {
         self == Answer::Yes
     }
@@ -76,16 +78,24 @@ fn read_text(operand: &[u8]) -> Option<Vec<u8>> {
 
 /// Works out a condition at an entry. Both are there in the catalogue.
 pub fn outcome(catalogue: &Catalogue, condition: &Condition, entry: usize) -> Answer {
-    let met = match &catalogue.columns[condition.column] {
-        Column::Numbers(numbers) => number_meets(&condition.test, numbers[entry]),
-        Column::Texts(texts) => text_meets(&condition.test, &texts[entry]),
+    let (is_blank, met) = match &catalogue.columns[condition.column] {
+        Column::Numbers(numbers) => (numbers[entry] == BLANK_NUMBER, number_meets(&condition.test, numbers[entry])),
+        Column::Texts(texts) => (texts[entry].is_empty(), text_meets(&condition.test, &texts[entry])),
     };
-    if met != condition.opposite { Answer::Yes } else { Answer::No }
+    let asks_for_blank = matches!(condition.test, Test::NumberBlank | Test::TextBlank);
+    if is_blank && !asks_for_blank {
+        // A blank field meets neither a condition nor its opposite.
+        Answer::Blank
+    } else if met != condition.opposite {
+        Answer::Yes
+    } else {
+        Answer::No
+    }
 }
 
 fn number_meets(test: &Test, number: u32) -> bool {
     match test {
-        Test::NumberFrom { low, high } => number != BLANK_NUMBER && *low <= number && number <= *high,
+        Test::NumberFrom { low, high } => *low <= number && number <= *high,
         Test::NumberBlank => number == BLANK_NUMBER,
         _ => unreachable!("a test of texts on a number column"),
     }

@@ -38,7 +38,7 @@ fn accepted_copy(catalogue: &[u8], question: &[u8], order: &[u8], output: &[u8])
     Ok(Copied { word: pack(0, 0, fields.len()), output: with_front(output, fields) })
 }
 
-/// Tag 76, length 4, entry (two bytes), condition number, outcome (1 yes, 0 no).
+/// Tag 76, length 4, entry (two bytes), condition number, outcome (0 no, 1 yes, 2 blank).
 fn look_field(entry: usize, condition: usize, outcome: usize) -> [u8; 7] {
     [LOOK_TAG, 0, 4, (entry / 256) as u8, (entry % 256) as u8, condition as u8, outcome as u8]
 }

@@ -36,7 +36,7 @@ pub fn question_word(catalogue: &[u8], question: &[u8]) -> u64 {
     word(read_both(catalogue, question).map(|(_, question)| pack(question.conditions.len(), 0, 0)))
 }
 
-/// What working out one condition answers: 1 or 0.
+/// What working out one condition answers: 0, 1 or 2.
 pub fn outcome_word(catalogue: &[u8], question: &[u8], entry: u64, condition: u64) -> u64 {
     word(read_both(catalogue, question).and_then(|(catalogue, question)| {
         if entry >= catalogue.entries as u64 || condition >= question.conditions.len() as u64 {

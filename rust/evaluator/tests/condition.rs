@@ -1,6 +1,7 @@
 //! The evaluator's own reading of one condition, held to document 01's cases and to other ways of saying the same.
 
 use evaluator::{Answer, BLANK_NUMBER, Catalogue, Column, Condition, Test, fold, outcome, read_condition};
+use generator::twelve_kinds;
 
 fn years(numbers: &[u32]) -> Catalogue {
     Catalogue { entries: numbers.len(), columns: vec![Column::Numbers(numbers.to_vec())] }
@@ -41,9 +42,12 @@ fn fold_is_lower_case_of_latin_1() {
 #[test]
 fn proved_case_4_years_of_a_century() {
     let century = range(1_700, 1_799);
-    for (year, inside) in [(1_699, false), (1_700, true), (1_799, true), (1_800, false), (BLANK_NUMBER, false)] {
-        assert_eq!(yes(&years(&[year]), 0, &century), inside, "{year}");
-        assert_eq!(yes(&years(&[year]), 128, &century), !inside, "opposite at {year}");
+    let (no, yes, blank) = (Answer::No, Answer::Yes, Answer::Blank);
+    for (year, inside, outside) in
+        [(1_699, no, yes), (1_700, yes, no), (1_799, yes, no), (1_800, no, yes), (BLANK_NUMBER, blank, blank)]
+    {
+        assert_eq!(at_first(&years(&[year]), 0, &century), inside, "{year}");
+        assert_eq!(at_first(&years(&[year]), 128, &century), outside, "opposite at {year}");
     }
 }
 
@@ -99,14 +103,33 @@ fn texts_up_to_folding() {
 }
 
 #[test]
-fn blanks() {
-    assert!(yes(&years(&[BLANK_NUMBER]), 1, b""));
-    assert!(!yes(&years(&[BLANK_NUMBER - 1]), 1, b""));
-    assert!(yes(&parishes(&[b""]), 5, b""));
-    assert!(!yes(&parishes(&[b"\0"]), 5, b""), "a text of one zero is not blank");
-    for kind in 2..=4 {
-        assert!(!yes(&parishes(&[b""]), kind, b"a"), "kind {kind} at a blank");
+fn each_kind_at_values_and_at_a_blank() {
+    let (catalogue, kinds) = twelve_kinds();
+    for kind in kinds {
+        let condition = read_condition(&catalogue, &kind.payload).expect("a sound payload");
+        let answers = [0, 1, 2].map(|entry| outcome(&catalogue, &condition, entry));
+        assert_eq!(answers, kind.answers, "kind {}", kind.number);
     }
+}
+
+/// The number below the blank's and a text of one zero are values: a condition or its opposite is met.
+#[test]
+fn values_that_are_nearly_blank() {
+    let (number, text) = (years(&[BLANK_NUMBER - 1]), parishes(&[b"\0"]));
+    for opposite in [0, 128] {
+        let met = opposite != 0;
+        assert_eq!(yes(&number, opposite, &range(0, 1)), met);
+        assert_eq!(yes(&number, 1 + opposite, b""), met);
+        for kind in 2..=4 {
+            assert_eq!(yes(&text, kind + opposite, b"a"), met, "kind {kind}");
+        }
+        assert_eq!(yes(&text, 5 + opposite, b""), met);
+    }
+}
+
+#[test]
+fn run_takes_blank_as_no() {
+    assert_eq!([Answer::No, Answer::Yes, Answer::Blank].map(Answer::truth), [false, true, false]);
 }
 
 /// Every byte value as the whole text and as the whole operand: the three text kinds are then all equality up to case.

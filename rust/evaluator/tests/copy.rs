@@ -1,4 +1,4 @@
-//! The evaluator's own copies, held to order 1's sentences.
+//! The evaluator's own copies, held to the sentences of orders 1 and 2.
 
 use evaluator::{Copied, copy, pack, refused};
 
@@ -11,7 +11,7 @@ const FIELDS: [[u8; 7]; 6] = [
     [76, 0, 4, 0, 0, 1, 1],
     [76, 0, 4, 0, 1, 0, 0],
     [76, 0, 4, 0, 1, 2, 0],
-    [76, 0, 4, 0, 2, 0, 0],
+    [76, 0, 4, 0, 2, 0, 2],
     [76, 0, 4, 0, 2, 2, 1],
 ];
 

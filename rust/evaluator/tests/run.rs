@@ -1,7 +1,10 @@
 //! The evaluator's own runs: document 01's cases, and its two ways to tell a due look held to each other.
 
-use evaluator::{Column, Found, Question, Tree, due_by_reach, due_by_trying, find, read_catalogue, read_question, run};
-use generator::{Rng, catalogue_of, question_of};
+use evaluator::{
+    Column, Found, Question, Tree, due_by_reach, due_by_trying, find, read_catalogue, read_condition, read_question,
+    run,
+};
+use generator::{Rng, catalogue_of, question_of, twelve_kinds};
 
 const CATALOGUE: &[u8] = include_bytes!("../../../examples/parish/catalogue.bin");
 const QUESTION: &[u8] = include_bytes!("../../../examples/parish/question.bin");
@@ -35,6 +38,31 @@ fn tables_of_the_parish() {
     assert_eq!(ran.listed, [0b101, 255]);
     assert_eq!(ran.looks, [0b111, 0b001, 0b110, 255]);
     assert_eq!(ran.tally, [0, 0, 0, 0, 0, 0, 1, 0]);
+}
+
+/// A condition and its opposite at a value that meets the one, at a value that meets the other, and at a blank, at which
+/// only those that ask for the blank are met.
+#[test]
+fn condition_and_its_opposite() {
+    let (catalogue, kinds) = twelve_kinds();
+    for pair in kinds.chunks(2) {
+        let conditions: Vec<_> =
+            pair.iter().map(|kind| read_condition(&catalogue, &kind.payload).expect("a sound payload")).collect();
+        let found = |group: fn(Vec<Tree>) -> Tree| {
+            let tree = group(vec![Tree::Condition(0), Tree::Condition(1)]);
+            find(&catalogue, &Question { tree, conditions: conditions.clone() }, &[0, 1])
+        };
+        let (any, all) = (found(Tree::AnyOf), found(Tree::AllOf));
+        let kind = pair[0].number;
+        let (met, listed) = if matches!(kind, 1 | 5) {
+            ([false, false, true], [true, true, true])
+        } else {
+            ([true, false, false], [true, true, false])
+        };
+        assert_eq!((any.listed, all.listed), (listed.to_vec(), vec![false; 3]), "kind {kind}");
+        assert_eq!(any.looks, [vec![true; 3], met.map(|met| !met).to_vec()], "any of, kind {kind}");
+        assert_eq!(all.looks, [vec![true; 3], met.to_vec()], "all of, kind {kind}");
+    }
 }
 
 /// On random trees, orders and patterns, at every turn with at most ten later conditions: trying all later outcomes, and reach, agree.

@@ -34,13 +34,33 @@ pub fn catalogue(rng: &mut Rng) -> Catalogue {
     catalogue_of(rng, entries, columns)
 }
 
-/// A catalogue of `entries` and `columns`, each column of numbers or of texts.
+/// A catalogue of `entries` and `columns`, each column of numbers or of texts. Of its values an eighth are blank, or more, or
+/// nearly all.
 pub fn catalogue_of(rng: &mut Rng, entries: usize, columns: usize) -> Catalogue {
-    let columns = (0..columns).map(|_| column(rng, entries)).collect();
-    Catalogue { entries, columns }
+    let mut blanked = || {
+        let column = column(rng, entries);
+        let percent = *rng.pick(&[0, 20, 50, 90]);
+        with_blanks(column, |_| rng.chance(percent))
+    };
+    Catalogue { entries, columns: (0..columns).map(|_| blanked()).collect() }
 }
 
-fn column(rng: &mut Rng, entries: usize) -> Column {
+/// The column, blank at these entries too.
+pub fn with_blanks(column: Column, mut is_blank: impl FnMut(usize) -> bool) -> Column {
+    match column {
+        Column::Numbers(numbers) => {
+            let blanked = |(entry, number)| if is_blank(entry) { BLANK_NUMBER } else { number };
+            Column::Numbers(numbers.into_iter().enumerate().map(blanked).collect())
+        }
+        Column::Texts(texts) => {
+            let blanked = |(entry, text)| if is_blank(entry) { Vec::new() } else { text };
+            Column::Texts(texts.into_iter().enumerate().map(blanked).collect())
+        }
+    }
+}
+
+/// A column of numbers or of texts, an eighth of them blank.
+pub fn column(rng: &mut Rng, entries: usize) -> Column {
     if rng.chance(50) {
         Column::Numbers((0..entries).map(|_| number(rng)).collect())
     } else {

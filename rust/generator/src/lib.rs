@@ -1,4 +1,5 @@
-//! Random inputs from a seed: decoded values, their bytes, and damages to bytes.
+//! Random inputs from a seed: decoded values, their bytes, and damages to bytes. Beside them, worked by hand, the twelve kinds
+//! with their answers.
 //!
 //! The same seed gives the same input on every machine, so that a test which fails names the seed and no more.
 
@@ -6,15 +7,17 @@ mod catalogue;
 mod county;
 mod damage;
 mod encode;
+mod kinds;
 mod near;
 mod outcomes;
 mod question;
 mod rng;
 
-pub use catalogue::{catalogue, catalogue_of, text};
+pub use catalogue::{catalogue, catalogue_of, column, text, with_blanks};
 pub use county::county;
 pub use damage::{Damage, damage};
 pub use encode::{encode_catalogue, encode_condition, encode_question, encode_texts, field};
+pub use kinds::{Kind, twelve_kinds};
 pub use near::{near_text, operand};
 pub use outcomes::{BLOCK, Pattern, with_outcomes};
 pub use question::{condition, faulty_question, question, question_of, running_order, tree_of};

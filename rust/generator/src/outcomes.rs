@@ -1,6 +1,7 @@
 use evaluator::{Catalogue, Column, Condition, Test};
 
 use crate::Rng;
+use crate::catalogue::with_blanks;
 
 /// The engine works a block of so many entries at a time.
 pub const BLOCK: usize = 64;
@@ -16,6 +17,8 @@ pub enum Pattern {
     /// The same place of every block.
     OneOfEach,
     AllButOneOfEach,
+    /// The first and the last place of every block.
+    Ends,
     Every(usize),
     /// Neighbours alike, in stretches of up to so many entries.
     Stretches(usize),
@@ -24,7 +27,7 @@ pub enum Pattern {
 }
 
 impl Pattern {
-    pub const ALL: [Pattern; 14] = [
+    pub const ALL: [Pattern; 15] = [
         Pattern::All,
         Pattern::None,
         Pattern::Half,
@@ -32,6 +35,7 @@ impl Pattern {
         Pattern::AllButFew,
         Pattern::OneOfEach,
         Pattern::AllButOneOfEach,
+        Pattern::Ends,
         Pattern::Every(2),
         Pattern::Every(8),
         Pattern::Every(63),
@@ -53,6 +57,7 @@ impl Pattern {
             Pattern::AllButFew => !rng.chance(4),
             Pattern::OneOfEach => entry % BLOCK == place,
             Pattern::AllButOneOfEach => entry % BLOCK != place,
+            Pattern::Ends => [0, BLOCK - 1].contains(&(entry % BLOCK)),
             Pattern::Every(step) => (entry + place) % step == 0,
             Pattern::Stretches(longest) => {
                 if left == 0 {
@@ -72,21 +77,24 @@ impl Pattern {
     }
 }
 
-/// A catalogue and conditions whose outcomes at its entries are these, one row for each condition, of up to 64. Some are
-/// worked out on numbers and some on texts, some are opposites.
+/// A catalogue and conditions whose outcomes at its entries are these as a run takes them, one row for each condition, of up
+/// to 64. Some are worked out on numbers and some on texts, some are opposites, and some of the noes are a blank's.
 pub fn with_outcomes(rng: &mut Rng, entries: usize, outcomes: &[Vec<bool>]) -> (Catalogue, Vec<Condition>) {
     const NUMBERS: usize = 8;
     const TEXTS: usize = 3;
+    // Filled with what no condition asks for: left empty, a text would be a blank, at which no opposite is met.
     let mut numbers = vec![vec![0; entries]; NUMBERS];
-    let mut texts = vec![vec![Vec::new(); entries]; TEXTS];
-    // Condition c has a column of numbers, or one letter of a column of texts, to itself.
-    let mut places: Vec<usize> = (0..outcomes.len()).collect();
+    let mut texts = vec![vec![b"-".to_vec(); entries]; TEXTS];
+    // Where some condition on a column is to give yes: no blank can stand there.
+    let mut wanted = vec![vec![false; entries]; NUMBERS + TEXTS];
+    // Condition c has a column of numbers, or one letter of a column of texts, to itself; of a few conditions, half a text's.
+    let mut places: Vec<usize> = (0..outcomes.len().max(2 * NUMBERS)).collect();
     rng.shuffle(&mut places);
     let mut conditions = Vec::new();
     for (&place, outcome) in places.iter().zip(outcomes) {
         let opposite = rng.chance(35);
         let met = outcome.iter().enumerate().filter(|&(_, &yes)| yes != opposite).map(|(entry, _)| entry);
-        conditions.push(if place < NUMBERS {
+        let condition = if place < NUMBERS {
             let low = rng.between(1, 9) as u32;
             met.for_each(|entry| numbers[place][entry] = low);
             Condition { column: place, test: Test::NumberFrom { low, high: low }, opposite }
@@ -94,8 +102,12 @@ pub fn with_outcomes(rng: &mut Rng, entries: usize, outcomes: &[Vec<bool>]) -> (
             let (column, letter) = ((place - NUMBERS) % TEXTS, b'a' + ((place - NUMBERS) / TEXTS) as u8);
             met.for_each(|entry| texts[column][entry].push(letter));
             Condition { column: NUMBERS + column, test: Test::Contains(vec![letter]), opposite }
-        });
+        };
+        wanted[condition.column].iter_mut().zip(outcome).for_each(|(wanted, yes)| *wanted |= yes);
+        conditions.push(condition);
     }
     let columns = numbers.into_iter().map(Column::Numbers).chain(texts.into_iter().map(Column::Texts));
+    let columns =
+        columns.zip(wanted).map(|(column, wanted)| with_blanks(column, |entry| !wanted[entry] && rng.chance(40)));
     (Catalogue { entries, columns: columns.collect() }, conditions)
 }
