@@ -33,3 +33,6 @@ pub const PARISH_QUESTION: &[u8] = include_bytes!("../../../examples/parish/ques
 
 /// Its running order 0, 1, 2.
 pub const PARISH_ORDER: &[u8] = include_bytes!("../../../examples/parish/order.bin");
+
+/// Another question on the parish: year not from 1700 to 1799.
+pub const OUTSIDE_THE_CENTURY: &[u8] = &[80, 0, 10, 0, 128, 0, 0, 6, 0xA4, 0, 0, 7, 7];

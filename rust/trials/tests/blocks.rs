@@ -3,7 +3,8 @@
 
 use evaluator::{BLANK_NUMBER, Catalogue, Column, Condition, Question, Ran, Test, Tree, pack};
 use generator::{
-    BLOCK, Pattern, Rng, catalogue_of, near_text, operand, question_of, running_order, tree_of, with_outcomes,
+    BLOCK, Pattern, Rng, catalogue_of, near_text, operand, question_of, running_order, tree_of, with_blanks,
+    with_outcomes,
 };
 use trials::{Run, compare_copy, compare_run, fewer, seeds};
 
@@ -43,6 +44,10 @@ fn compare(rng: &mut Rng, label: &str, catalogue: &Catalogue, question: &Questio
         assert_eq!(copied.word, pack(0, 0, written), "{label}, the copy");
     }
     ran
+}
+
+fn found_count(ran: &Ran) -> usize {
+    (ran.word >> 8) as u16 as usize
 }
 
 fn look_count(ran: &Ran) -> usize {
@@ -236,23 +241,55 @@ fn groups_nested_eight_deep_and_64_conditions() {
 }
 
 /// Runs a condition on column 1 where it is due everywhere, and where another on column 0 leaves it due at some entries
-/// alone. The catalogue's last column ends where readable memory ends.
-fn compare_condition(rng: &mut Rng, label: &str, column: Column, test: Test) {
+/// alone; then its opposite. The catalogue's last column ends where readable memory ends. Gives the number of entries that
+/// the condition lists where it is due everywhere, and that of its opposite.
+fn compare_condition(rng: &mut Rng, label: &str, column: Column, test: Test) -> [usize; 2] {
     let size = match &column {
         Column::Numbers(numbers) => numbers.len(),
         Column::Texts(texts) => texts.len(),
     };
-    for opposite in [false, true] {
+    [false, true].map(|opposite| {
         let condition = Condition { column: 1, test: test.clone(), opposite };
         let pattern = *rng.pick(&Pattern::ALL);
         let gate = pattern.of(rng, size).into_iter().map(u32::from).collect();
         let made = Catalogue { entries: size, columns: vec![Column::Numbers(gate), column.clone()] };
         let bare = Question { tree: Tree::Condition(0), conditions: vec![condition.clone()] };
-        compare(rng, &format!("{label}, {condition:?}"), &made, &bare, &[0]);
+        let found = found_count(&compare(rng, &format!("{label}, {condition:?}"), &made, &bare, &[0]));
         let gate = Condition { column: 0, test: Test::NumberFrom { low: 1, high: 1 }, opposite: rng.chance(50) };
         let tree = if rng.chance(50) { all_of(2) } else { any_of(2) };
         let gated = Question { tree, conditions: vec![gate, condition.clone()] };
         compare(rng, &format!("{label}, {pattern:?} due, {condition:?}"), &made, &gated, &[0, 1]);
+        found
+    })
+}
+
+/// Blanks in every kind of pattern, one of them the ends of blocks, among values that meet a condition and values that do
+/// not: neither the condition nor its opposite lists a blank, unless they ask for it.
+#[test]
+fn blanks_among_the_entries_of_a_block() {
+    for size in [63, 64, 65, 128, 2_048].into_iter().filter(|&size| size < 2_048 || !fewer()) {
+        for blanks in Pattern::ALL {
+            let mut rng = Rng::new(size as u64);
+            let (blank, met) = (blanks.of(&mut rng, size), Pattern::Half.of(&mut rng, size));
+            let years = Column::Numbers(met.iter().map(|&met| if met { 1_750 } else { 1_900 }).collect());
+            let parish = |met: &bool| if *met { b"Ashby".to_vec() } else { b"Kirk".to_vec() };
+            let parishes = Column::Texts(met.iter().map(parish).collect());
+            let [years, parishes] = [years, parishes].map(|column| with_blanks(column, |entry| blank[entry]));
+            let values = |of: bool| (0..size).filter(|&entry| !blank[entry] && met[entry] == of).count();
+            let (met, other) = (values(true), values(false));
+            let (by_value, by_blank) = ([met, other], [size - met - other, met + other]);
+            for (column, test, listed) in [
+                (&years, Test::NumberFrom { low: 1_700, high: 1_799 }, by_value),
+                (&years, Test::NumberBlank, by_blank),
+                (&parishes, Test::Equals(b"ashby".to_vec()), by_value),
+                (&parishes, Test::BeginsWith(b"ASH".to_vec()), by_value),
+                (&parishes, Test::Contains(b"hb".to_vec()), by_value),
+                (&parishes, Test::TextBlank, by_blank),
+            ] {
+                let label = format!("{size} entries, blank: {blanks:?}, {test:?}");
+                assert_eq!(compare_condition(&mut rng, &label, column.clone(), test), listed, "{label}");
+            }
+        }
     }
 }
 

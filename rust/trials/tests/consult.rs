@@ -7,7 +7,7 @@ use evaluator::{Catalogue, Column, Condition, Question, Test, Tree, refused_regi
 use generator::{
     Rng, catalogue_of, encode_catalogue, encode_question, faulty_question, field, question_of, running_order,
 };
-use trials::{PARISH_CATALOGUE, PARISH_ORDER, PARISH_QUESTION, Room, Seen};
+use trials::{OUTSIDE_THE_CENTURY, PARISH_CATALOGUE, PARISH_ORDER, PARISH_QUESTION, Room, Seen};
 
 const FILES: [(&str, usize); 3] = [("catalogue.bin", 65_536), ("question.bin", 4_096), ("order.bin", 64)];
 
@@ -35,6 +35,13 @@ fn proved_case_2_prints_other_looks() {
     let expected =
         "consultation register\nfound 2\nentry 0\nentry 2\nlooks 7\ncondition 0 2\ncondition 1 2\ncondition 2 3\n";
     assert_eq!(consult("P2", PARISH_CATALOGUE, PARISH_QUESTION, &[2, 1, 0]), expected);
+}
+
+/// The blank year is looked at and not listed.
+#[test]
+fn undated_entry_is_not_outside_the_century() {
+    let expected = "consultation register\nfound 1\nentry 1\nlooks 3\ncondition 0 3\n";
+    assert_eq!(consult("outside the century", PARISH_CATALOGUE, OUTSIDE_THE_CENTURY, &[0]), expected);
 }
 
 /// The tally starts at zero in each consultation, and none leaves anything behind.

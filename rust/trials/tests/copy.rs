@@ -1,9 +1,10 @@
 //! `searchroom_copy` against the evaluator and against a run of the same: the word and every byte of the output, accepted
 //! and refused. How the fields of one entry follow each other is left open, so no test depends on it.
 
-use evaluator::{BLANK_NUMBER, Catalogue, Column, Condition, Question, Test, Tree, pack, refused};
+use evaluator::{Catalogue, Column, Condition, Question, Test, Tree, pack, refused};
 use generator::{
-    Rng, catalogue_of, encode_catalogue, field, question, question_of, running_order, tree_of, with_outcomes,
+    Rng, catalogue_of, encode_catalogue, field, question, question_of, running_order, tree_of, twelve_kinds,
+    with_outcomes,
 };
 use searchroom::{Answer, COPY_BYTES, Look, Refusal, consult, copy, copy_of, looks, outcome};
 use trials::{
@@ -18,7 +19,7 @@ const PARISH_FIELDS: [[u8; 7]; 6] = [
     [76, 0, 4, 0, 0, 1, 1],
     [76, 0, 4, 0, 1, 0, 0],
     [76, 0, 4, 0, 1, 2, 0],
-    [76, 0, 4, 0, 2, 0, 0],
+    [76, 0, 4, 0, 2, 0, 2],
     [76, 0, 4, 0, 2, 2, 1],
 ];
 
@@ -31,8 +32,9 @@ fn parish(order: &[u8], length: usize) -> (u64, Vec<u8>) {
 }
 
 /// Copies into outputs that are just long enough, longer, and too short. Then holds the copy to a run of the same: it tells
-/// each look that the run registers, once, and no other, and each with the outcome that the engine gives by itself.
-fn expect_as_run(label: &str, catalogue: &Catalogue, question: &Question, order: &[u8]) {
+/// each look that the run registers, once, and no other, and each with the outcome that the engine gives by itself. Gives
+/// the looks.
+fn expect_as_run(label: &str, catalogue: &Catalogue, question: &Question, order: &[u8]) -> Vec<Look> {
     let given = Run::fitting(catalogue, question, order);
     let found = consult(&given.catalogue, &given.question, order, &mut 0).expect("an accepted run");
     let written = 7 * found.counts().looks as usize;
@@ -50,10 +52,11 @@ fn expect_as_run(label: &str, catalogue: &Catalogue, question: &Question, order:
         let entries: Vec<usize> = of_condition.map(|look| look.entry.into()).collect();
         assert_eq!(entries, found.looked_at(condition).collect::<Vec<_>>(), "{label}: condition {condition}");
     }
-    for look in told {
+    for look in &told {
         let by_itself = outcome(&given.catalogue, &given.question, look.entry.into(), look.condition.into());
         assert_eq!(by_itself, Ok(look.answer), "{label}: {look:?}");
     }
+    told
 }
 
 #[test]
@@ -81,12 +84,12 @@ fn wrapper_gives_the_parish_as_values() {
     let mut output = [FILL; 43];
     assert_eq!(copy(PARISH_CATALOGUE, PARISH_QUESTION, PARISH_ORDER, &mut output), Ok(42));
     let copied = copy_of(PARISH_CATALOGUE, PARISH_QUESTION, PARISH_ORDER).expect("an accepted copy");
-    let (yes, no) = (Answer::Yes, Answer::No);
+    let (yes, no, blank) = (Answer::Yes, Answer::No, Answer::Blank);
     for bytes in [&output[..42], &copied] {
         let mut told: Vec<(u16, u8, Answer)> =
             looks(bytes).map(|Look { entry, condition, answer }| (entry, condition, answer)).collect();
         told.sort_by_key(|&(entry, condition, _)| (entry, condition));
-        assert_eq!(told, [(0, 0, yes), (0, 1, yes), (1, 0, no), (1, 2, no), (2, 0, no), (2, 2, yes)]);
+        assert_eq!(told, [(0, 0, yes), (0, 1, yes), (1, 0, no), (1, 2, no), (2, 0, blank), (2, 2, yes)]);
     }
     let refused = copy(PARISH_CATALOGUE, PARISH_QUESTION, PARISH_ORDER, &mut output[..41]);
     assert_eq!(refused, Err(Refusal::ShortOutput));
@@ -98,7 +101,7 @@ fn wrapper_gives_the_parish_as_values() {
 #[test]
 fn looks_end_before_what_is_no_look() {
     let sound = PARISH_FIELDS[1];
-    for (at, byte) in [(0, 75), (0, 77), (1, 1), (2, 3), (2, 5), (6, 2), (6, 255)] {
+    for (at, byte) in [(0, 75), (0, 77), (1, 1), (2, 3), (2, 5), (6, 3), (6, 255)] {
         let mut other = sound;
         other[at] = byte;
         let bytes = [sound, other, sound].concat();
@@ -150,32 +153,42 @@ fn earlier_of_two_refusals_decides() {
     expect(1, &Copying { catalogue: &[], question: &[], order: &[], output: &[] });
 }
 
-/// Each kind and its opposite at a value that meets it or does not and at a blank: the outcome is the condition's own.
+/// Each kind at values and at a blank: the outcome is the condition's own.
 #[test]
 fn each_kind_and_its_opposite() {
-    let numbers = Column::Numbers(vec![1_750, 1_900, BLANK_NUMBER]);
-    let texts = Column::Texts(vec![b"Ashby".to_vec(), b"Kirk".to_vec(), vec![]]);
-    let catalogue = encode_catalogue(&Catalogue { entries: 3, columns: vec![numbers, texts] });
-    let century = [1_700_u32.to_be_bytes(), 1_799_u32.to_be_bytes()].concat();
-    for (column, kind, operand, met) in [
-        (0, 0, century.as_slice(), [true, false, false]),
-        (0, 1, b"", [false, false, true]),
-        (1, 2, b"ASHBY", [true, false, false]),
-        (1, 3, b"ash", [true, false, false]),
-        (1, 4, b"HB", [true, false, false]),
-        (1, 5, b"", [false, false, true]),
-    ] {
-        for (kind, yes) in [(kind, met), (kind + 128, met.map(|met| !met))] {
-            let question = field(80, &[&[column, kind], operand].concat());
-            let given = Copying { catalogue: &catalogue, question: &question, order: &[0], output: &[FILL; 21] };
-            let copied = compare_copy(&format!("kind {kind}"), &given);
-            let expected = [0, 1, 2].map(|entry| [76, 0, 4, 0, entry, 0, yes[usize::from(entry)].into()]);
-            assert_eq!(copied.output, expected.concat(), "kind {kind}");
-            for (entry, yes) in (0..).zip(yes) {
-                let answer = if yes { Answer::Yes } else { Answer::No };
-                assert_eq!(outcome(&catalogue, &question, entry, 0), Ok(answer), "kind {kind} at entry {entry}");
-            }
-        }
+    let (made, kinds) = twelve_kinds();
+    let catalogue = encode_catalogue(&made);
+    for kind in kinds {
+        let (label, question) = (format!("kind {}", kind.number), field(80, &kind.payload));
+        let given = Copying { catalogue: &catalogue, question: &question, order: &[0], output: &[FILL; 21] };
+        let copied = compare_copy(&label, &given);
+        let outcomes = kind.answers.map(|answer| answer.number() as u8);
+        let expected = [0, 1, 2].map(|entry| [76, 0, 4, 0, entry, 0, outcomes[usize::from(entry)]]);
+        assert_eq!(copied.output, expected.concat(), "{label}");
+    }
+}
+
+/// Year from 1700 to 1799 and its opposite, on the parish, in both orders: at the blank both answer blank, and in an all-of
+/// group the first of them settles it.
+#[test]
+fn condition_and_its_opposite() {
+    let century = [0, 0, 6, 0xA4, 0, 0, 7, 7];
+    let members = [0, 128].map(|kind| field(80, &[&[0, kind], century.as_slice()].concat())).concat();
+    // The entry, the condition and the outcome of each look.
+    type Looks<'a> = &'a [[u8; 3]];
+    let cases: [(u8, [u8; 2], Looks); 4] = [
+        (79, [0, 1], &[[0, 0, 1], [1, 0, 0], [1, 1, 1], [2, 0, 2], [2, 1, 2]]),
+        (79, [1, 0], &[[0, 0, 1], [0, 1, 0], [1, 1, 1], [2, 0, 2], [2, 1, 2]]),
+        (65, [0, 1], &[[0, 0, 1], [0, 1, 0], [1, 0, 0], [2, 0, 2]]),
+        (65, [1, 0], &[[0, 1, 0], [1, 0, 0], [1, 1, 1], [2, 1, 2]]),
+    ];
+    for (tag, order, looks) in cases {
+        let (label, question) = (format!("group of tag {tag}, order {order:?}"), field(tag, &members));
+        let output = vec![FILL; 7 * looks.len()];
+        let given = Copying { catalogue: PARISH_CATALOGUE, question: &question, order: &order, output: &output };
+        let expected: Vec<[u8; 7]> =
+            looks.iter().map(|&[entry, condition, outcome]| [76, 0, 4, 0, entry, condition, outcome]).collect();
+        assert_eq!(compare_copy(&label, &given).output, expected.concat(), "{label}");
     }
 }
 
@@ -234,13 +247,18 @@ fn every_pattern_of_outcomes() {
 
 #[test]
 fn random_copies_tell_their_runs() {
+    let mut told: Vec<Look> = Vec::new();
     for seed in seeds(1_000) {
         let mut rng = Rng::new(seed);
         let (entries, columns) = (rng.between(0, 40), rng.between(1, 6));
         let made = catalogue_of(&mut rng, entries, columns);
         let asked = question(&mut rng, &made);
         let order = running_order(&mut rng, asked.conditions.len());
-        expect_as_run(&format!("random copy, seed {seed}"), &made, &asked, &order);
+        told.extend(expect_as_run(&format!("random copy, seed {seed}"), &made, &asked, &order));
+    }
+    for answer in Answer::ALL {
+        let times = told.iter().filter(|look| look.answer == answer).count();
+        assert!(times > told.len() / 10, "{answer:?} was told {times} times in {}", told.len());
     }
 }
 

@@ -4,7 +4,7 @@ use std::collections::BTreeMap;
 use std::fs;
 use std::path::Path;
 
-use searchroom::Refusal;
+use searchroom::{Answer, Refusal};
 
 const HEADER: &str = include_str!("../../../include/searchroom.h");
 
@@ -90,6 +90,10 @@ fn header_has_the_constants_of_the_crates() {
     expected.insert("LOOKS_BYTES".to_string(), row * of["Predicate::LIMIT"]);
     let most_looks = of["Row::LIMIT"] * of["Predicate::LIMIT"];
     expected.insert("COPY_BYTES".to_string(), of["ProbeField::SIZE"] * most_looks);
+    // The crates have no constants for these: that the engine answers the wrapper's numbers is seen in outcome.rs.
+    for (name, answer) in [("NO", Answer::No), ("YES", Answer::Yes), ("BLANK", Answer::Blank)] {
+        expected.insert(name.to_string(), answer.number().into());
+    }
     let header = header_constants();
     for name in header.keys().chain(expected.keys()) {
         assert_eq!(header.get(name), expected.get(name), "SEARCHROOM_{name}: the header's and the crates'");

@@ -1,12 +1,13 @@
 //! `searchroom_outcome` against the evaluator: every kind, every byte value, and every number out of range.
 
 use evaluator::{Catalogue, Column, Condition, Question, Test, Tree, outcome, pack, refused};
-use generator::{Damage, Rng, catalogue_of, damage, encode_catalogue, encode_question, field, question};
+use generator::{Damage, Rng, catalogue_of, damage, encode_catalogue, encode_question, field, question, twelve_kinds};
 use searchroom::{Answer, Refusal};
 use trials::{PARISH_CATALOGUE, PARISH_QUESTION, Seen, compare_outcome};
 
-const YES: u64 = 1 << 8;
 const NO: u64 = 0;
+const YES: u64 = 1 << 8;
+const BLANK: u64 = 2 << 8;
 
 /// A catalogue of one column.
 fn one_column(column: Column) -> Catalogue {
@@ -36,7 +37,7 @@ fn compare_everywhere(label: &str, catalogue: &Catalogue, question: &Question) {
 
 #[test]
 fn parish_in_full() {
-    let expected = [[YES, NO, NO], [YES, YES, NO], [NO, NO, YES]];
+    let expected = [[YES, NO, BLANK], [YES, YES, BLANK], [NO, NO, YES]];
     for (condition, row) in expected.iter().enumerate() {
         for (entry, &word) in row.iter().enumerate() {
             let (entry, condition) = (entry as u64, condition as u64);
@@ -44,8 +45,20 @@ fn parish_in_full() {
         }
     }
     assert_eq!(searchroom::outcome(PARISH_CATALOGUE, PARISH_QUESTION, 0, 0), Ok(Answer::Yes));
-    assert_eq!(searchroom::outcome(PARISH_CATALOGUE, PARISH_QUESTION, 2, 1), Ok(Answer::No));
+    assert_eq!(searchroom::outcome(PARISH_CATALOGUE, PARISH_QUESTION, 1, 0), Ok(Answer::No));
+    assert_eq!(searchroom::outcome(PARISH_CATALOGUE, PARISH_QUESTION, 2, 1), Ok(Answer::Blank));
     assert_eq!(searchroom::outcome(PARISH_CATALOGUE, PARISH_QUESTION, 3, 0), Err(Refusal::NoSuchPlace));
+}
+
+#[test]
+fn each_kind_at_values_and_at_a_blank() {
+    let (made, kinds) = twelve_kinds();
+    let catalogue = encode_catalogue(&made);
+    for kind in kinds {
+        let (label, question) = (format!("kind {}", kind.number), field(80, &kind.payload));
+        let words = [0, 1, 2].map(|entry| compare_outcome(&label, &catalogue, &question, entry, 0));
+        assert_eq!(words, kind.answers.map(|answer| pack(answer.number(), 0, 0)), "{label}");
+    }
 }
 
 /// An out-of-range number is 18 even where its low bits, cut to some width, would be in range.
@@ -110,8 +123,8 @@ fn proved_case_4_and_ranges_at_their_ends() {
     let asked = |kind| field(80, &[&[0, kind], [0, 0, 6, 0xA4, 0, 0, 7, 7].as_slice()].concat());
     let years = encode_catalogue(&one_column(Column::Numbers(vec![1_699, 1_700, 1_799, 1_800, u32::MAX])));
     let words = |kind| [0, 1, 2, 3, 4].map(|entry| compare_outcome("P4", &years, &asked(kind), entry, 0));
-    assert_eq!(words(0), [NO, YES, YES, NO, NO]);
-    assert_eq!(words(128), [YES, NO, NO, YES, YES]);
+    assert_eq!(words(0), [NO, YES, YES, NO, BLANK]);
+    assert_eq!(words(128), [YES, NO, NO, YES, BLANK]);
 }
 
 #[test]
@@ -191,7 +204,7 @@ fn random_conditions_everywhere() {
 #[test]
 fn random_calls_reach_every_refusal() {
     let mut seen = Seen::none();
-    let mut yes = 0;
+    let (mut yes, mut blank) = (0, 0);
     for seed in 0..40_000 {
         let mut rng = Rng::new(seed);
         let (entries, columns) = (rng.between(1, 6), rng.between(1, 4));
@@ -211,8 +224,9 @@ fn random_calls_reach_every_refusal() {
         let word = compare_outcome(&format!("seed {seed}"), &catalogue, &asked, entry, condition);
         seen.count(word);
         yes += u32::from(word == YES);
+        blank += u32::from(word == BLANK);
     }
     seen.assert_each(0..=14, 20);
     seen.assert_each(18..=18, 20);
-    assert!(yes > 1_000, "{yes} calls answered yes");
+    assert!(yes > 1_000 && blank > 1_000, "{yes} calls answered yes, {blank} blank");
 }

@@ -1,9 +1,11 @@
 //! `searchroom_run` against the evaluator: the word and every lent byte, accepted and refused.
 
-use evaluator::{Catalogue, Column, Condition, Question, Ran, Test, Tree, pack, refused};
-use generator::{Rng, catalogue, catalogue_of, field, question, question_of, running_order};
+use evaluator::{Answer, Catalogue, Column, Condition, Question, Ran, Test, Tree, pack, refused};
+use generator::{
+    Rng, catalogue, catalogue_of, encode_catalogue, field, question, question_of, running_order, twelve_kinds,
+};
 use searchroom::{Refusal, consult};
-use trials::{Damaged, PARISH_CATALOGUE, PARISH_ORDER, PARISH_QUESTION, Run, Seen, compare_run};
+use trials::{Damaged, OUTSIDE_THE_CENTURY, PARISH_CATALOGUE, PARISH_ORDER, PARISH_QUESTION, Run, Seen, compare_run};
 
 fn parish(order: &[u8]) -> Run {
     Run {
@@ -50,6 +52,39 @@ fn wrapper_gives_the_parish_as_values() {
     let mut full = u64::MAX - 5;
     assert_eq!(consult(PARISH_CATALOGUE, PARISH_QUESTION, PARISH_ORDER, &mut full), Err(Refusal::BadTally));
     assert_eq!(full, u64::MAX - 5);
+}
+
+/// Of 1701, 1822 and a blank the second alone is listed, and each is looked at.
+#[test]
+fn undated_entry_is_not_outside_the_century() {
+    let given = Run { question: OUTSIDE_THE_CENTURY.to_vec(), looks: vec![0], ..parish(&[0]) };
+    let ran = compare_run("outside the century", &given);
+    assert_eq!((ran.word, ran.listed, ran.looks), (pack(1, 0, 3), vec![0b010], vec![0b111]));
+}
+
+/// Any of a condition and its opposite, and all of them, for each kind and in both orders. At a blank neither of two that
+/// ask for a value is met: any-of has two looks there and lists nothing, all-of has one.
+#[test]
+fn condition_and_its_opposite() {
+    let (made, kinds) = twelve_kinds();
+    for pair in kinds.chunks(2) {
+        let members: Vec<u8> = pair.iter().flat_map(|kind| field(80, &kind.payload)).collect();
+        let yes =
+            |at: usize| -> u8 { (0..3).map(|entry| u8::from(pair[at].answers[entry] == Answer::Yes) << entry).sum() };
+        for (first, second) in [(0, 1), (1, 0)] {
+            for (tag, listed, due) in [(79, yes(0) | yes(1), 0b111 - yes(first)), (65, 0, yes(first))] {
+                let given = Run {
+                    catalogue: encode_catalogue(&made),
+                    question: field(tag, &members),
+                    looks: vec![0; 2],
+                    ..parish(&[first as u8, second as u8])
+                };
+                let label = format!("kind {}, group of tag {tag}, condition {first} first", pair[0].number);
+                let ran = compare_run(&label, &given);
+                assert_eq!((ran.listed, ran.looks[first], ran.looks[second]), (vec![listed], 0b111, due), "{label}");
+            }
+        }
+    }
 }
 
 /// P7: with no entry, any accepted question finds 0 with 0 looks, in tables of no bytes, whatever the tally.

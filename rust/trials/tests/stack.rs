@@ -77,7 +77,7 @@ fn largest() -> Given {
     let condition = |number: u8| {
         let on_number = Test::NumberFrom { low: number.into(), high: 2_000 };
         let (column, test) = if number % 2 == 0 { (0, on_number) } else { (1, Test::Contains(vec![number])) };
-        Condition { column, test, opposite: false }
+        Condition { column, test, opposite: number % 3 == 0 }
     };
     let mut tree = Tree::AnyOf((7..64).map(Tree::Condition).collect());
     for number in (0..7).rev() {
