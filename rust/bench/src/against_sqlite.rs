@@ -7,7 +7,7 @@ use crate::sqlite::Database;
 use crate::table::Table;
 
 /// Runs against SQLite, which keeps the rows decoded and need not check them again. Its LIKE and NOCASE fold the letters
-/// A to Z alone, so the texts hold no others; a blank is NULL, and an opposite is written so that NULL gives yes.
+/// A to Z alone, so the texts hold no others. A blank is NULL, which meets neither a condition nor its NOT, as in the engine.
 pub fn report(table: &mut Table) {
     let Some(database) = Database::open() else {
         println!("SQLite's library (Debian: libsqlite3-0) is not installed: its lines are left out");
@@ -69,5 +69,5 @@ fn condition_sql(condition: &Condition) -> String {
         Test::Contains(operand) => format!("{column} LIKE '%{}%'", text(operand)),
         Test::NumberBlank | Test::TextBlank => format!("{column} IS NULL"),
     };
-    if condition.opposite { format!("(NOT coalesce({sql}, 0))") } else { format!("({sql})") }
+    if condition.opposite { format!("(NOT ({sql}))") } else { format!("({sql})") }
 }

@@ -1,5 +1,5 @@
 use evaluator::{Catalogue, Column, Condition, Question, Test, Tree};
-use generator::{Rng, catalogue_of, encode_catalogue, encode_question, question_of, running_order};
+use generator::{Rng, column, encode_catalogue, encode_question, question_of, running_order};
 use searchroom::Counts;
 
 /// A catalogue and a question with its running order, as bytes.
@@ -26,11 +26,11 @@ impl Asked {
     }
 }
 
-/// Six columns, numbers and texts in turn.
+/// Six columns, numbers and texts in turn, an eighth of their values blank.
 pub fn mixed(rng: &mut Rng, entries: usize) -> Catalogue {
     let mut columns = Vec::new();
     while columns.len() < 6 {
-        let column = catalogue_of(rng, entries, 1).columns.remove(0);
+        let column = column(rng, entries);
         if matches!(column, Column::Numbers(_)) == (columns.len() % 2 == 0) {
             columns.push(column);
         }

@@ -1,5 +1,5 @@
-use evaluator::Question;
-use generator::{Rng, catalogue_of, encode_catalogue, encode_question, question_of};
+use evaluator::{Catalogue, Question};
+use generator::{Rng, column, encode_catalogue, encode_question, question_of};
 
 use crate::plain;
 use crate::table::Table;
@@ -8,7 +8,7 @@ use crate::table::Table;
 /// is the question's.
 pub fn report(table: &mut Table) {
     let mut rng = Rng::new(3);
-    let made = catalogue_of(&mut rng, 8, 6);
+    let made = Catalogue { entries: 8, columns: (0..6).map(|_| column(&mut rng, 8)).collect() };
     let catalogue = encode_catalogue(&made);
     for (count, depth) in [(1, 1), (6, 3), (20, 3), (64, 1), (64, 8)] {
         let asked: Question = question_of(&mut rng, &made, count, depth);
@@ -21,7 +21,7 @@ pub fn report(table: &mut Table) {
         let what = format!("outcome, conditions: {count}, depth up to {depth}");
         let engine = || searchroom::outcome(&catalogue, &question, 7, 0);
         let plainly = || plain::outcome(&catalogue, &question, 7, 0);
-        assert_eq!(engine().map(|answer| answer == searchroom::Answer::Yes).ok(), plainly().ok());
+        assert_eq!(engine().ok(), plainly().ok());
         table.row(&what, "plain Rust outcome", None, engine, plainly);
     }
 }

@@ -1,3 +1,5 @@
+use searchroom::Answer;
+
 use super::question::{Question, Tree};
 use super::run::checked;
 
@@ -6,20 +8,20 @@ use super::run::checked;
 pub fn copy_every_outcome(catalogue: &[u8], question: &[u8], order: &[u8], output: &mut [u8]) -> Result<usize, u8> {
     let (catalogue, question) = checked(catalogue, question, order)?;
     let groups = Groups::of(&question);
-    let mut outcomes = [false; 64];
+    let mut answers = [Answer::No; 64];
     let mut open = groups.members.clone();
     let mut fields = Vec::with_capacity(7 * catalogue.entries * order.len());
     for entry in 0..catalogue.entries {
-        for (outcome, condition) in outcomes.iter_mut().zip(&question.conditions) {
-            *outcome = condition.holds(entry);
+        for (answer, condition) in answers.iter_mut().zip(&question.conditions) {
+            *answer = condition.answer(entry);
         }
         let [high, low] = (entry as u16).to_be_bytes();
         open.copy_from_slice(&groups.members);
         for &number in order {
             if groups.is_due(&open, number.into()) {
-                let outcome = outcomes[usize::from(number)];
-                groups.take(&mut open, number.into(), outcome);
-                fields.extend_from_slice(&[76, 0, 4, high, low, number, outcome.into()]);
+                let answer = answers[usize::from(number)];
+                groups.take(&mut open, number.into(), answer == Answer::Yes);
+                fields.extend_from_slice(&[76, 0, 4, high, low, number, answer.number()]);
             }
         }
     }

@@ -1,3 +1,5 @@
+use searchroom::Answer;
+
 use super::catalogue::{Catalogue, Column, check_catalogue, field};
 
 /// A question that was checked, its operands still in its bytes.
@@ -47,14 +49,14 @@ pub fn check_question(catalogue: &[u8], question: &[u8]) -> Result<usize, u8> {
 }
 
 /// Checks both, then works out one condition.
-pub fn outcome(catalogue: &[u8], question: &[u8], entry: u64, condition: u64) -> Result<bool, u8> {
+pub fn outcome(catalogue: &[u8], question: &[u8], entry: u64, condition: u64) -> Result<Answer, u8> {
     let catalogue = check_catalogue(catalogue)?;
     let question = read_question(&catalogue, question)?;
     if entry >= catalogue.entries as u64 {
         return Err(18);
     }
     let condition = question.conditions.get(usize::try_from(condition).map_err(|_| 18)?).ok_or(18)?;
-    Ok(condition.holds(entry as usize))
+    Ok(condition.answer(entry as usize))
 }
 
 /// Reads a question against a catalogue that was checked.
@@ -121,28 +123,48 @@ impl<'a> Condition<'a> {
         Some(Condition { payload, column, test, opposite: kind >= 128 })
     }
 
-    /// Works the condition out at an entry.
+    /// Does a run take the condition as yes at an entry? Worked out apart from the answer, for speed.
     pub fn holds(&self, entry: usize) -> bool {
-        let met = match self.column {
+        let (met, is_blank) = self.test_at(entry);
+        met != self.opposite && (met || !is_blank)
+    }
+
+    /// Works the condition out at an entry.
+    pub fn answer(&self, entry: usize) -> Answer {
+        let (met, is_blank) = self.test_at(entry);
+        if is_blank && !met {
+            Answer::Blank
+        } else if met != self.opposite {
+            Answer::Yes
+        } else {
+            Answer::No
+        }
+    }
+
+    /// Is the test met at an entry, and is the field blank? Both only where the test asks for the blank.
+    fn test_at(&self, entry: usize) -> (bool, bool) {
+        match self.column {
             Column::Numbers(numbers) => {
                 let value = number(numbers, entry);
-                match self.test {
+                let is_blank = value == u32::MAX;
+                let met = match self.test {
                     Test::Range(low, high) => low <= value && value <= high,
-                    _ => value == u32::MAX,
-                }
+                    _ => is_blank,
+                };
+                (met, is_blank)
             }
             Column::Texts(texts) => {
                 let slot = &texts[24 * entry..24 * entry + 24];
                 let text = &slot[1..1 + usize::from(slot[0])];
-                match self.test {
+                let met = match self.test {
                     Test::Equals(operand) => text.len() == operand.len() && begins_with(text, operand),
                     Test::BeginsWith(operand) => begins_with(text, operand),
                     Test::Contains(operand) => (0..text.len()).any(|place| begins_with(&text[place..], operand)),
                     _ => text.is_empty(),
-                }
+                };
+                (met, text.is_empty())
             }
-        };
-        met != self.opposite
+        }
     }
 }
 
