@@ -1,19 +1,17 @@
--- Copying and counting: lines put one after the other at the front of a table, and their ones.
-use Prim.Native.Nat.{ℕ, _+_, _-_, _*_, _^_, _≤_, _<_}
-use native.Mathlib.Nat.{zero-add, suc-mul, mul-le-mul-left, mul-le-mul-right}
+-- Copying: lines put one after the other at the front of a table.
+use Prim.Native.Nat.{ℕ, _+_, _-_, _*_, _≤_, _<_}
+use native.Mathlib.Nat.{zero-add, suc-mul, mul-le-mul-right}
 use native.Mathlib.Numerals.{add-one}
 use native.Mathlib.Omega.{arith}
-use mathlib.Core.Path.{_≡_, sym, _∙_}
+use mathlib.Core.Path.{_≡_, _∙_}
 use mathlib.Core.List.{List}
 use lib.ListN.{length, take, drop, length-take, length-drop}
 use lib.Seq.{length-take-le}
 use Rattle.bitmaps.specs.Sums.{joined}
 use Rattle.fields.specs.Output.{Wrote}
 use Rattle.fields.proofs.OutputLaws.{wrote-then}
-use Rattle.bitmaps.specs.Bitmap.{onesIn}
 use Rattle.bitmaps.specs.Table.{lineSize, linesOf}
 use Rattle.bitmaps.specs.SumLaws.{joined-length}
-use Rattle.bitmaps.specs.OnesLaws.{ones-append}
 
 lines-length : (size : ℕ) (from : List ℕ) (n : ℕ) → size ≤ lineSize → n * lineSize ≤ length from → length (linesOf size from n) ≡ n * size
 unfolding linesOf
@@ -38,23 +36,3 @@ module _ (size n c : ℕ) (from old : List ℕ) (s : size ≤ lineSize) (h : n *
 
 pub part-length : (from : List ℕ) (line size : ℕ) → line + size ≤ length from → length (take (line + size - line) (drop line from)) ≡ size
 part-length from line size l = simp (length-take, length-drop) (omega arith)
-
--- counting: the ones of line c behind those of the lines before it
-module _ (size : ℕ) (from : List ℕ) (c line next : ℕ) (l : line ≡ c * lineSize) (e : next ≡ line + size) where
-  pub count-line : (sum x : ℕ) → sum ≡ onesIn (linesOf size from c) → x ≡ onesIn (take (next - line) (drop line from)) → sum + x ≡ onesIn (linesOf size from (c + 1))
-  unfolding linesOf joined
-  count-line sum x s k =
-      let z : next - line ≡ size = omega arith in
-      rw (s, k, z, l, add-one c) (sym (ones-append (linesOf size from c) (take size (drop (c * lineSize) from))))
-
-  pub part-short : length (take (next - line) (drop line from)) ≤ size
-  part-short = simp length-take (omega arith)
-
-  pub part-small : length from < 2 ^ 61 → length (take (next - line) (drop line from)) < 2 ^ 61
-  part-small h = simp (length-take, length-drop) (omega arith)
-
-pub lines-next : (c size : ℕ) → (c + 1) * size ≡ c * size + size
-lines-next c size = rw (add-one c) (suc-mul c size)
-
-pub lines-small : (size n : ℕ) → size ≤ lineSize → n * size ≤ n * lineSize
-lines-small size n h = mul-le-mul-left n h

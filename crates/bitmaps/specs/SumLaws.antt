@@ -21,6 +21,11 @@ unfolding sumOf
 sum-split g m zero = rw (add-zero m) (sym (add-zero (sumOf g m)))
 sum-split g m (suc n) = rw (add-suc m n, sum-split g m n) (add-assoc (sumOf g m) (sumOf (λ i. g (m + i)) n) (g (m + n)))
 
+pub sum-added : (g h : ℕ → ℕ) (n : ℕ) → sumOf g n + sumOf h n ≡ sumOf (λ i. g i + h i) n
+unfolding sumOf
+sum-added g h zero = refl
+sum-added g h (suc n) = omega (arith, sum-added g h n)
+
 pub sum-zero : (g : ℕ → ℕ) (n : ℕ) → ((i : ℕ) → i < n → g i ≡ 0) → sumOf g n ≡ 0
 unfolding sumOf
 sum-zero g zero z = refl

@@ -1,6 +1,5 @@
-// Bitmaps: the selection and the probes of a run, marked bit by bit in tables of the run's own, counted, and copied out.
+// Bitmaps: the selection and the probes of a run, marked bit by bit in tables of the run's own and copied out.
 pub mod bit;
 pub mod copy;
-pub mod ones;
 pub mod size;
 pub mod word;

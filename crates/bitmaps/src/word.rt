@@ -8,6 +8,8 @@ pub struct Word;
 
 impl Word {
     pub const ROWS: usize = 64;
+
+    pub const SIZE: usize = 8;
 }
 
 // Puts the bits of x into a table from a byte on: document 01's row rule for 64 rows, the least significant byte first.

@@ -18,7 +18,7 @@ use Rattle.strategy.specs.Strategy.{Due, predicates}
 use Rattle.strategy.specs.Trace.{trace}
 use Rattle.strategy.specs.TraceLaws.{trace-among, trace-once, trace-due}
 use Rattle.bitmaps.specs.Sums.{sumOf, digit, countOf}
-use Rattle.bitmaps.specs.SumLaws.{sum-same, sum-zero, count-same}
+use Rattle.bitmaps.specs.SumLaws.{sum-same, sum-added, sum-zero, count-same}
 use Rattle.fields.specs.Output.{putFront}
 use Rattle.bitmaps.specs.Bitmap.{bytesFor, bitmap}
 use Rattle.bitmaps.specs.Bit.{bit}
@@ -49,16 +49,11 @@ unfolding sumOf
 count-le f zero = omega arith
 count-le f (suc n) = omega (arith, count-le f n, digit-le (f n))
 
-sum-add : (g h : ℕ → ℕ) (n : ℕ) → sumOf g n + sumOf h n ≡ sumOf (λ k. g k + h k) n
-unfolding sumOf
-sum-add g h zero = refl
-sum-add g h (suc n) = omega (arith, sum-add g h n)
-
 -- over predicates and rows, or over rows and predicates
 pub sum-swap : (g : ℕ → ℕ → ℕ) (n m : ℕ) → sumOf (λ c. sumOf (g c) m) n ≡ sumOf (λ e. sumOf (λ c. g c e) n) m
 unfolding sumOf
 sum-swap g zero m = sym (sum-zero (λ e. 0) m (λ e l. refl))
-sum-swap g (suc n) m = ap (λ (x : ℕ). x + sumOf (g n) m) (sum-swap g n m) ∙ sum-add (λ e. sumOf (λ c. g c e) n) (g n) m
+sum-swap g (suc n) m = ap (λ (x : ℕ). x + sumOf (g n) m) (sum-swap g n m) ∙ sum-added (λ e. sumOf (λ c. g c e) n) (g n) m
 
 -- one number more
 count-more : (g : ℕ → Bool) (d n : ℕ) → d < n → g d ≡ false → countOf (λ c. eqb c d || g c) n ≡ suc (countOf g n)

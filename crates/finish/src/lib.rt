@@ -28,8 +28,8 @@ pub fn finish(
     if tally.len() != Counter::SIZE {
         return Answer::Refused(Refusal::COUNTER_REFUSED);
     }
-    let found = bitmaps::ones::count_lines(selected, 1, size);
-    let looked = bitmaps::ones::count_lines(probed, n, size);
+    let found = counts::lines::count_lines(selected, 1, size);
+    let looked = counts::lines::count_lines(probed, n, size);
     let before = fields::counter::eight_bytes(tally, 0);
     if Counter::LIMIT - before < looked {
         return Answer::Refused(Refusal::COUNTER_REFUSED);

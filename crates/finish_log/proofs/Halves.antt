@@ -1,12 +1,12 @@
 -- The table of marks as two tables of lines, for the probes and for those with a yes, and the log that is written from them.
-use Prim.Native.Nat.{ℕ, _-_, _*_, _≤_, _<_}
+use Prim.Native.Nat.{ℕ, _*_, _≤_, _<_}
 use native.Mathlib.Omega.{arith}
 use mathlib.Core.Path.{_≡_, refl, sym, ap, ap₂, _∙_}
 use mathlib.Core.Bool.{Bool, true, false, _&&_}
 use mathlib.Core.List.{List}
 use lib.ListN.{length, take, drop, getD, length-drop}
 use lib.Dec.{ltb}
-use lib.Seq.{length-take-le, take-all}
+use lib.Seq.{length-take-le}
 use Rattle.bools.specs.Bools.{and-left, and-right, ltb-yes, ltb-lt}
 use Rattle.predicate.specs.declared.outcome.Outcome.{Outcome}
 use Rattle.predicate.specs.declared.outcome.Outcome.the-variants.{No, Yes, Blank}
@@ -42,10 +42,6 @@ use Rattle.finish_log.proofs.InTurn.{made-marked, made-once}
 -- the bytes of the lines for the probes
 abbrev pub half : ℕ
 half = predicateLimit * lineSize
-
--- the second half, as the code lends it
-pub second-half : (marks : List ℕ) → take (length marks - half) (drop half marks) ≡ drop half marks
-second-half marks = take-all (length marks - half) (drop half marks) (omega (arith, length-drop half marks))
 
 pub first-length : (marks : List ℕ) → half ≤ length marks → half ≡ length (take half marks)
 first-length marks h = sym (length-take-le half marks h)

@@ -1,12 +1,11 @@
 -- The check of a payload, path by path.
 use Prim.Native.Nat.{ℕ, _-_, _≤_, _<_}
-use native.Mathlib.Omega.{arith}
 use mathlib.Core.Path.{_≡_}
 use mathlib.Core.Bool.{Bool, true, false}
 use mathlib.Core.List.{List}
-use lib.ListN.{length, getD, take, drop, length-drop}
-use lib.Seq.{take-all}
+use lib.ListN.{length, getD, take, drop}
 use borrow.Author.Tests.{lt-ltb, le-leb, le-ltb, lt-leb}
+use Rattle.fields.proofs.Parts.{part-rest}
 use Rattle.predicate.specs.Kinds.{plainKind}
 use Rattle.predicate.specs.Payload.{columnByte, kindByte, kindFits, operandFits, validPayload}
 
@@ -32,7 +31,5 @@ module _ (tags payload : List ℕ) where
           r ≡ validPayload tags payload
       unfolding validPayload
       payload-operand h r r-is =
-          let whole : take (length payload - 2) (drop 2 payload) ≡ drop 2 payload =
-          take-all (length payload - 2) (drop 2 payload) (rw length-drop (omega arith)) in
           rw (le-leb 2 (length payload) two, ← column-is, lt-ltb column (length tags) inside, ← kind-is, ← fits-is, h)
-          (rw whole at r-is)
+          (rw (part-rest payload 2) at r-is)

@@ -6,9 +6,10 @@ use mathlib.Core.Path.{_≡_, refl, sym, ap, _∙_}
 use mathlib.Core.Bool.{Bool, true, false, _&&_, _||_, and-false}
 use mathlib.Core.List.{List, [], _∷_}
 use lib.ListN.{length, getD, take, drop, length-drop, drop-of-length-le}
-use lib.Seq.{drop-cons, take-all}
+use lib.Seq.{drop-cons}
 use lib.Dec.{eqb}
 use borrow.Author.Tests.{eq-eqb, ne-eqb}
+use Rattle.fields.proofs.Parts.{part-rest}
 use Rattle.predicate.specs.Meaning.{fold, folded, same, begins, occurs, equals, beginsWith, contains}
 
 folded-length : (x : List ℕ) → length (folded x) ≡ length x
@@ -89,8 +90,7 @@ module _ (o t : List ℕ) (a : ℕ) (so-far : contains o t ≡ contains o (drop 
     contains-step : contains o t ≡ (r || contains o (drop (a + 1) t))
     unfolding occurs folded
     contains-step =
-        let tail : take (length t - a) (drop a t) ≡ drop a t = take-all (length t - a) (drop a t) (rw length-drop (omega arith)) in
-        let whole : r ≡ beginsWith o (drop a t) = rw tail at tried in
+        let whole : r ≡ beginsWith o (drop a t) = rw (part-rest t a) at tried in
         rw (so-far, whole, add-one, drop-cons t a 0 inside)
 
     pub contains-found : r ≡ true → true ≡ contains o t

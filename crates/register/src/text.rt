@@ -48,7 +48,7 @@ fn put_conditions(out: &mut [u8], at: usize, looks: &[u8], size: usize, n: usize
     let mut from: usize = 0;
     while c < n {
         let next = from + size;
-        let count = bitmaps::ones::count_ones(&looks[from..next]);
+        let count = counts::ones::count_ones(&looks[from..next]);
         end = put_condition(out, end, c, count);
         c += 1;
         from = next;

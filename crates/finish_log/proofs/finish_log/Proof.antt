@@ -1,6 +1,7 @@
 -- `finish_log` meets its contract: refused before anything is written, or the fields of all probes.
 use native.Mathlib.Omega.{arith}
-use Rattle.finish_log.proofs.Halves.{second-half, first-length}
+use Rattle.fields.proofs.Parts.{part-rest}
+use Rattle.finish_log.proofs.Halves.{half, first-length}
 use Rattle.finish_log.proofs.Finishing.{size-short, looks-few, log-short, log-room, log-written}
 use borrow.Author.Needs.{needs}
 use Rattle.finish_log.proofs.finish_log.Statement.{statement}
@@ -41,7 +42,7 @@ put-rows-requires : tie.Need-put-rows-requires
 put-rows-requires c κs =
     let a = c .before .before .before .before .before .before .before .before .before .before .before in
     let b = c .before .before .before .before in
-    rw (second-half (a .args .marks .now)) (log-room (b .before .bytes-for .ensures) (b .count-lines .ensures .0) (a .args .output .now) (c .before .before .before .if1 .left) (a .pre))
+    rw (part-rest (a .args .marks .now) half) (log-room (b .before .bytes-for .ensures) (b .count-lines .ensures .0) (a .args .output .now) (c .before .before .before .if1 .left) (a .pre))
 
 same-length : tie.Need-same-length
 same-length c = search needs
@@ -55,7 +56,7 @@ returns-2 c =
     record {
       fits = omega arith;
       leaves = log-written (b .bytes-for .ensures) (n .ensures .0) (a .args .output .now) (c .before .before .before .before .before .before .if1 .left)
-          (rw (second-half (a .args .marks .now)) at (c .before .before .put-rows .ensures));
+          (rw (part-rest (a .args .marks .now) half) at (c .before .before .put-rows .ensures));
     }
 
 pub finish-log-spec : {M : Type 1} → statement M

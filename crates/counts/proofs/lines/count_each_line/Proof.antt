@@ -1,24 +1,22 @@
--- `count_lines` meets its contract. Invariant: the sum is the ones of the lines passed.
-use Prim.Native.Nat.{_+_, _-_, _*_, _≤_}
+-- `count_each_line` meets its contract. Invariant: the sum is the ones of the lines passed.
+use Prim.Native.Nat.{_+_, _-_}
 use native.Mathlib.Omega.{arith}
 use mathlib.Core.Path.{_≡_, refl}
-use Rattle.bitmaps.specs.Sums.{joined}
-use Rattle.bitmaps.specs.Bitmap.{onesIn}
-use Rattle.bitmaps.specs.Table.{lineSize, linesOf}
-use Rattle.bitmaps.proofs.Lines.{line-fits, count-line, part-short, part-small, lines-next, lines-small}
+use Rattle.bitmaps.specs.Table.{lineSize}
+use Rattle.counts.proofs.LineOnes.{LinesPassed, none-passed, count-line, part-short, part-small, lines-next, lines-small}
+use Rattle.bitmaps.proofs.Lines.{line-fits}
 use borrow.Author.Needs.{needs}
-use Rattle.bitmaps.proofs.ones.count_lines.Statement.{statement}
-use Rattle.bitmaps.proofs.ones.count_lines.Tie as tie
+use Rattle.counts.proofs.lines.count_each_line.Statement.{statement}
+use Rattle.counts.proofs.lines.count_each_line.Tie as tie
 
 abbrev Inv-loop : tie.InvT-loop
-Inv-loop table n size sum₀ c₀ line₀ sum c line = (c ≤ n) × (line ≡ c * lineSize) × (sum ≡ onesIn (linesOf size table c)) × (sum ≤ 8 * (c * size))
+Inv-loop table n size sum₀ c₀ line₀ sum c line = LinesPassed table n size sum c line
 
 abbrev μ-loop : tie.MeasureT-loop
 μ-loop table n size sum₀ c₀ line₀ sum c line = n - c
 
 loop-holds : tie.Need-loop-holds Inv-loop μ-loop
-unfolding linesOf joined onesIn
-loop-holds c = (omega arith, omega arith, refl, omega arith)
+loop-holds c = let a = c .before .args in none-passed (a .table .now) (a .n) (a .size)
 
 add-next : tie.Need-add-next Inv-loop μ-loop
 add-next c = omega (arith, line-fits lineSize (c .before .before .before .args .n) (c .before .loop .c) (omega arith))
@@ -43,7 +41,7 @@ add-sum c =
     let s = c .before .before .before .before .before in
     let l = c .before .before .before .loop in
     let size = s .args .size in
-    omega (arith, part-short size (s .args .table .now) (l .c) (l .line) (l .line + size) (l .inv .1) refl, lines-next (l .c) size, line-fits size (s .args .n) (l .c) (omega arith), lines-small size (s .args .n) (s .pre .0))
+    omega (arith, part-short size (s .args .table .now) (l .c) (l .line) (l .line + size) (l .inv .1) refl, lines-next (l .c) size, line-fits lineSize (s .args .n) (l .c) (omega arith), lines-small size (l .c) (s .pre .0))
 
 add-c : tie.Need-add-c Inv-loop μ-loop
 add-c c = search needs
@@ -64,8 +62,8 @@ loop-again c =
 returns : tie.Need-returns Inv-loop μ-loop
 returns c = let e : c .before .loop .c ≡ c .before .before .before .args .n = omega arith in rw (← e) (c .before .loop .inv .2, c .before .loop .inv .3)
 
-pub count-lines-spec : {M : Type 1} → statement M
-count-lines-spec =
+pub count-each-line-spec : {M : Type 1} → statement M
+count-each-line-spec =
     tie.close
     (tie.spec
     Inv-loop

@@ -1,16 +1,14 @@
--- `count_ones` meets its contract. Invariant: the sum and the ones of what is left are the ones of the table.
-use Prim.Native.Nat.{_+_, _-_, _*_, _≤_}
+-- `count_bytes` meets its contract. Invariant: the sum and the ones of what is left are the ones of the table.
+use Prim.Native.Nat.{_-_}
 use native.Mathlib.Omega.{arith}
-use mathlib.Core.Path.{_≡_}
-use lib.ListN.{length, drop}
-use Rattle.bitmaps.specs.Bitmap.{onesIn}
-use Rattle.bitmaps.specs.OnesLaws.{ones-next, ones-end}
+use lib.ListN.{length}
+use Rattle.counts.proofs.WordOnes.{BytesPassed, byte-next, none-left}
 use borrow.Author.Needs.{needs}
-use Rattle.bitmaps.proofs.ones.count_ones.Statement.{statement}
-use Rattle.bitmaps.proofs.ones.count_ones.Tie as tie
+use Rattle.counts.proofs.ones.count_bytes.Statement.{statement}
+use Rattle.counts.proofs.ones.count_bytes.Tie as tie
 
 abbrev Inv-loop : tie.InvT-loop
-Inv-loop table sum₀ i₀ sum i = (i ≤ length table) × (sum ≤ 8 * i) × (sum + onesIn (drop i table) ≡ onesIn table)
+Inv-loop table sum₀ i₀ sum i = BytesPassed table sum i
 
 abbrev μ-loop : tie.MeasureT-loop
 μ-loop table sum₀ i₀ sum i = length table - i
@@ -34,13 +32,13 @@ loop-less : tie.Need-loop-less Inv-loop μ-loop
 loop-less c = search needs
 
 loop-again : tie.Need-loop-again Inv-loop μ-loop
-loop-again c = (search needs, search needs, omega (arith, ones-next (c .before .before .before .before .before .args .table .now) (c .before .before .before .loop .i) (omega arith)))
+loop-again c = (search needs, search needs, omega (arith, byte-next (c .before .before .before .before .before .args .table .now) (c .before .before .before .loop .i) (omega arith)))
 
 returns : tie.Need-returns Inv-loop μ-loop
-returns c = (omega (arith, ones-end (c .before .before .before .args .table .now) (c .before .loop .i) (omega arith)), omega arith)
+returns c = (omega (arith, none-left (c .before .before .before .args .table .now) (c .before .loop .i) (omega arith)), omega arith)
 
-pub count-ones-spec : {M : Type 1} → statement M
-count-ones-spec =
+pub count-bytes-spec : {M : Type 1} → statement M
+count-bytes-spec =
     tie.close
     (tie.spec
     Inv-loop

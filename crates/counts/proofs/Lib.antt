@@ -1,0 +1,3 @@
+pub mod WordOnes
+pub mod FullAdder
+pub mod LineOnes
