@@ -29,7 +29,7 @@
 #include <stdint.h>
 
 /* The release; the pkg-config file has the same. */
-#define SEARCHROOM_VERSION "0.3.0"
+#define SEARCHROOM_VERSION "0.3.1"
 
 #ifdef __cplusplus
 extern "C" {
