@@ -16,6 +16,7 @@ mod seen;
 pub use catalogue::compare_catalogue;
 pub use copy::{Copying, compare_copy};
 pub use damaged::Damaged;
+pub use fault::trying;
 pub use fewer::{fewer, seeds};
 pub use fuzz::Fuzz;
 pub use lent::{Lent, Side};
@@ -36,3 +37,6 @@ pub const PARISH_ORDER: &[u8] = include_bytes!("../../../examples/parish/order.b
 
 /// Another question on the parish: year not from 1700 to 1799.
 pub const OUTSIDE_THE_CENTURY: &[u8] = &[80, 0, 10, 0, 128, 0, 0, 6, 0xA4, 0, 0, 7, 7];
+
+/// Numbers of entries at which a row of bits ends with a byte or a word, or beside such an end, or words and then a byte.
+pub const ENTRIES_AT_ENDS: [usize; 11] = [1, 7, 8, 56, 57, 63, 64, 65, 1_000, 2_047, 2_048];

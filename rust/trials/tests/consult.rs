@@ -7,7 +7,7 @@ use evaluator::{Catalogue, Column, Condition, Question, Test, Tree, refused_regi
 use generator::{
     Rng, catalogue_of, encode_catalogue, encode_question, faulty_question, field, question_of, running_order,
 };
-use trials::{OUTSIDE_THE_CENTURY, PARISH_CATALOGUE, PARISH_ORDER, PARISH_QUESTION, Room, Seen};
+use trials::{ENTRIES_AT_ENDS, OUTSIDE_THE_CENTURY, PARISH_CATALOGUE, PARISH_ORDER, PARISH_QUESTION, Room, Seen};
 
 const FILES: [(&str, usize); 3] = [("catalogue.bin", 65_536), ("question.bin", 4_096), ("order.bin", 64)];
 
@@ -209,4 +209,57 @@ fn random_consultations() {
         }
     }
     seen.assert_each(0..=0, 100);
+}
+
+/// The last number of each line that begins with such a word.
+fn numbers_after(printed: &str, word: &str) -> Vec<usize> {
+    let after = |line: &str| line.strip_prefix(word).map(|rest| rest.rsplit(' ').next().unwrap().parse().unwrap());
+    printed.lines().filter_map(after).collect()
+}
+
+/// The lines of the conditions add up to the looks, and found is the number of the entries' lines.
+#[test]
+fn counts_of_random_consultations() {
+    let mut skipped = 0;
+    for size in ENTRIES_AT_ENDS {
+        for count in [1, 7, 8, 20, 64] {
+            let mut rng = Rng::new((100 * size + count) as u64);
+            // More columns of so many entries would not fit the file.
+            let made = catalogue_of(&mut rng, size, if size > 100 { 1 } else { 4 });
+            let asked = encode_question(&question_of(&mut rng, &made, count, 3));
+            let order = running_order(&mut rng, count);
+            let label = format!("{size} entries, {count} conditions");
+            let printed = consult(&label, &encode_catalogue(&made), &asked, &order);
+            let [found, entries, looks, conditions] =
+                ["found ", "entry ", "looks ", "condition "].map(|word| numbers_after(&printed, word));
+            assert_eq!((found, looks), (vec![entries.len()], vec![conditions.iter().sum()]), "{label}");
+            assert_eq!(conditions.len(), count, "{label}");
+            skipped += size * count - conditions.iter().sum::<usize>();
+        }
+    }
+    assert!(skipped > 50_000, "{skipped} looks skipped");
+}
+
+/// All of ranges that every number is in, or any of ranges that none is in: each condition has a look at each entry.
+#[test]
+fn counts_where_every_look_is_due() {
+    for size in ENTRIES_AT_ENDS {
+        let made = Catalogue { entries: size, columns: vec![Column::Numbers((0..size as u32).collect())] };
+        for count in [1, 7, 8, 20, 64] {
+            for met in [true, false] {
+                let range = |above| Test::NumberFrom { low: 0, high: 2_048 + above as u32 };
+                let conditions = (0..count).map(|n| Condition { column: 0, test: range(n), opposite: !met }).collect();
+                let members = (0..count).map(Tree::Condition).collect();
+                let tree = if met { Tree::AllOf(members) } else { Tree::AnyOf(members) };
+                let asked = encode_question(&Question { tree, conditions });
+                let order: Vec<u8> = (0..count as u8).collect();
+                let label = format!("{size} entries, {count} conditions, met: {met}");
+                let printed = consult(&label, &encode_catalogue(&made), &asked, &order);
+                let [found, looks, conditions] =
+                    ["found ", "looks ", "condition "].map(|word| numbers_after(&printed, word));
+                assert_eq!((found, looks), (vec![if met { size } else { 0 }], vec![size * count]), "{label}");
+                assert_eq!(conditions, vec![size; count], "{label}");
+            }
+        }
+    }
 }
