@@ -8,6 +8,7 @@ mod against_sqlite;
 mod asked;
 mod catalogue;
 mod copy;
+mod count;
 mod look;
 mod places;
 mod plain;
@@ -26,6 +27,7 @@ fn main() {
     run::report(&mut table);
     copy::report(&mut table);
     against_sqlite::report(&mut table);
+    count::report(&mut table);
     table.print_end();
     look::report();
 }
