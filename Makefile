@@ -9,7 +9,7 @@ parish: target/bin/consult
 target/bin/consult: $(sources)
 	rt check consult
 
-# the archive that C and Rust link
+# the archive that C and the Rust crate searchroom link
 library: $(archive)
 
 $(archive): $(sources)
