@@ -32,6 +32,6 @@ module _ {end : ℕ} (t : List ℕ) (e : end ≡ min tableLimit (length t)) wher
 pub counted-small : {front : List ℕ} (t : List ℕ) → front ≡ counted t → length front < 2 ^ 61
 counted-small t e = rw e (simp length-take (omega arith))
 
-pub lines-counted : {front : List ℕ} {n k r : ℕ} (t : List ℕ) (lines size : ℕ) → front ≡ counted t → n ≡ min (length front / lineSize) lines → k ≡ min lineSize size
+pub front-lines : {front : List ℕ} {n k r : ℕ} (t : List ℕ) (lines size : ℕ) → front ≡ counted t → n ≡ min (length front / lineSize) lines → k ≡ min lineSize size
     → r ≡ onesIn (linesOf k front n) → r ≡ onesIn (countedLines t lines size)
-lines-counted t lines size e a b h = h ∙ rw (a, b, e)
+front-lines t lines size e a b h = h ∙ rw (a, b, e)

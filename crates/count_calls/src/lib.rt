@@ -40,7 +40,7 @@ pub extern "C" fn searchroom_count(table: &[u8]) -> u64
 pub extern "C" fn searchroom_count_bytes(table: &[u8]) -> u64
     ensures { λ r. ⌜ r ≡ onesIn (counted (now (table .entry))) ⌝ }
 {
-    counts::ones::count_bytes(front(table))
+    counts::bytes::count_bytes(front(table))
 }
 
 // The ones of the first bytes of each of a table's first lines, as a run counts its looks.

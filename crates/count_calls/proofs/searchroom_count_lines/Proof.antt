@@ -1,6 +1,6 @@
 -- `searchroom_count_lines` meets its contract: the table's front has the lines that it counts.
 use native.Mathlib.Omega.{arith}
-use Rattle.count_calls.proofs.Fronts.{counted-small, lines-counted}
+use Rattle.count_calls.proofs.Fronts.{counted-small, front-lines}
 use borrow.Author.Needs.{needs}
 use Rattle.count_calls.proofs.searchroom_count_lines.Statement.{statement}
 use Rattle.count_calls.proofs.searchroom_count_lines.Tie as tie
@@ -21,7 +21,7 @@ returns : tie.Need-returns
 returns c =
     let f = c .before .before .before in
     let a = f .before .before .args in
-    lines-counted (a .table .now) (a .lines) (a .size) (f .front .ensures) (c .before .before .lesser .ensures) (c .before .lesser2 .ensures) (c .count-lines .ensures .0)
+    front-lines (a .table .now) (a .lines) (a .size) (f .front .ensures) (c .before .before .lesser .ensures) (c .before .lesser2 .ensures) (c .count-lines .ensures .0)
 
 pub searchroom-count-lines-spec : {M : Type 1} → statement M
 searchroom-count-lines-spec =

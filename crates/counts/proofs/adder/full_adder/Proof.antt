@@ -1,4 +1,4 @@
--- `full_adder` meets its contract: its digits are those of the sum, bit by bit.
+-- `full_adder` meets its contract: sum and carry are a full adder's, bit by bit.
 use Rattle.counts.proofs.FullAdder.{words-added}
 use Rattle.counts.proofs.adder.full_adder.Statement.{statement}
 use Rattle.counts.proofs.adder.full_adder.Tie as tie

@@ -2,8 +2,8 @@
 use native.Mathlib.Omega.{arith}
 use mathlib.Core.Path.{refl}
 use lib.Count.{ones-le}
-use Rattle.counts.proofs.ones.ones_of_byte.Statement.{statement}
-use Rattle.counts.proofs.ones.ones_of_byte.Tie as tie
+use Rattle.counts.proofs.bytes.ones_of_byte.Statement.{statement}
+use Rattle.counts.proofs.bytes.ones_of_byte.Tie as tie
 
 cast-result : tie.Need-cast-result
 cast-result c = omega (arith, ones-le 8 (c .args .x) (c .fits .x .fits))

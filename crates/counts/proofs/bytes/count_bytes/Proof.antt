@@ -4,8 +4,8 @@ use native.Mathlib.Omega.{arith}
 use lib.ListN.{length}
 use Rattle.counts.proofs.WordOnes.{BytesPassed, byte-next, none-left}
 use borrow.Author.Needs.{needs}
-use Rattle.counts.proofs.ones.count_bytes.Statement.{statement}
-use Rattle.counts.proofs.ones.count_bytes.Tie as tie
+use Rattle.counts.proofs.bytes.count_bytes.Statement.{statement}
+use Rattle.counts.proofs.bytes.count_bytes.Tie as tie
 
 abbrev Inv-loop : tie.InvT-loop
 Inv-loop table sum₀ i₀ sum i = BytesPassed table sum i
