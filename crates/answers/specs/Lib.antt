@@ -1,4 +1,5 @@
 pub mod Word
+pub mod Written
 pub mod Refusals
 pub mod Checks
 pub mod Answers

@@ -1,4 +1,4 @@
-// Document 01's refusals 15 to 18 and order 1's 20; the contracts tie them to those of specs/Refusals.antt.
+// Document 01's refusals 15 to 18, order 1's 20, order 4's 21 and 22; the contracts tie them to those of specs/Refusals.antt.
 pub struct Refusal;
 
 impl Refusal {
@@ -11,4 +11,8 @@ impl Refusal {
     pub const NO_SUCH_ROW_OR_PREDICATE: u8 = 18;
 
     pub const OUTPUT_TOO_SHORT: u8 = 20;
+
+    pub const TEXT_MISSPELLED: u8 = 21;
+
+    pub const TYPED_OUTPUT_TOO_SHORT: u8 = 22;
 }

@@ -18,7 +18,7 @@ use Rattle.answers.specs.Checks.{checked}
 use Rattle.demands.specs.Run.{selection, probeBitmaps, runOn}
 use Rattle.bitmaps.specs.Bit.{bit}
 use Rattle.sets.specs.Set.{has}
-use Rattle.lines.specs.Decimal.{digits, decimal}
+use Rattle.fields.specs.Decimal.{digits, decimal}
 use Rattle.lines.specs.Line.{line}
 use Rattle.register.specs.Register.{header, entries, conditionLine, conditions, accepted}
 use Rattle.demands.specs.Parish.{parish, question}

@@ -17,7 +17,8 @@ use Rattle.answers.specs.Refusals.{notOrder, outputTooShort}
 use Rattle.answers.specs.Checks.{checked}
 use Rattle.demands.specs.Run.{Request, predicateCount, taskOf}
 use Rattle.demands.specs.Demands.{Gives, InBytes, Reads, FormBroken, RunningOrder}
-use Rattle.demands.specs.Log.{taskFields, EachProbeOnce, Logged, logged, logOn, logOf, LogGives}
+use Rattle.answers.specs.Written.{Written, written}
+use Rattle.demands.specs.Log.{taskFields, EachProbeOnce, logOn, logOf, LogGives}
 use Rattle.demands.specs.CopyPage.{copyBytes, CopyKept, CopyBroken, copyForm, copyOrder, copyShort}
 use Rattle.demands.proofs.DemandLaws.{reads-input, broken-input, input-cases, broken-range, unpacked}
 use Rattle.demands.proofs.DemandTables.{order-plain, look-count-le}
@@ -49,7 +50,7 @@ module _ (r : Request) (output : List ℕ) where
 
   module _ (s : (entry : ℕ) → List ℕ) where
     kept-log : (i : Input) → CopyKept r output i
-        → logOf s r output ≡ logged (packed (Accepted 0 0 (copyBytes i r))) (putFront (taskFields (taskOf i (r .order)) s) output)
+        → logOf s r output ≡ written (packed (Accepted 0 0 (copyBytes i r))) (putFront (taskFields (taskOf i (r .order)) s) output)
     unfolding logOf logOn checked
     kept-log i k =
         rw (
@@ -58,7 +59,7 @@ module _ (r : Request) (output : List ℕ) where
           leb-yes (copyBytes i r) (length output) (k .room),
         )
 
-    broken-log : (e : ℕ) → CopyBroken r output e → logOf s r output ≡ logged (packed (Refused e)) output
+    broken-log : (e : ℕ) → CopyBroken r output e → logOf s r output ≡ written (packed (Refused e)) output
     unfolding logOf logOn checked
     broken-log e (copyForm x) = rw (broken-input (r .catalogue) (r .question) e x)
     broken-log e (copyOrder i f n z) =
@@ -74,7 +75,7 @@ module _ (r : Request) (output : List ℕ) where
 -- what any call leaves that keeps the contract
 module _ {r : Request} {old new : List ℕ} {w : ℕ} (L : LogGives r old w new) where
   pub kept-output : (i : Input) → CopyKept r old i → new ≡ putFront (taskFields (taskOf i (r .order)) (L .sequence)) old
-  kept-output i k = ap (λ (l : Logged). l .output) (L .leaves ∙ kept-log r old (L .sequence) i k)
+  kept-output i k = ap (λ (l : Written). l .output) (L .leaves ∙ kept-log r old (L .sequence) i k)
 
   pub kept-sequence : (i : Input) → CopyKept r old i → EachProbeOnce (taskOf i (r .order)) (L .sequence)
   kept-sequence i k = (rw (reads-input (r .catalogue) (r .question) i (k .forms)) at (L .sequenced)) (order-plain (predicateCount i) (r .order) .1 (k .order))
@@ -83,13 +84,13 @@ module _ {r : Request} {old new : List ℕ} {w : ℕ} (L : LogGives r old w new)
   kept-gives i k =
       let C = k .forms .0 .0 in
       let Q = k .forms .1 .0 in
-      rw (ap (λ (l : Logged). l .word) (L .leaves ∙ kept-log r old (L .sequence) i k))
+      rw (ap (λ (l : Written). l .word) (L .leaves ∙ kept-log r old (L .sequence) i k))
       (unpacked (Accepted 0 0 (copyBytes i r)) (omega (arith, look-count-le i (r .order) 2048 (C .rows-few), Q .few)))
 
   pub broken-output : (e : ℕ) → CopyBroken r old e → new ≡ old
-  broken-output e x = ap (λ (l : Logged). l .output) (L .leaves ∙ broken-log r old (L .sequence) e x)
+  broken-output e x = ap (λ (l : Written). l .output) (L .leaves ∙ broken-log r old (L .sequence) e x)
 
   pub broken-gives : (e : ℕ) → CopyBroken r old e → Gives w e 0 0 0
   broken-gives e x =
       let b = broken-number r old e x in
-      rw (ap (λ (l : Logged). l .word) (L .leaves ∙ broken-log r old (L .sequence) e x)) (unpacked (Refused e) (omega arith))
+      rw (ap (λ (l : Written). l .word) (L .leaves ∙ broken-log r old (L .sequence) e x)) (unpacked (Refused e) (omega arith))

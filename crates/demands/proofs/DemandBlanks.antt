@@ -1,5 +1,5 @@
 -- Order 2's words on blanks, from the definitions to those of the demands page.
-use Prim.Native.Nat.{ℕ, _+_, _-_, _≤_, _<_}
+use Prim.Native.Nat.{ℕ, _+_, _≤_, _<_}
 use native.Mathlib.Omega.{arith}
 use mathlib.Core.Path.{_≡_, refl, sym, _∙_}
 use mathlib.Core.Bool.{true, false, not}
@@ -14,6 +14,7 @@ use Rattle.predicate.specs.declared.outcome.Outcome.the-variants.{No, Yes, Blan
 use Rattle.predicate.specs.Kinds.{rangeKind, equalsKind, containsKind, oppositeFrom, plainKind, asksContent}
 use Rattle.predicate.specs.Meaning.{opposite, truth, valueBlank, outcomeOf, columnAsked, outcome}
 use Rattle.predicate.specs.Outcome.{isBlank}
+use Rattle.predicate.proofs.KindLaws.{kind-below, kind-opposite}
 use Rattle.predicate.proofs.BlankLaws.{asked, blank-is}
 use Rattle.input.specs.Input.{Input}
 use Rattle.answers.specs.Answers.{outcomeNumber}
@@ -32,28 +33,20 @@ yes-number Blank = (λ e. clash e refl, λ e. absurd (omega arith))
 
 -- the kinds, of both sorts
 
-below : (kind : ℕ) → kind < oppositeFrom → plainKind kind ≡ kind
-unfolding plainKind
-below kind l = rw (ltb-yes kind oppositeFrom l)
-
-above : (kind : ℕ) → oppositeFrom ≤ kind → plainKind kind ≡ kind - oppositeFrom
-unfolding plainKind
-above kind l = rw (ltb-no kind oppositeFrom l)
-
 pub asks-content : (kind : ℕ) → (asksContent (plainKind kind) ≡ true) ↔ MayAnswerBlank kind
 asks-content kind = (λ h. to (which (ltb kind oppositeFrom)) (asked (plainKind kind) .0 h), λ k. asked (plainKind kind) .1 (from k))
   where
     to : (ltb kind oppositeFrom ≡ true) ⊎ (ltb kind oppositeFrom ≡ false) → (plainKind kind ≡ rangeKind) ⊎ ((equalsKind ≤ plainKind kind) × (plainKind kind ≤ containsKind)) → MayAnswerBlank kind
-    to (inl y) (inl e) = inl (omega (arith, below kind (ltb-lt kind oppositeFrom y)))
-    to (inl y) (inr m) = inr (inl (omega (arith, m .0, below kind (ltb-lt kind oppositeFrom y)), omega (arith, m .1, below kind (ltb-lt kind oppositeFrom y))))
-    to (inr y) (inl e) = inr (inr (inl (omega (arith, ltb-le kind oppositeFrom y, above kind (ltb-le kind oppositeFrom y)))))
-    to (inr y) (inr m) = inr (inr (inr (omega (arith, m .0, above kind (ltb-le kind oppositeFrom y)), omega (arith, m .1, above kind (ltb-le kind oppositeFrom y)))))
+    to (inl y) (inl e) = inl (omega (arith, kind-below kind (ltb-lt kind oppositeFrom y)))
+    to (inl y) (inr m) = inr (inl (omega (arith, m .0, kind-below kind (ltb-lt kind oppositeFrom y)), omega (arith, m .1, kind-below kind (ltb-lt kind oppositeFrom y))))
+    to (inr y) (inl e) = inr (inr (inl (omega (arith, ltb-le kind oppositeFrom y, kind-opposite kind (ltb-le kind oppositeFrom y)))))
+    to (inr y) (inr m) = inr (inr (inr (omega (arith, m .0, kind-opposite kind (ltb-le kind oppositeFrom y)), omega (arith, m .1, kind-opposite kind (ltb-le kind oppositeFrom y)))))
 
     from : MayAnswerBlank kind → (plainKind kind ≡ rangeKind) ⊎ ((equalsKind ≤ plainKind kind) × (plainKind kind ≤ containsKind))
-    from (inl e) = inl (omega (arith, below kind (omega arith)))
-    from (inr (inl m)) = inr (omega (arith, m .0, below kind (omega (arith, m .1))), omega (arith, m .1, below kind (omega (arith, m .1))))
-    from (inr (inr (inl e))) = inl (omega (arith, above kind (omega arith)))
-    from (inr (inr (inr m))) = inr (omega (arith, m .0, above kind (omega (arith, m .0))), omega (arith, m .1, above kind (omega (arith, m .0))))
+    from (inl e) = inl (omega (arith, kind-below kind (omega arith)))
+    from (inr (inl m)) = inr (omega (arith, m .0, kind-below kind (omega (arith, m .1))), omega (arith, m .1, kind-below kind (omega (arith, m .1))))
+    from (inr (inr (inl e))) = inl (omega (arith, kind-opposite kind (omega arith)))
+    from (inr (inr (inr m))) = inr (omega (arith, m .0, kind-opposite kind (omega (arith, m .0))), omega (arith, m .1, kind-opposite kind (omega (arith, m .0))))
 
 pub blank-field : (c : Column) (e : ℕ) → (valueBlank c e ≡ true) ↔ BlankField c e
 blank-field (numbers ns) e = (eqb-eq (getD ns e 0) 4294967295, λ h. rw h)
@@ -81,7 +74,7 @@ blank-at i e c =
 pub opposite-of : (c : Column) (kind : ℕ) (o : List ℕ) (e : ℕ) → kind < oppositeFrom → outcomeOf c (kind + oppositeFrom) o e ≡ opposite (outcomeOf c kind o e)
 unfolding outcomeOf
 opposite-of c kind o e l =
-    let p : plainKind (kind + oppositeFrom) ≡ plainKind kind = omega (arith, above (kind + oppositeFrom) (omega arith), below kind l) in
+    let p : plainKind (kind + oppositeFrom) ≡ plainKind kind = omega (arith, kind-opposite (kind + oppositeFrom) (omega arith), kind-below kind l) in
     rw (ltb-no (kind + oppositeFrom) oppositeFrom (omega arith), ltb-yes kind oppositeFrom l, p)
 
 pub blank-false : (a : Outcome) → isBlank a ≡ true → (truth a ≡ false) × (truth (opposite a) ≡ false)

@@ -9,3 +9,5 @@ pub mod CopyTables
 pub mod CopyRuns
 pub mod CopyBytes
 pub mod CopyPage
+pub mod TypedRuns
+pub mod TypedPage

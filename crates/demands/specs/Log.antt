@@ -13,8 +13,9 @@ use Rattle.bitmaps.specs.Sums.{digit}
 use Rattle.log.specs.Log.{probeFieldSize, logFields}
 use Rattle.rows.specs.Task.{Task, predicateAt, isProbed}
 use Rattle.input.specs.Input.{Input, decodeInput}
-use Rattle.answers.specs.declared.word.Answer.the-variants.{Refused, Accepted}
+use Rattle.answers.specs.declared.word.Answer.the-variants.{Accepted}
 use Rattle.answers.specs.Word.{packed}
+use Rattle.answers.specs.Written.{Written, written, refuseWriting}
 use Rattle.answers.specs.Refusals.{notOrder, outputTooShort}
 use Rattle.answers.specs.Checks.{Checks, checked}
 use Rattle.answers.specs.Answers.{outcomeNumber}
@@ -37,21 +38,9 @@ EachProbeOnce T s = (row : ℕ) → row < T .catalogue .rows → (c : ℕ) → o
 abbrev pub logSize : Task → ℕ
 logSize T = probeFieldSize * lookCount T
 
--- what a copy leaves: the packed word and the output
-pub record Logged : Type 0 where
-  pub word : ℕ
-  pub output : List ℕ
-
-abbrev pub logged : ℕ → (output : List ℕ) → Logged
-logged w output = record { word = w; output = output }
-
--- "A refusal gives its number, with zeros for every other result, and alters nothing lent."
-abbrev pub refuseLog : ℕ → (output : List ℕ) → Logged
-refuseLog e output = logged (packed (Refused e)) output
-
 -- the fields go out to the front, "an output keeps its further bytes, and the length written is a result"
-abbrev pub acceptLog : (sequence : (row : ℕ) → List ℕ) → Task → (output : List ℕ) → Logged
-acceptLog s T output = logged (packed (Accepted 0 0 (logSize T))) (putFront (taskFields T s) output)
+abbrev pub acceptLog : (sequence : (row : ℕ) → List ℕ) → Task → (output : List ℕ) → Written
+acceptLog s T output = written (packed (Accepted 0 0 (logSize T))) (putFront (taskFields T s) output)
 
 -- "Checks: 20, the lent output is too short, after 15."
 abbrev pub outputChecks : Task → (output : List ℕ) → Checks
@@ -60,15 +49,15 @@ outputChecks T output = (outputTooShort, leb (logSize T) (length output)) ∷ []
 abbrev pub logChecks : Input → (order output : List ℕ) → Checks
 logChecks i order output = (notOrder, isOrder (predicateCount i) order) ∷ outputChecks (taskOf i order) output
 
-unfoldable pub logOn : (sequence : (row : ℕ) → List ℕ) → Input → (order output : List ℕ) → Logged
-logOn s i order output = checked (logChecks i order output) (λ e. refuseLog e output) (acceptLog s (taskOf i order) output)
+unfoldable pub logOn : (sequence : (row : ℕ) → List ℕ) → Input → (order output : List ℕ) → Written
+logOn s i order output = checked (logChecks i order output) (λ e. refuseWriting e output) (acceptLog s (taskOf i order) output)
 
-abbrev pub inputLog : (sequence : (row : ℕ) → List ℕ) → Decoded Input → (order output : List ℕ) → Logged
-inputLog s (refused e) order output = refuseLog e output
+abbrev pub inputLog : (sequence : (row : ℕ) → List ℕ) → Decoded Input → (order output : List ℕ) → Written
+inputLog s (refused e) order output = refuseWriting e output
 inputLog s (accepted i) order output = logOn s i order output
 
 -- "Inputs are those of a run without tables and tally.": 1 to 14 as for a run
-unfoldable pub logOf : (sequence : (row : ℕ) → List ℕ) → Request → (output : List ℕ) → Logged
+unfoldable pub logOf : (sequence : (row : ℕ) → List ℕ) → Request → (output : List ℕ) → Written
 logOf s r output = inputLog s (decodeInput (r .catalogue) (r .question)) (r .order) output
 
 -- a sequence is asked for where the order is accepted: elsewhere there are no looks to tell
@@ -80,4 +69,4 @@ Sequenced (accepted i) order s = isOrder (predicateCount i) order ≡ true → E
 pub record LogGives (r : Request) (old : List ℕ) (word : ℕ) (new : List ℕ) : Type 0 where
   pub sequence : (row : ℕ) → List ℕ
   pub sequenced : Sequenced (decodeInput (r .catalogue) (r .question)) (r .order) sequence
-  pub leaves : logged word new ≡ logOf sequence r old
+  pub leaves : written word new ≡ logOf sequence r old

@@ -39,7 +39,15 @@ front w x h (suc k) j e =
 pub number-of-bytes : (w x : ℕ) → x < 256 ^ w → numberAt (bytesOf w x) 0 w ≡ x
 number-of-bytes w x h = front w x h w 0 (omega arith) ∙ div-one x
 
--- eight bytes as the code forms them
+-- two, four and eight bytes as the code forms them
+pub bytes-two : (x : ℕ) → x / 256 % 256 ∷ x % 256 ∷ [] ≡ bytesOf 2 x
+unfolding bytesOf
+bytes-two x = rw (div-one x)
+
+pub bytes-four : (x : ℕ) → x / 256 ^ 3 % 256 ∷ x / 256 ^ 2 % 256 ∷ x / 256 % 256 ∷ x % 256 ∷ [] ≡ bytesOf 4 x
+unfolding bytesOf
+bytes-four x = rw (div-one x)
+
 pub bytes-eight : (x : ℕ) →
     x / 256 ^ 7 % 256 ∷ x / 256 ^ 6 % 256 ∷ x / 256 ^ 5 % 256 ∷ x / 256 ^ 4 % 256 ∷ x / 256 ^ 3 % 256 ∷ x / 256 ^ 2 % 256 ∷ x / 256 % 256 ∷ x % 256 ∷ []
     ≡ bytesOf 8 x

@@ -5,9 +5,9 @@ use native.Mathlib.Numerals.{add-one}
 use native.Mathlib.Omega.{arith}
 use mathlib.Core.Path.{_≡_, refl, sym, ap, ap₂, _∙_}
 use mathlib.Core.List.{List, [], _∷_, _++_, append-assoc, append-nil}
-use lib.ListN.{length, take, drop, getD, set, length-append, drop-of-length-le}
-use lib.Seq.{length-take-le, take-at, drop-at, drop-drop, take-length, set-split, append-snoc, paste, paste-zero, paste-suc}
-use Rattle.fields.specs.Output.{putAt, putFront, Wrote}
+use lib.ListN.{length, take, drop, getD, set, length-append, length-drop, drop-of-length-le, take-append-drop}
+use lib.Seq.{length-take-le, take-at, drop-at, take-append-seam, drop-append-seam, take-append-le, take-take, drop-drop, take-length, set-split, append-snoc, paste, paste-zero, paste-suc}
+use Rattle.fields.specs.Output.{putAt, putFront, Wrote, Front}
 
 length-more : (at : ℕ) (p q : List ℕ) → at + length p + length q ≡ at + length (p ++ q)
 length-more at p q = omega (arith, length-append p q)
@@ -30,6 +30,30 @@ pub wrote-then : {at next r : ℕ} {p q old new newer : List ℕ} → next ≤ l
 wrote-then {at} {next} {r} {p} {q} {old} {new} {newer} l w v = record {
   bytes = v .bytes ∙ ap₂ (λ (k : ℕ) (o : List ℕ). putAt k q o) (w .place) (w .bytes) ∙ put-both at p q old (omega (arith, w .place));
   place = v .place ∙ ap (λ (k : ℕ). k + length q) (w .place) ∙ length-more at p q;
+}
+
+-- what is written behind first, and the piece before it second
+module _ (at : ℕ) (p q old : List ℕ) (fits : at + length p ≤ length old) where
+  behind-length : length (take (at + length p) old) ≡ at + length p
+  behind-length = length-take-le (at + length p) old fits
+
+  put-before : putAt at p (putAt (at + length p) q old) ≡ putAt at (p ++ q) old
+  put-before =
+      let rest : List ℕ = drop (at + length p + length q) old in
+      let cut : putAt (at + length p) q old ≡ take (at + length p) old ++ (q ++ rest) = append-assoc (take (at + length p) old) q rest in
+      let front : take at (putAt (at + length p) q old) ≡ take at old =
+      ap (take at) cut ∙ take-append-le at (take (at + length p) old) (q ++ rest) (omega (arith, behind-length)) ∙ take-take at (at + length p) old (omega arith) in
+      let back : drop (at + length p) (putAt (at + length p) q old) ≡ q ++ rest =
+      ap (drop (at + length p)) cut ∙ drop-at (take (at + length p) old) (q ++ rest) (at + length p) behind-length in
+      ap₂ (λ (f r : List ℕ). f ++ p ++ r) front back
+      ∙ sym (append-assoc (take at old ++ p) q rest)
+      ∙ ap₂ (λ (f : List ℕ) (k : ℕ). f ++ drop k old) (append-assoc (take at old) p q) (length-more at p q)
+
+pub wrote-before : {at next r : ℕ} {p q old new newer : List ℕ} → at + length p ≤ length old → Wrote (at + length p) q old r new → Wrote at p new next newer
+    → Wrote at (p ++ q) old r newer
+wrote-before {at} {next} {r} {p} {q} {old} {new} {newer} l w v = record {
+  bytes = v .bytes ∙ ap (putAt at p) (w .bytes) ∙ put-before at p q old l;
+  place = w .place ∙ length-more at p q;
 }
 
 pub wrote-none : (at : ℕ) (old : List ℕ) → Wrote at [] old at old
@@ -65,6 +89,82 @@ wrote-byte at b old l = record {
 pub put-front : (new old : List ℕ) → putAt 0 new old ≡ putFront new old
 put-front new old = ap (λ (k : ℕ). new ++ drop k old) (zero-add (length new))
 
+-- a piece of a front written again, with as many bytes
+module _ (a m n b old : List ℕ) (same : length n ≡ length m) where
+  pub put-again : putAt (length a) n (putAt 0 (a ++ (m ++ b)) old) ≡ putAt 0 (a ++ (n ++ b)) old
+  put-again =
+      let rest : List ℕ = drop (length (a ++ (m ++ b))) old in
+      let cut : putAt 0 (a ++ (m ++ b)) old ≡ a ++ (m ++ (b ++ rest)) =
+      put-front (a ++ (m ++ b)) old ∙ append-assoc a (m ++ b) rest ∙ ap (λ (r : List ℕ). a ++ r) (append-assoc m b rest) in
+      let back : drop (length a + length n) (putAt 0 (a ++ (m ++ b)) old) ≡ b ++ rest =
+      sym (drop-drop (length n) (length a) (putAt 0 (a ++ (m ++ b)) old))
+      ∙ ap (drop (length n)) (ap (drop (length a)) cut ∙ drop-append-seam a (m ++ (b ++ rest)))
+      ∙ drop-at m (b ++ rest) (length n) (sym same) in
+      let sized : length (a ++ (m ++ b)) ≡ length (a ++ (n ++ b)) =
+      omega (arith, length-append a (m ++ b), length-append m b, length-append a (n ++ b), length-append n b) in
+      ap₂ (λ (f r : List ℕ). f ++ n ++ r) (ap (take (length a)) cut ∙ take-append-seam a (m ++ (b ++ rest))) back
+      ∙ sym (append-assoc (a ++ n) b rest)
+      ∙ ap₂ (λ (f : List ℕ) (k : ℕ). f ++ drop k old) (append-assoc a n b) sized
+      ∙ sym (put-front (a ++ (n ++ b)) old)
+
+pub wrote-again : (a m b : List ℕ) {at end r : ℕ} {n old new newer : List ℕ} → length n ≡ length m → at ≡ length a
+    → Wrote 0 (a ++ (m ++ b)) old end new → Wrote at n new r newer → Wrote 0 (a ++ (n ++ b)) old end newer
+wrote-again a m b {at} {end} {r} {n} {old} {new} {newer} same e w v = record {
+  bytes = v .bytes ∙ ap₂ (λ (k : ℕ) (o : List ℕ). putAt k n o) e (w .bytes) ∙ put-again a m n b old same;
+  place = omega (arith, w .place, length-append a (m ++ b), length-append m b, length-append a (n ++ b), length-append n b, same);
+}
+
 -- all of it
 pub put-whole : (new old : List ℕ) → length old ≡ length new → putAt 0 new old ≡ new
 put-whole new old e = put-front new old ∙ rw (drop-of-length-le old {i = length new} (omega arith)) (append-nil new)
+
+-- THE FRONT OF AN OUTPUT
+
+-- an output that is written into keeps its length
+pub wrote-length : {at r : ℕ} {p old new : List ℕ} → Wrote at p old r new → r ≤ length old → length new ≡ length old
+wrote-length {at} {r} {p} {old} {new} w l =
+    omega (
+      arith,
+      ap length (w .bytes),
+      w .place,
+      length-append (take at old ++ p) (drop (at + length p) old),
+      length-append (take at old) p,
+      length-take-le at old (omega (arith, w .place)),
+      length-drop (at + length p) old,
+    )
+
+-- the front of an output is as long as its place says
+pub front-size : {x : List ℕ} {end : ℕ} {out : List ℕ} → Front x end out → length x ≡ end
+front-size {x} {end} {out} F = ap length (sym (F .begins)) ∙ length-take-le end out (F .inside)
+
+-- the front and what is written behind it
+pub front-then : {x : List ℕ} {end stop : ℕ} {out p new : List ℕ} → Front x end out → Wrote end p out stop new → stop ≤ length out → Front (x ++ p) stop new
+front-then {x} {end} {stop} {out} {p} {new} F w l =
+    let cut : new ≡ (x ++ p) ++ drop (end + length p) out = w .bytes ∙ ap (λ (f : List ℕ). f ++ p ++ drop (end + length p) out) (F .begins) in
+    let sized : length (x ++ p) ≡ stop = omega (arith, length-append x p, front-size F, w .place) in
+    record {
+      begins = ap (take stop) cut ∙ take-at (x ++ p) (drop (end + length p) out) stop sized;
+      inside = omega (arith, ap length cut, length-append (x ++ p) (drop (end + length p) out));
+    }
+
+-- the front stands there as if it had been written
+front-written : {x : List ℕ} {end : ℕ} {out : List ℕ} → Front x end out → Wrote 0 x out end out
+front-written {x} {end} {out} F = record {
+  bytes =
+      sym (take-append-drop end out)
+      ∙ ap (λ (f : List ℕ). f ++ drop end out) (F .begins)
+      ∙ ap (λ (k : ℕ). x ++ drop k out) (sym (front-size F))
+      ∙ sym (put-front x out);
+  place = omega (arith, front-size F);
+}
+
+-- a piece of it written again, with as many bytes
+pub front-again : (a m b : List ℕ) {at end r : ℕ} {n out new : List ℕ} → length n ≡ length m → at ≡ length a → Front (a ++ (m ++ b)) end out → Wrote at n out r new
+    → Front (a ++ (n ++ b)) end new
+front-again a m b {at} {end} {r} {n} {out} {new} same e F w =
+    let v : Wrote 0 (a ++ (n ++ b)) out end new = wrote-again a m b same e (front-written F) w in
+    let cut : new ≡ (a ++ (n ++ b)) ++ drop (length (a ++ (n ++ b))) out = v .bytes ∙ put-front (a ++ (n ++ b)) out in
+    record {
+      begins = ap (take end) cut ∙ take-at (a ++ (n ++ b)) (drop (length (a ++ (n ++ b))) out) end (omega (arith, v .place));
+      inside = omega (arith, ap length cut, length-append (a ++ (n ++ b)) (drop (length (a ++ (n ++ b))) out), v .place);
+    }

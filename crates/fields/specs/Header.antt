@@ -28,6 +28,10 @@ abbrev pub Inside : (at end : ℕ) → Header → Type 0
 Inside at end Cut = Unit {0}
 Inside at end (Field tag start stop) = (start ≡ at + headerSize) × (start ≤ stop) × (stop ≤ end)
 
+-- a header written, with this length
+abbrev pub headerOf : (tag size : ℕ) → List ℕ
+headerOf tag size = tag ∷ bytesOf 2 size
+
 -- the same field written: "a one-byte tag, a two-byte length, then that many bytes"
 unfoldable pub fieldOf : (tag : ℕ) → (payload : List ℕ) → List ℕ
 fieldOf tag payload = tag ∷ (bytesOf 2 (length payload) ++ payload)

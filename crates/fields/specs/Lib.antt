@@ -1,4 +1,5 @@
 pub mod Decoded
 pub mod Numbers
+pub mod Decimal
 pub mod Header
 pub mod Output

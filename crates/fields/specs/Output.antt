@@ -1,5 +1,5 @@
 -- What is written of an output, which keeps its other bytes.
-use Prim.Native.Nat.{ℕ, _+_}
+use Prim.Native.Nat.{ℕ, _+_, _≤_}
 use mathlib.Core.Path.{_≡_}
 use mathlib.Core.List.{List, _++_}
 use lib.ListN.{length, take, drop}
@@ -16,3 +16,8 @@ putAt at new old = take at old ++ new ++ drop (at + length new) old
 pub record Wrote (at : ℕ) (text old : List ℕ) (next : ℕ) (new : List ℕ) : Type 0 where
   pub bytes : new ≡ putAt at text old
   pub place : next ≡ at + length text
+
+-- the front of an output up to a place
+pub record Front (bytes : List ℕ) (end : ℕ) (out : List ℕ) : Type 0 where
+  pub begins : take end out ≡ bytes
+  pub inside : end ≤ length out

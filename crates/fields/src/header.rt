@@ -1,8 +1,9 @@
 // The header of a field: a one-byte tag and a two-byte length before the payload.
 ghost use mathlib.Core.Path.{_≡_};
-ghost use Prim.Native.Nat.{_≤_};
+ghost use Prim.Native.Nat.{_+_, _≤_};
 ghost use lib.ListN.{length};
-ghost use Rattle.fields.specs.Header.{fieldEnd, headerAt, Inside};
+ghost use Rattle.fields.specs.Header.{headerSize, fieldEnd, headerAt, Inside, headerOf};
+ghost use Rattle.fields.specs.Output.{Wrote};
 
 // What stands where a field is expected.
 pub enum Header {
@@ -43,4 +44,13 @@ pub fn field_end(b: &[u8], at: usize) -> usize
     ensures { λ r. ⌜ r ≡ fieldEnd (now (b .entry)) at ⌝ }
 {
     at + Header::SIZE + crate::number::two_bytes(b, at + 1)
+}
+
+// Writes the header of a field with a payload of so many bytes from `at` on and gives the place behind it.
+pub fn put_header(out: &mut [u8], at: usize, tag: u8, size: usize) -> usize
+    requires { ⌜ at + headerSize ≤ length (now out) ⌝ }
+    ensures { λ r. ⌜ Wrote at (headerOf tag size) (now (out .entry)) r (now (out .exit)) ⌝ }
+{
+    let header = [tag, (size / 256 % 256) as u8, (size % 256) as u8];
+    crate::output::put(out, at, &header)
 }

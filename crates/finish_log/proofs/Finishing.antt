@@ -19,7 +19,8 @@ use Rattle.answers.specs.Word.{packed}
 use Rattle.answers.specs.Refusals.{outputTooShort}
 use Rattle.answers.specs.Checks.{checked}
 use Rattle.demands.specs.Run.{taskOf}
-use Rattle.demands.specs.Log.{logged, logSize}
+use Rattle.answers.specs.Written.{written}
+use Rattle.demands.specs.Log.{logSize}
 use Rattle.finish_log.specs.Finish.{MarksOf, HasMarks, finishedLog}
 use Rattle.finish_log.proofs.Halves.{half, probes-of, marked-fields, fields-length, looks-counted}
 
@@ -36,7 +37,7 @@ module _ {b plan order marks : List ℕ} {n rows size looked : ℕ} (s : size �
   log-size M = ap (λ (k : ℕ). probeFieldSize * k) (sym (l ∙ ap (λ (k : ℕ). onesIn (linesOf k marks n)) s ∙ looks-counted M))
 
   pub log-short : length old < probeFieldSize * looked → (i : Input) (q : List ℕ) → MarksOf i b q plan order marks n rows
-      → logged (packed (Refused outputTooShort)) old ≡ finishedLog i order old
+      → written (packed (Refused outputTooShort)) old ≡ finishedLog i order old
   unfolding finishedLog checked
   log-short h i q M = rw (lt-leb (logSize (taskOf i order)) (length old) (omega (arith, log-size M)))
 
@@ -52,10 +53,10 @@ module _ {b plan order marks : List ℕ} {n rows size looked : ℕ} (s : size �
     log-room (i, q, M) = (taskOf i order, q, log-ready M)
 
     pub log-written : {r : ℕ} {new : List ℕ} → LogWritten b plan order (take half marks) (drop half marks) rows old r new
-        → (i : Input) (q : List ℕ) → MarksOf i b q plan order marks n rows → logged (packed (Accepted 0 0 (probeFieldSize * looked))) new ≡ finishedLog i order old
+        → (i : Input) (q : List ℕ) → MarksOf i b q plan order marks n rows → written (packed (Accepted 0 0 (probeFieldSize * looked))) new ≡ finishedLog i order old
     unfolding finishedLog checked
     log-written w i q M =
         let x = w (taskOf i order) q (log-ready M) in
         rw (le-leb (logSize (taskOf i order)) (length old) (omega (arith, log-size M)), log-size M)
-        (ap (logged (packed (Accepted 0 0 (probeFieldSize * looked))))
+        (ap (written (packed (Accepted 0 0 (probeFieldSize * looked))))
         (x .bytes ∙ put-front (taskLog (taskOf i order) order (take half marks) (drop half marks) rows) old ∙ ap (λ (t : List ℕ). putFront t old) (marked-fields M)))

@@ -17,7 +17,8 @@ use Rattle.answers.specs.declared.word.Answer.{Answer}
 use Rattle.answers.specs.Word.{packed, FitsWord}
 use Rattle.answers.specs.Checks.{checked}
 use Rattle.demands.specs.Run.{rowCount, predicateCount, taskOf}
-use Rattle.demands.specs.Log.{Logged, logged, refuseLog, acceptLog, outputChecks}
+use Rattle.answers.specs.Written.{Written, written, refuseWriting}
+use Rattle.demands.specs.Log.{acceptLog, outputChecks}
 
 -- the marks of an input's rows, worked in this order: lines for the probes and for those with a yes; and a plan that shows its predicates
 pub record MarksOf (i : Input) (b q plan order marks : List ℕ) (n rows : ℕ) : Type 0 where
@@ -36,10 +37,10 @@ abbrev pub HasMarks : (b plan order marks : List ℕ) → (n rows : ℕ) → Typ
 HasMarks b plan order marks n rows = (i : Input) × (q : List ℕ) × MarksOf i b q plan order marks n rows
 
 -- refusal 20, or the fields, each row's in turn
-unfoldable pub finishedLog : Input → (order output : List ℕ) → Logged
+unfoldable pub finishedLog : Input → (order output : List ℕ) → Written
 finishedLog i order output =
-    checked (outputChecks (taskOf i order) output) (λ e. refuseLog e output) (acceptLog (madeAt (taskOf i order)) (taskOf i order) output)
+    checked (outputChecks (taskOf i order) output) (λ e. refuseWriting e output) (acceptLog (madeAt (taskOf i order)) (taskOf i order) output)
 
 pub record LogFinished (b plan order marks : List ℕ) (n rows : ℕ) (old : List ℕ) (a : Answer) (new : List ℕ) : Type 0 where
   pub fits : FitsWord a
-  pub leaves : (i : Input) (q : List ℕ) → MarksOf i b q plan order marks n rows → logged (packed a) new ≡ finishedLog i order old
+  pub leaves : (i : Input) (q : List ℕ) → MarksOf i b q plan order marks n rows → written (packed a) new ≡ finishedLog i order old

@@ -23,7 +23,7 @@ use Rattle.input.specs.Input.{withQuery, decodeInput}
 use Rattle.input.specs.Beginning.{HasInput}
 
 -- the first tags of the layout are those of the catalogue's columns
-laid-tags : {b : List ℕ} {l : Layout} {C : Catalogue} → Laid b l C → take (l .columns) (l .tags) ≡ tagsOf C
+pub laid-tags : {b : List ℕ} {l : Layout} {C : Catalogue} → Laid b l C → take (l .columns) (l .tags) ≡ tagsOf C
 laid-tags {b} {l} {C} h = ext-getD 0 (take (l .columns) (l .tags)) (tagsOf C) (omega (arith, many, tags-length (C .columns), h .columns)) same
   where
     many : length (take (l .columns) (l .tags)) ≡ l .columns

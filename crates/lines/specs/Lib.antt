@@ -1,4 +1,2 @@
-pub mod Decimal
-pub mod DecimalLaws
 pub mod Line
 pub mod LineLaws

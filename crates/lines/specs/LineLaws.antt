@@ -1,14 +1,18 @@
 -- The digits of a number, a number and a line, written piece by piece.
-use Prim.Native.Nat.{ℕ, _+_, _/_, _%_, _≤_, _<_}
+use Prim.Native.Nat.{ℕ, suc, _+_, _/_, _%_, _^_, _≤_, _<_}
 use native.Mathlib.Omega.{arith}
 use mathlib.Core.Path.{_≡_, sym, ap, _∙_}
 use mathlib.Core.List.{List, [], _∷_}
 use lib.ListN.{length, set, length-append}
+use Rattle.fields.specs.Decimal.{digitsOf, decimal}
 use Rattle.fields.specs.Output.{Wrote}
+use Rattle.fields.proofs.DecimalLaws.{digits-more, digits-none, digits-few, decimal-zero, decimal-more}
 use Rattle.fields.proofs.OutputLaws.{wrote-then, wrote-none, wrote-same, wrote-byte}
-use Rattle.lines.specs.Decimal.{digitsOf, decimal}
-use Rattle.lines.specs.DecimalLaws.{digits-more, digits-none, decimal-zero, decimal-more}
-use Rattle.lines.specs.Line.{line}
+use Rattle.lines.specs.Line.{numberRoom, line}
+
+-- an eight-byte number has no more digits than there is room for
+pub digits-length : (x : ℕ) → x < 2 ^ 64 → length (digitsOf x) ≤ numberRoom
+digits-length x l = digits-few numberRoom (suc x) x (omega arith)
 
 pub digits-end : {at x : ℕ} {old : List ℕ} → x ≡ 0 → Wrote at (digitsOf x) old at old
 digits-end {at} {x} {old} e = wrote-same (sym (ap digitsOf e ∙ digits-none)) (wrote-none at old)

@@ -2,9 +2,9 @@
 // Each function writes from `at` on and gives the place behind.
 ghost use Prim.Native.Nat.{_+_, _≤_};
 ghost use lib.ListN.{length};
+ghost use Rattle.fields.specs.Decimal.{digitsOf, decimal};
 ghost use Rattle.fields.specs.Output.{Wrote};
-ghost use Rattle.lines.specs.Decimal.{digitsOf, decimal, numberRoom};
-ghost use Rattle.lines.specs.Line.{line, lineRoom};
+ghost use Rattle.lines.specs.Line.{numberRoom, line, lineRoom};
 
 // The digits of a number, none for 0.
 fn put_digits(out: &mut [u8], at: usize, x: u64) -> usize

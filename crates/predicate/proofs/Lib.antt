@@ -1,3 +1,4 @@
+pub mod KindLaws
 pub mod Table
 pub mod TextLaws
 pub mod PayloadLaws

@@ -19,18 +19,19 @@ use Rattle.answers.specs.declared.word.Answer.the-variants.{Refused}
 use Rattle.answers.specs.Word.{packed, FitsWord}
 use Rattle.answers.specs.Refusals.{notOrder}
 use Rattle.answers.specs.Checks.{checked}
-use Rattle.demands.specs.Log.{logged, logOn, logOf}
+use Rattle.answers.specs.Written.{written}
+use Rattle.demands.specs.Log.{logOn, logOf}
 use Rattle.work.specs.Worked.{HasPlan, RunWorked}
 use Rattle.probe_log.specs.Sequence.{logInTurn}
 use Rattle.finish_log.specs.Finish.{MarksOf, HasMarks, finishedLog, LogFinished}
 
 pub log-refused : (b q order output : List ℕ) (k : ℕ) → (decodeInput b q ≡ refused k) × (k < 256)
-    → (logged (packed (Refused k)) output ≡ logInTurn b q order output) × FitsWord (Refused k)
+    → (written (packed (Refused k)) output ≡ logInTurn b q order output) × FitsWord (Refused k)
 unfolding logOf
 log-refused b q order output k h = (rw (h .0), omega arith)
 
 module _ {b q : List ℕ} {r : Beginning} {T : Tables} (G : HasInput b q r T) (order : List ℕ) where
-  pub log-not-order : (output : List ℕ) → isOrder (r .n) order ≡ false → logged (packed (Refused notOrder)) output ≡ logInTurn b q order output
+  pub log-not-order : (output : List ℕ) → isOrder (r .n) order ≡ false → written (packed (Refused notOrder)) output ≡ logInTurn b q order output
   unfolding logOf logOn checked
   log-not-order output o = rw (G .decoded, G .tabled .count, o)
 
@@ -56,6 +57,6 @@ module _ {b q : List ℕ} {r : Beginning} {plan ancestors : List ℕ} (P : HasPl
   pub has-marks : HasMarks b plan order marks (r .n) (r .rows)
   has-marks = (G .input, q, marks-of)
 
-  pub log-finished : {old new : List ℕ} {a : Answer} → LogFinished b plan order marks (r .n) (r .rows) old a new → (logged (packed a) new ≡ logInTurn b q order old) × FitsWord a
+  pub log-finished : {old new : List ℕ} {a : Answer} → LogFinished b plan order marks (r .n) (r .rows) old a new → (written (packed a) new ≡ logInTurn b q order old) × FitsWord a
   unfolding logOf logOn checked finishedLog
   log-finished F = (F .leaves (G .input) q marks-of ∙ rw (G .decoded, G .tabled .count, o), F .fits)

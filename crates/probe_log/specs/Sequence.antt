@@ -5,7 +5,8 @@ use Rattle.fields.specs.Decoded.{Decoded, refused, accepted}
 use Rattle.rows.specs.Task.{madeAt}
 use Rattle.input.specs.Input.{Input, decodeInput}
 use Rattle.demands.specs.Run.{request, taskOf}
-use Rattle.demands.specs.Log.{Logged, logOf}
+use Rattle.answers.specs.Written.{Written}
+use Rattle.demands.specs.Log.{logOf}
 
 -- that of their turns
 abbrev pub inTurn : Decoded Input → (order : List ℕ) → (row : ℕ) → List ℕ
@@ -13,5 +14,5 @@ inTurn (refused e) order row = []
 inTurn (accepted i) order row = madeAt (taskOf i order) row
 
 -- what a copy in that sequence leaves
-abbrev pub logInTurn : (catalogue question order output : List ℕ) → Logged
+abbrev pub logInTurn : (catalogue question order output : List ℕ) → Written
 logInTurn b q order output = logOf (inTurn (decodeInput b q) order) (request b q order) output

@@ -8,12 +8,12 @@ use plan::table::Plan;
 use query::format::Predicate;
 ghost use mathlib.Core.Path.{_≡_};
 ghost use Rattle.answers.specs.Word.{packed, FitsWord};
-ghost use Rattle.demands.specs.Log.{logged};
+ghost use Rattle.answers.specs.Written.{written};
 ghost use Rattle.probe_log.specs.Sequence.{logInTurn};
 
 // The checks, the work, the end.
 pub fn log_question(catalogue: &[u8], question: &[u8], order: &[u8], output: &mut [u8]) -> Answer
-    ensures { λ r. ⌜ (logged (packed r) (now (output .exit)) ≡ logInTurn (now (catalogue .entry)) (now (question .entry)) (now (order .entry)) (now (output .entry))) × FitsWord r ⌝ }
+    ensures { λ r. ⌜ (written (packed r) (now (output .exit)) ≡ logInTurn (now (catalogue .entry)) (now (question .entry)) (now (order .entry)) (now (output .entry))) × FitsWord r ⌝ }
 {
     let mut offsets = [0usize; Predicate::LIMIT];
     let mut ancestors = [0u8; Ancestors::TABLE_SIZE];

@@ -1,5 +1,5 @@
 -- The query of a tree of valid payloads is well-formed, and its tree of payloads is that tree: so its encoding is accepted as that query
--- (`tree-accepted`, for orders 4 and 12).
+-- (`tree-accepted`, for order 12).
 use Prim.Native.Nat.{ℕ, _+_, _≤_}
 use native.Mathlib.Omega.{arith}
 use mathlib.Core.Path.{_≡_, refl, sym, ap, ap₂, _∙_}
@@ -12,7 +12,7 @@ use Rattle.fields.specs.Numbers.{Bytes}
 use Rattle.fields.specs.Header.{headerSize}
 use Rattle.fields.proofs.ByteLaws.{bytes-drop}
 use Rattle.catalogue.specs.Catalogue.{Catalogue}
-use Rattle.strategy.specs.Tree.{Tree, leaf, group, Forest, none, more, size, sizes, Numbered, Numbereds, HasMember, NonEmpty, NonEmpties, relabel, relabels}
+use Rattle.strategy.specs.Tree.{Tree, leaf, group, Forest, none, more, size, sizes, Numbered, Numbereds, HasMember, NonEmpty, NonEmpties, relabel, relabels, EachLeaf, EachLeaves}
 use Rattle.predicate.specs.Meaning.{Predicate}
 use Rattle.predicate.specs.Payload.{tagsOf, validPayload, predicateOf, payloadHead}
 use Rattle.query.specs.Format.{predicateLimit, depthLimit}
@@ -20,7 +20,7 @@ use Rattle.query.specs.Decode.{payloadOf, decodeQuery}
 use Rattle.query.specs.Depth.{depth, depths}
 use Rattle.query.specs.Encode.{encode, payloadNumbered, payloads}
 use Rattle.query.specs.WellFormed.{Distinct, PlacedFrom, PlacedFroms, WellFormed}
-use Rattle.query.specs.FromTree.{numberedFrom, numberedFroms, predicatesFrom, predicatesFroms, queryOf, EachLeaf, EachLeaves}
+use Rattle.query.specs.FromTree.{numberedFrom, numberedFroms, predicatesFrom, predicatesFroms, queryOf}
 use Rattle.query.proofs.Payloads.{Part, part-left, part-right, part-one, payload-again}
 use Rattle.query.proofs.Readings.{Each, each-append}
 use Rattle.query.proofs.ValidLaws.{passes-valid}

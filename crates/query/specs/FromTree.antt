@@ -1,5 +1,5 @@
 -- The query of a tree of payloads: its conditions "numbered from 0 as they stand", each with its operand's place in the encoding.
--- Waits for orders 4 and 12, which write a question from a tree of their own; no contract cites it yet.
+-- Waits for order 12, which writes a question from a tree of its own; no contract cites it yet.
 use Prim.Native.Nat.{ℕ, _+_}
 use mathlib.Core.List.{List, [], _∷_, _++_}
 use lib.ListN.{length}
@@ -32,13 +32,3 @@ unfoldable mutual
 
 abbrev pub queryOf : Tree (List ℕ) → Query
 queryOf t = record { tree = numberedFrom 0 t; predicates = predicatesFrom 0 t }
-
--- what holds at every leaf
-abbrev mutual
-  pub EachLeaf : {A : Type 0} → (A → Type 0) → Tree A → Type 0
-  EachLeaf P (leaf x) = P x
-  EachLeaf P (group k f) = EachLeaves P f
-
-  pub EachLeaves : {A : Type 0} → (A → Type 0) → Forest A → Type 0
-  EachLeaves P none = Unit {0}
-  EachLeaves P (more t f) = EachLeaf P t × EachLeaves P f

@@ -8,7 +8,7 @@ use Rattle.bitmaps.specs.Sums.{joined}
 use Rattle.fields.specs.Output.{putFront}
 use Rattle.bitmaps.specs.Bitmap.{bytesFor, onesIn}
 use Rattle.bitmaps.specs.Bit.{bit}
-use Rattle.lines.specs.Decimal.{decimal}
+use Rattle.fields.specs.Decimal.{decimal}
 use Rattle.lines.specs.Line.{line}
 
 -- the first line, "consultation register" and byte 10

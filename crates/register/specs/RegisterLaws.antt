@@ -12,7 +12,7 @@ use Rattle.fields.proofs.OutputLaws.{wrote-then, wrote-none, wrote-same, put-fr
 use Rattle.bitmaps.specs.Sums.{joined}
 use Rattle.bitmaps.specs.Bitmap.{bytesFor, onesIn}
 use Rattle.bitmaps.specs.Bit.{bit}
-use Rattle.lines.specs.Decimal.{decimal}
+use Rattle.fields.specs.Decimal.{decimal}
 use Rattle.lines.specs.Line.{line}
 use Rattle.register.specs.Register.{header, foundLabel, looksLabel, conditionLabel, refusedLabel, entryIf, entries, looksOf, space, conditionLine, conditions, accepted, refused, registerOf, Printed}
 

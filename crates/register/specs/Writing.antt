@@ -1,8 +1,7 @@
 -- The room that a register needs.
 use Prim.Native.Nat.{ℕ, _+_, _*_}
 use lib.ListN.{length}
-use Rattle.lines.specs.Decimal.{numberRoom}
-use Rattle.lines.specs.Line.{lineRoom}
+use Rattle.lines.specs.Line.{numberRoom, lineRoom}
 use Rattle.register.specs.Register.{header, foundLabel, entryLabel, looksLabel, conditionLabel, refusedLabel, space}
 
 abbrev pub entryRoom : ℕ

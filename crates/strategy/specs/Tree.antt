@@ -75,6 +75,16 @@ abbrev mutual
   NonEmpties none = Unit {0}
   NonEmpties (more t f) = NonEmpty t × NonEmpties f
 
+-- what holds at every leaf
+abbrev mutual
+  pub EachLeaf : {A : Type 0} → (A → Type 0) → Tree A → Type 0
+  EachLeaf P (leaf x) = P x
+  EachLeaf P (group k f) = EachLeaves P f
+
+  pub EachLeaves : {A : Type 0} → (A → Type 0) → Forest A → Type 0
+  EachLeaves P none = Unit {0}
+  EachLeaves P (more t f) = EachLeaf P t × EachLeaves P f
+
 -- the same tree with other labels
 unfoldable mutual
   pub relabel : {A B : Type 0} → (A → B) → Tree A → Tree B

@@ -1,7 +1,6 @@
 -- `put_number` meets its contract: "0", or the digits.
 use native.Mathlib.Omega.{arith}
-use Rattle.lines.specs.DecimalLaws.{digits-length}
-use Rattle.lines.specs.LineLaws.{number-zero, number-more}
+use Rattle.lines.specs.LineLaws.{digits-length, number-zero, number-more}
 use borrow.Author.Needs.{needs}
 use Rattle.lines.proofs.put_number.Statement.{statement}
 use Rattle.lines.proofs.put_number.Tie as tie

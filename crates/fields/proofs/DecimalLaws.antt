@@ -5,7 +5,7 @@ use native.Mathlib.Omega.{arith}
 use mathlib.Core.Path.{_≡_, refl, ap}
 use mathlib.Core.List.{List, [], _∷_, _++_}
 use lib.ListN.{length, length-append}
-use Rattle.lines.specs.Decimal.{digits, digitsOf, decimal, numberRoom}
+use Rattle.fields.specs.Decimal.{digits, digitsOf, decimal}
 
 digits-same : (a b x : ℕ) → x < a → x < b → digits a x ≡ digits b x
 unfolding digits
@@ -36,14 +36,10 @@ decimal-more zero l = absurd (omega arith)
 decimal-more (suc x) l = refl
 
 -- a number below 10 ^ k has at most k digits
-digits-few : (k steps x : ℕ) → x < 10 ^ k → length (digits steps x) ≤ k
+pub digits-few : (k steps x : ℕ) → x < 10 ^ k → length (digits steps x) ≤ k
 unfolding digits
 digits-few k zero x l = omega arith
 digits-few k (suc s) zero l = omega arith
 digits-few zero (suc s) (suc x) l = absurd (omega arith)
 digits-few (suc k) (suc s) (suc x) l =
     omega (arith, length-append (digits s (suc x / 10)) ((48 + suc x % 10) ∷ []), digits-few k s (suc x / 10) (omega (arith, pow-succ' 10 k)))
-
--- an eight-byte number has no more digits than there is room for
-pub digits-length : (x : ℕ) → x < 2 ^ 64 → length (digitsOf x) ≤ numberRoom
-digits-length x l = digits-few numberRoom (suc x) x (omega arith)

@@ -15,7 +15,3 @@ digitsOf x = digits (suc x) x
 unfoldable pub decimal : ℕ → List ℕ
 decimal zero = 48 ∷ []
 decimal (suc x) = digitsOf (suc x)
-
--- room for a number: one of eight bytes has at most twenty digits
-abbrev pub numberRoom : ℕ
-numberRoom = 20

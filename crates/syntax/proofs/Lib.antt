@@ -1,0 +1,14 @@
+pub mod Follows
+pub mod ParsedLaws
+pub mod NumberLaws
+pub mod QuotedLaws
+pub mod TestLaws
+pub mod TestLengths
+pub mod TestValid
+pub mod ConditionLaws
+pub mod WordLaws
+pub mod Steps
+pub mod SpellingRead
+pub mod ReadSpelling
+pub mod Spelled
+pub mod Lengths

@@ -1,0 +1,4 @@
+pub mod Spelling
+pub mod Parsed
+pub mod Conditions
+pub mod Machine
