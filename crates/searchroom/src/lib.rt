@@ -4,3 +4,4 @@ pub mod copy_call;
 pub mod outcome_call;
 pub mod question_call;
 pub mod run_call;
+pub mod typed_call;

@@ -1,0 +1,2 @@
+// A typed condition, read into its field.
+pub mod condition;

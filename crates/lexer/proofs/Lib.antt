@@ -1,0 +1,4 @@
+pub mod Ahead
+pub mod WordBytes
+pub mod Digits
+pub mod QuotedBytes

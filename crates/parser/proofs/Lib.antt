@@ -1,0 +1,4 @@
+pub mod OpenLaws
+pub mod ReadingLaws
+pub mod GroupLoops
+pub mod Members

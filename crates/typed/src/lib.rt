@@ -1,0 +1,59 @@
+// A typed question read against a catalogue: its bytes, checked as every question's are, go out to the lent output.
+use ancestors::Ancestors;
+use answers::refusal::Refusal;
+use answers::word::Answer;
+use parser::whole::Question;
+use parser::whole::TypedText;
+use query::format::Predicate;
+use reader::whole::Reading;
+ghost use Prim.Native.Nat.{_^_, _<_};
+ghost use lib.ListN.{length};
+ghost use mathlib.Core.Path.{_≡_};
+ghost use Rattle.query.specs.Decode.{decodeTagged};
+ghost use Rattle.answers.specs.Word.{packed, FitsWord};
+ghost use Rattle.answers.specs.Written.{written};
+ghost use Rattle.demands.specs.Typed.{questionTyped, typedOf};
+
+// The checks of the question's own bytes, then the output's; the bytes written.
+fn give_question(tags: &[u8], question: &[u8], output: &mut [u8]) -> Answer
+    requires { ⌜ length (now question) < 2 ^ 24 ⌝ }
+    ensures { λ r. ⌜ (written (packed r) (now (output .exit)) ≡ questionTyped (decodeTagged (now (tags .entry)) (now (question .entry))) (now (question .entry)) (now (output .entry))) × FitsWord r ⌝ }
+{
+    let mut offsets = [0usize; Predicate::LIMIT];
+    let mut ancestors = [0u8; Ancestors::TABLE_SIZE];
+    match reader::whole::read_query(tags, question, &mut offsets, &mut ancestors) {
+        Reading::Refused(e) => Answer::Refused(e),
+        Reading::Accepted { n: _ } => {
+            if output.len() < question.len() {
+                return Answer::Refused(Refusal::TYPED_OUTPUT_TOO_SHORT);
+            }
+            let size = fields::output::put(output, 0, question);
+            Answer::Accepted {
+                first: 0,
+                second: 0,
+                third: size as u64,
+            }
+        }
+    }
+}
+
+// The catalogue's checks, the text's, and those of the question that it spells.
+pub fn type_question(catalogue: &[u8], text: &[u8], output: &mut [u8]) -> Answer
+    ensures { λ r. ⌜ (written (packed r) (now (output .exit)) ≡ typedOf (now (catalogue .entry)) (now (text .entry)) (now (output .entry))) × FitsWord r ⌝ }
+{
+    let layout = layout::lay_out(catalogue);
+    let refusal = layout.refusal;
+    let columns = layout.columns;
+    let tags = layout.tags;
+    if refusal != 0 {
+        return Answer::Refused(refusal);
+    }
+    if TypedText::LIMIT < text.len() {
+        return Answer::Refused(Refusal::TEXT_MISSPELLED);
+    }
+    let mut own = [0u8; TypedText::ROOM];
+    match parser::whole::read_text(&tags[..columns], text, &mut own) {
+        Question::Misspelled => Answer::Refused(Refusal::TEXT_MISSPELLED),
+        Question::Read { size } => give_question(&tags[..columns], &own[..size], output),
+    }
+}
