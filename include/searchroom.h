@@ -29,7 +29,7 @@
 #include <stdint.h>
 
 /* The release; the pkg-config file has the same. */
-#define SEARCHROOM_VERSION "0.3.1"
+#define SEARCHROOM_VERSION "0.4.0"
 
 #ifdef __cplusplus
 extern "C" {
@@ -46,7 +46,9 @@ enum {
     SEARCHROOM_LOOKS_BYTES = 16384,  /* the most bytes that a run writes to the looks table */
     SEARCHROOM_TALLY_BYTES = 8,      /* bytes of the house tally */
     SEARCHROOM_COPY_FIELD_BYTES = 7, /* bytes that a copy writes for each look */
-    SEARCHROOM_COPY_BYTES = 917504   /* the most bytes that a copy writes to its output */
+    SEARCHROOM_COPY_BYTES = 917504,  /* the most bytes that a copy writes to its output */
+    SEARCHROOM_MAX_TYPED = 16384,    /* bytes of a typed question */
+    SEARCHROOM_TYPED_BYTES = 3139    /* the most bytes that searchroom_typed writes to its output */
 };
 
 /* Outcomes: what a condition answers at an entry. */
@@ -98,7 +100,11 @@ enum {
     /* Outcome: no such entry or condition. */
     SEARCHROOM_NO_SUCH_PLACE = 18,
     /* Copy: the output is too short for a field for each look. (19 is the program's: no call gives it.) */
-    SEARCHROOM_SHORT_OUTPUT = 20
+    SEARCHROOM_SHORT_OUTPUT = 20,
+    /* Typed question: the text is over 16,384 bytes, or is not spelled as searchroom_typed asks. */
+    SEARCHROOM_MISSPELLED = 21,
+    /* Typed question: the output is too short for the question's bytes. */
+    SEARCHROOM_SHORT_TYPED_OUTPUT = 22
 };
 
 /* The refusal's number in a packed word, SEARCHROOM_ACCEPTED where the call is accepted. */
@@ -132,7 +138,9 @@ static inline const char *searchroom_refusal_text(unsigned refusal)
     case SEARCHROOM_SHORT_TABLE: return "a table is too short";
     case SEARCHROOM_BAD_TALLY: return "the tally is not eight bytes, or the sum would pass 2^64 - 1";
     case SEARCHROOM_NO_SUCH_PLACE: return "there is no such entry or condition";
-    case SEARCHROOM_SHORT_OUTPUT: return "the output is too short";
+    case SEARCHROOM_SHORT_OUTPUT: return "the output is too short for the copy";
+    case SEARCHROOM_MISSPELLED: return "the typed question is over 16,384 bytes or misspelled";
+    case SEARCHROOM_SHORT_TYPED_OUTPUT: return "the output is too short for the typed question's bytes";
     default: return "unknown refusal";
     }
 }
@@ -263,6 +271,7 @@ uint64_t searchroom_copy(const uint8_t *catalogue, size_t catalogue_len,
                          const uint8_t *order, size_t order_len,
                          uint8_t *output, size_t output_len);
 
+/* The number of bytes that a copy or searchroom_typed wrote. */
 static inline uint32_t searchroom_written(uint64_t word) { return searchroom_third(word); }
 
 /* Of a field that a copy wrote, given by its first byte: the entry looked at. */
@@ -273,6 +282,47 @@ static inline unsigned searchroom_copied_condition(const uint8_t *field) { retur
 
 /* Of such a field: the condition's outcome at the entry. */
 static inline unsigned searchroom_copied_outcome(const uint8_t *field) { return field[6]; }
+
+/*
+ * Reads a typed question: the text that staff type becomes the question bytes that every other call takes.
+ *
+ * A typed question is one condition or one group:
+ *     c0 in 1700..1799        the number in column 0 is from 1700 to 1799 (kind 0)
+ *     c0 blank                column 0 is blank: kind 1, or kind 5 if the column holds texts; kind 1 where there is no such
+ *                             column (the question is then refused with 11)
+ *     c1 is "ash"             the text in column 1 equals "ash" (kind 2),
+ *     c1 starts "ash"         begins with it (kind 3),
+ *     c1 has "ash"            contains it (kind 4)
+ *     not c0 in 1700..1799    `not ` before any of these: the opposite (kind + 128)
+ *     all(MEMBER,MEMBER)      an all-of group (tag 65)
+ *     any(MEMBER,MEMBER)      an any-of group (tag 79)
+ * A group has one or more members, each again a condition or a group, with one comma between two and no `not ` before the group.
+ *
+ * Outside quotes letters are small and no spaces stand but those shown. Nothing stands before or after: strip the newline at a
+ * file's end. Columns are 0 to 255 and numbers 0 to 4,294,967,295, in decimal without leading zeros. Between quotes stand none
+ * or more bytes. The bytes 32 to 126 stand for themselves, except the quote (34) and the backslash (92). These two and every
+ * other byte are escaped, as a backslash and two digits 0-9A-F: `c1 is "\22Ash\22"`, `c1 has "Andr\E9"`. A byte that stands for
+ * itself may not be escaped, and the digits a-f are not taken. The engine takes this spelling and no other, so each accepted
+ * question has one typed form.
+ *
+ * The example parish has years in column 0 and names in column 1. Year 1700 to 1799 and parish beginning "ash", or year blank:
+ *     any(all(c0 in 1700..1799,c1 starts "ash"),c0 blank)
+ * is read into the 32 bytes
+ *     4F 00 1D 41 00 15 50 00 0A 00 00 00 00 06 A4 00 00 07 07 50 00 05 01 03 61 73 68 50 00 02 00 01
+ *
+ *     text    the typed question, at most SEARCHROOM_MAX_TYPED bytes; no zero byte ends it
+ *     output  the output; its front is written: the question bytes
+ * Further bytes of output stay as they are. SEARCHROOM_TYPED_BYTES bytes are enough for any typed question.
+ *
+ * Results: third the number of bytes written (searchroom_written).
+ * Refusals: 1 to 6 for the catalogue; then 21, the text is too long or not so spelled; then 10 to 13 as
+ * searchroom_check_question gives them for the bytes read, 11 for instance where there is no such column, it holds the other
+ * sort of values, or between the quotes is nothing or over 23 bytes (7, 8, 9 and 14 cannot come); then 22. Nothing is then
+ * written.
+ */
+uint64_t searchroom_typed(const uint8_t *catalogue, size_t catalogue_len,
+                          const uint8_t *text, size_t text_len,
+                          uint8_t *output, size_t output_len);
 
 #ifdef __cplusplus
 }

@@ -31,5 +31,6 @@ void question_cases(void);
 void run_cases(void);
 void blocks_cases(void);
 void copy_cases(void);
+void typed_cases(void);
 
 #endif

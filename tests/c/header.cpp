@@ -8,5 +8,7 @@ int main()
     uint8_t output[SEARCHROOM_COPY_FIELD_BYTES];
     uint64_t checked = searchroom_check_catalogue(bytes, sizeof bytes);
     uint64_t copied = searchroom_copy(bytes, sizeof bytes, blank, sizeof blank, order, sizeof order, output, sizeof output);
-    return searchroom_columns(checked) == 1 && copied == SEARCHROOM_ACCEPTED ? 0 : 1;
+    const uint8_t text[] = {'c', '0', ' ', 'b', 'l', 'a', 'n', 'k'};
+    uint64_t typed = searchroom_typed(bytes, sizeof bytes, text, sizeof text, output, sizeof output);
+    return searchroom_columns(checked) == 1 && copied == SEARCHROOM_ACCEPTED && searchroom_written(typed) == 5 ? 0 : 1;
 }

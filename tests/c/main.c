@@ -68,6 +68,7 @@ int main(void)
     run_cases();
     blocks_cases();
     copy_cases();
+    typed_cases();
     printf("%u passed, %u failed\n", passed, failed);
     return failed == 0 ? 0 : 1;
 }

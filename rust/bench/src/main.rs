@@ -17,6 +17,7 @@ mod run;
 mod sqlite;
 mod table;
 mod timing;
+mod typed;
 
 use table::Table;
 
@@ -28,6 +29,7 @@ fn main() {
     copy::report(&mut table);
     against_sqlite::report(&mut table);
     count::report(&mut table);
+    typed::report(&mut table);
     table.print_end();
     look::report();
 }

@@ -12,3 +12,9 @@ pub fn take_field<'a>(rest: &mut &'a [u8]) -> Option<Field<'a>> {
     *rest = after;
     Some(Field { tag: head[0], payload })
 }
+
+/// The bytes of a field with this tag and payload, which has at most 65,535 bytes.
+pub fn field_of(tag: u8, payload: &[u8]) -> Vec<u8> {
+    let length = u16::try_from(payload.len()).expect("a payload of at most 65,535 bytes");
+    [&[tag], length.to_be_bytes().as_slice(), payload].concat()
+}

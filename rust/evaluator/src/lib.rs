@@ -11,7 +11,9 @@ mod question;
 pub mod refusal;
 mod register;
 mod run;
+mod spelling;
 mod tables;
+mod typed;
 mod word;
 
 pub use catalogue::{BLANK_NUMBER, Catalogue, Column, read_catalogue};
@@ -21,5 +23,7 @@ pub use question::{Question, Tree, read_question};
 pub use refusal::Number;
 pub use register::{refused_register, register};
 pub use run::{Found, due_by_reach, due_by_trying, find};
+pub use spelling::spelling;
 pub use tables::{Ran, run};
+pub use typed::{Typed, read_typed, typed};
 pub use word::{catalogue_word, outcome_word, pack, question_word, refused};

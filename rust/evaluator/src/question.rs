@@ -3,9 +3,9 @@ use crate::condition::{Condition, read_condition};
 use crate::field::take_field;
 use crate::refusal::{self, Number};
 
-const ALL_OF_TAG: u8 = 65;
-const ANY_OF_TAG: u8 = 79;
-const CONDITION_TAG: u8 = 80;
+pub(crate) const ALL_OF_TAG: u8 = 65;
+pub(crate) const ANY_OF_TAG: u8 = 79;
+pub(crate) const CONDITION_TAG: u8 = 80;
 const MAX_CONDITIONS: usize = 64;
 const MAX_DEPTH: usize = 8;
 

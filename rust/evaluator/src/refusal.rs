@@ -44,3 +44,7 @@ pub const NO_SUCH_PLACE: Number = 18;
 pub const FILE: Number = 19;
 /// The lent output is too short.
 pub const OUTPUT: Number = 20;
+/// A typed question is over 16,384 bytes or isn't so spelled.
+pub const MISSPELLED: Number = 21;
+/// The lent output is too short for the question that was typed.
+pub const TYPED_OUTPUT: Number = 22;

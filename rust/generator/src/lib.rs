@@ -1,5 +1,5 @@
-//! Random inputs from a seed: decoded values, their bytes, and damages to bytes. Beside them, worked by hand, the twelve kinds
-//! with their answers.
+//! Random inputs from a seed: decoded values, their bytes, and damages to bytes and to typed texts. Beside them, worked by
+//! hand, the twelve kinds with their answers.
 //!
 //! The same seed gives the same input on every machine, so that a test which fails names the seed and no more.
 
@@ -7,7 +7,9 @@ mod catalogue;
 mod county;
 mod damage;
 mod encode;
+mod faulty;
 mod kinds;
+mod misspelling;
 mod near;
 mod outcomes;
 mod question;
@@ -17,8 +19,10 @@ pub use catalogue::{catalogue, catalogue_of, column, text, with_blanks};
 pub use county::county;
 pub use damage::{Damage, damage};
 pub use encode::{encode_catalogue, encode_condition, encode_question, encode_texts, field};
+pub use faulty::{faulty_question, typable_question};
 pub use kinds::{Kind, twelve_kinds};
+pub use misspelling::{Misspelling, misspell};
 pub use near::{near_text, operand};
 pub use outcomes::{BLOCK, Pattern, with_outcomes};
-pub use question::{condition, faulty_question, question, question_of, running_order, tree_of};
+pub use question::{condition, question, question_of, running_order, tree_of};
 pub use rng::Rng;

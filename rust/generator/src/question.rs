@@ -1,6 +1,5 @@
 use evaluator::{BLANK_NUMBER, Catalogue, Column, Condition, Question, Test, Tree};
 
-use crate::encode::{encode_condition, field};
 use crate::{Rng, text};
 
 /// An accepted question over a catalogue: most often with few conditions, sometimes with up to 64.
@@ -100,80 +99,4 @@ fn like(rng: &mut Rng, texts: &[Vec<u8>]) -> Vec<u8> {
         }
     }
     found
-}
-
-/// Question bytes whose lengths fit, with a fault in some places: at `faults` in a hundred members. Unlike a damage, a
-/// fault is well wrapped, so that walks get past it to the next one.
-pub fn faulty_question(rng: &mut Rng, catalogue: &Catalogue, faults: usize) -> Vec<u8> {
-    let mut made = Faulty { catalogue, faults, payloads: Vec::new() };
-    let mut bytes = made.member(rng, 1);
-    if rng.chance(faults) {
-        let length = rng.between(1, 4);
-        bytes.extend(rng.bytes(length));
-    }
-    bytes
-}
-
-struct Faulty<'a> {
-    catalogue: &'a Catalogue,
-    faults: usize,
-    payloads: Vec<Vec<u8>>,
-}
-
-impl Faulty<'_> {
-    fn member(&mut self, rng: &mut Rng, depth: usize) -> Vec<u8> {
-        if rng.chance(self.faults) {
-            return self.fault(rng, depth);
-        }
-        if depth <= 8 && rng.chance(if depth == 1 { 90 } else { 45 }) {
-            return self.group(rng, depth);
-        }
-        let payload = encode_condition(&condition(rng, self.catalogue));
-        self.payloads.push(payload.clone());
-        field(80, &payload)
-    }
-
-    fn group(&mut self, rng: &mut Rng, depth: usize) -> Vec<u8> {
-        let tag = *rng.pick(&[65, 79]);
-        // Now and then more members than a question may have conditions.
-        let members = if depth == 1 && rng.chance(4) { 70 } else { rng.between(1, 4) };
-        let mut payload = Vec::new();
-        for _ in 0..members {
-            if payload.len() < 8_000 {
-                payload.extend(self.member(rng, depth + 1));
-            }
-        }
-        field(tag, &payload)
-    }
-
-    fn fault(&mut self, rng: &mut Rng, depth: usize) -> Vec<u8> {
-        match rng.below(7) {
-            0 => field(*rng.pick(&[0, 64, 66, 67, 76, 78, 81, 84, 255]), &[0, 1]),
-            1 => field(*rng.pick(&[65, 79]), &[]),
-            2 => {
-                let length = rng.between(1, 3);
-                rng.bytes(length)
-            }
-            3 => {
-                let deeper = (depth..=9).fold(field(80, &[0, 1]), |inner, _| field(65, &inner));
-                if rng.chance(50) { deeper } else { (depth..=9).fold(Vec::new(), |inner, _| field(79, &inner)) }
-            }
-            4 if !self.payloads.is_empty() => field(80, rng.pick::<Vec<u8>>(&self.payloads)),
-            _ => field(80, &self.faulty_payload(rng)),
-        }
-    }
-
-    /// A condition's payload with one thing of it changed.
-    fn faulty_payload(&self, rng: &mut Rng) -> Vec<u8> {
-        let mut payload = encode_condition(&condition(rng, self.catalogue));
-        match rng.below(6) {
-            0 => payload[0] = *rng.pick(&[self.catalogue.columns.len() as u8, 16, 255]),
-            1 => payload[1] = *rng.pick(&[6, 127, 134, 255]),
-            2 => payload[1] = rng.below(6) as u8 + if rng.chance(50) { 128 } else { 0 },
-            3 => payload.truncate(rng.below(payload.len())),
-            4 => payload.push(rng.byte()),
-            _ => payload[2..].fill(*rng.pick(&[0, 255])),
-        }
-        payload
-    }
 }

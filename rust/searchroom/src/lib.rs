@@ -18,6 +18,7 @@ mod question;
 mod refusal;
 mod run;
 mod sys;
+mod typed;
 mod word;
 
 pub use catalogue::{Size, check_catalogue};
@@ -26,6 +27,7 @@ pub use copy::{COPY_BYTES, Look, Looks, copy, copy_of, looks};
 pub use question::{Answer, check_question, outcome};
 pub use refusal::Refusal;
 pub use run::{Counts, run};
+pub use typed::{MAX_TYPED, TYPED_BYTES, typed, typed_question};
 pub use word::Word;
 
 /// The calls as C sees them: the answer is the packed [`Word`], not taken apart.
@@ -34,4 +36,5 @@ pub mod raw {
     pub use crate::copy::copy_word as copy;
     pub use crate::question::{check_question_word as check_question, outcome_word as outcome};
     pub use crate::run::run_word as run;
+    pub use crate::typed::typed_word as typed;
 }

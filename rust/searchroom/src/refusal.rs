@@ -52,7 +52,9 @@ refusals! {
     ShortTable = 16, "a table is too short";
     BadTally = 17, "the tally is not eight bytes, or the sum would pass 2^64 - 1";
     NoSuchPlace = 18, "there is no such entry or condition";
-    ShortOutput = 20, "the output is too short";
+    ShortOutput = 20, "the output is too short for the copy";
+    Misspelled = 21, "the typed question is over 16,384 bytes or misspelled";
+    ShortTypedOutput = 22, "the output is too short for the typed question's bytes";
 }
 
 impl Refusal {

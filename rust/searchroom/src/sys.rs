@@ -44,4 +44,13 @@ unsafe extern "C" {
         output: *mut u8,
         output_len: usize,
     ) -> u64;
+
+    pub fn searchroom_typed(
+        catalogue: *const u8,
+        catalogue_len: usize,
+        text: *const u8,
+        text_len: usize,
+        output: *mut u8,
+        output_len: usize,
+    ) -> u64;
 }

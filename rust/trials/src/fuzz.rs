@@ -5,30 +5,41 @@
 
 use std::collections::HashSet;
 
-use evaluator::{question_word, read_catalogue};
+use evaluator::{question_word, read_catalogue, spelling};
 use generator::{
-    Damage, Rng, catalogue_of, damage, encode_catalogue, encode_question, field, question_of, running_order,
+    Damage, Misspelling, Rng, catalogue_of, damage, encode_catalogue, encode_question, field, misspell, question_of,
+    running_order,
 };
 
+use searchroom::TYPED_BYTES;
+
 use crate::{
-    PARISH_CATALOGUE, PARISH_ORDER, PARISH_QUESTION, Run, Seen, compare_catalogue, compare_copy, compare_outcome,
-    compare_question, compare_run,
+    PARISH_CATALOGUE, PARISH_ORDER, PARISH_QUESTION, PARISH_TEXT, Run, Seen, Typing, compare_catalogue, compare_copy,
+    compare_outcome, compare_question, compare_run, compare_typed,
 };
 
 /// No more inputs than this are kept.
 const KEPT: usize = 4_000;
-/// A catalogue or question longer than this is cut, so that steps stay fast.
+/// A catalogue, question or text longer than this is cut, so that steps stay fast.
 const LONGEST: usize = 3_000;
 
 /// Bytes that mean something in some place.
 const TELLING: [u8; 20] = [0, 1, 2, 3, 4, 5, 7, 8, 22, 23, 24, 63, 64, 65, 67, 78, 79, 80, 84, 128];
 
+/// What every call is made with.
+#[derive(Clone, Default)]
+struct Given {
+    run: Run,
+    /// The typed question.
+    text: Vec<u8>,
+}
+
 /// A fuzzing in progress. The same seed goes the same way.
 pub struct Fuzz {
     seed: u64,
     rng: Rng,
-    kept: Vec<Run>,
-    met: HashSet<[u64; 5]>,
+    kept: Vec<Given>,
+    met: HashSet<[u64; 6]>,
     steps: u64,
     seen: Seen,
 }
@@ -44,13 +55,14 @@ impl Fuzz {
             looks: vec![0; 3],
             tally: vec![0; 8],
         };
-        let mut kept = vec![Run::default(), parish.clone()];
+        let mut kept = vec![Given::default(), Given { run: parish.clone(), text: PARISH_TEXT.into() }];
         for count in [1, 2, 3, 4, 5, 6, 7, 8, 9, 63, 64, 64] {
             let (entries, columns, depth) = (rng.between(0, 18), rng.between(1, 4), rng.between(1, 8));
             let made = catalogue_of(&mut rng, entries, columns);
             let asked = question_of(&mut rng, &made, count, depth);
             let (catalogue, question) = (encode_catalogue(&made), encode_question(&asked));
-            kept.push(Run { catalogue, question, ..parish.clone() });
+            let text = spelling(&question).expect("a typed form").into();
+            kept.push(Given { run: Run { catalogue, question, ..parish.clone() }, text });
         }
         Fuzz { seed, rng, kept, met: HashSet::new(), steps: 0, seen: Seen::none() }
     }
@@ -81,30 +93,31 @@ impl Fuzz {
     }
 
     /// The answers of all calls, on which the engine and the evaluator must agree.
-    fn judge(&mut self, given: &Run) -> [u64; 5] {
+    fn judge(&mut self, Given { run, text }: &Given) -> [u64; 6] {
         let label = format!("fuzz seed {}, step {}", self.seed, self.steps);
         let [entry, condition] = [(); 2].map(|()| match self.rng.below(8) {
             0 => self.rng.next_u64(),
             1 => 1 << self.rng.below(64),
             _ => self.rng.below(8) as u64,
         });
-        let ran = compare_run(&label, given).word;
-        let output = self.output(ran);
+        let ran = compare_run(&label, run).word;
+        let copied = self.output(7 * (ran >> 40) as usize);
+        let read = evaluator::typed(&run.catalogue, text, &[0; TYPED_BYTES]).word;
+        let typed = self.output((read >> 40) as usize);
         let words = [
-            compare_catalogue(&label, &given.catalogue),
-            compare_question(&label, &given.catalogue, &given.question),
-            compare_outcome(&label, &given.catalogue, &given.question, entry, condition),
+            compare_catalogue(&label, &run.catalogue),
+            compare_question(&label, &run.catalogue, &run.question),
+            compare_outcome(&label, &run.catalogue, &run.question, entry, condition),
             ran,
-            compare_copy(&label, &given.copying(&output)).word,
+            compare_copy(&label, &run.copying(&copied)).word,
+            compare_typed(&label, &Typing { catalogue: &run.catalogue, text, output: &typed }).word,
         ];
         words.iter().for_each(|&word| self.seen.count(word));
         words
     }
 
-    /// An output for the copy of a run that was answered so: of just the bytes that an accepted run's looks take, nearly so
-    /// many, or any.
-    fn output(&mut self, ran: u64) -> Vec<u8> {
-        let fit = 7 * (ran >> 40) as usize;
+    /// An output for a call that writes so many bytes: of just these, nearly so many, or any.
+    fn output(&mut self, fit: usize) -> Vec<u8> {
         let length = match self.rng.below(8) {
             0 => fit.saturating_sub(self.rng.between(1, 8)),
             1 => self.rng.below(300),
@@ -113,15 +126,16 @@ impl Fuzz {
         self.rng.bytes(length)
     }
 
-    fn change(&mut self, given: &mut Run) {
+    fn change(&mut self, Given { run: given, text }: &mut Given) {
         let rng = &mut self.rng;
-        let other = rng.pick(&self.kept);
-        match rng.below(10) {
+        let Given { run: other, text: other_text } = rng.pick(&self.kept);
+        match rng.below(13) {
             0..3 => change_bytes(rng, &mut given.catalogue, &other.catalogue),
             3..6 => change_bytes(rng, &mut given.question, &other.question),
             6 => change_bytes(rng, &mut given.order, &other.order),
             7 => change_tables(rng, given),
             8 => given.catalogue.clone_from(&other.catalogue),
+            9..12 => change_text(rng, text, other_text, &given.question),
             _ => {
                 // One group more round it, alone, beside another question, or beside a short condition.
                 let short = field(80, &[rng.below(3) as u8, rng.below(6) as u8, rng.byte()]);
@@ -131,6 +145,7 @@ impl Fuzz {
         }
         given.catalogue.truncate(LONGEST);
         given.question.truncate(LONGEST);
+        text.truncate(LONGEST);
         if rng.chance(70) {
             fit(rng, given);
         }
@@ -162,6 +177,19 @@ fn change_bytes(rng: &mut Rng, bytes: &mut Vec<u8>, other: &[u8]) {
         _ => {
             let how = *rng.pick(&Damage::ALL);
             damage(rng, bytes, how);
+        }
+    }
+}
+
+/// Spoils a typed text, puts a group round it and another one, or takes that of the question if it has one.
+fn change_text(rng: &mut Rng, text: &mut Vec<u8>, other: &[u8], question: &[u8]) {
+    match rng.below(8) {
+        0 => *text = [rng.pick::<&[u8]>(&[b"all(", b"any("]), text.as_slice(), b",", other, b")"].concat(),
+        1 => change_bytes(rng, text, other),
+        2 => *text = spelling(question).unwrap_or_default().into(),
+        _ => {
+            let how = *rng.pick(&Misspelling::ALL);
+            misspell(rng, text, how);
         }
     }
 }

@@ -12,6 +12,7 @@ mod report;
 mod room;
 mod run;
 mod seen;
+mod typed;
 
 pub use catalogue::compare_catalogue;
 pub use copy::{Copying, compare_copy};
@@ -25,12 +26,16 @@ pub use report::hex;
 pub use room::Room;
 pub use run::{Run, compare_run};
 pub use seen::Seen;
+pub use typed::{Typing, compare_reading, compare_typed};
 
 /// The catalogue of document 01's parish of three entries.
 pub const PARISH_CATALOGUE: &[u8] = include_bytes!("../../../examples/parish/catalogue.bin");
 
 /// Its question: year 1700 to 1799 and parish beginning "ash", or year blank.
 pub const PARISH_QUESTION: &[u8] = include_bytes!("../../../examples/parish/question.bin");
+
+/// The same question as it is typed.
+pub const PARISH_TEXT: &str = r#"any(all(c0 in 1700..1799,c1 starts "ash"),c0 blank)"#;
 
 /// Its running order 0, 1, 2.
 pub const PARISH_ORDER: &[u8] = include_bytes!("../../../examples/parish/order.bin");

@@ -1,15 +1,17 @@
-//! The C header repeats numbers of the crates: each is the same in both, and the header's version is the workspace's.
+//! The C header repeats numbers of the crates: each is the same in both, and the header's version is the workspace's. Its
+//! example of a typed question is read into the bytes that it shows.
 
 use std::collections::BTreeMap;
 use std::fs;
 use std::path::Path;
 
-use searchroom::{Answer, Refusal};
+use searchroom::{Answer, COPY_BYTES, MAX_TYPED, Refusal, TYPED_BYTES, typed_question};
+use trials::PARISH_CATALOGUE;
 
 const HEADER: &str = include_str!("../../../include/searchroom.h");
 
 /// A constant of the header and the crates' constant that it repeats.
-const SAME: [(&str, &str); 26] = [
+const SAME: [(&str, &str); 29] = [
     ("MAX_ENTRIES", "Row::LIMIT"),
     ("MAX_COLUMNS", "Column::LIMIT"),
     ("MAX_TEXT", "Text::LIMIT"),
@@ -17,6 +19,7 @@ const SAME: [(&str, &str); 26] = [
     ("MAX_DEPTH", "Group::DEPTH_LIMIT"),
     ("TALLY_BYTES", "Counter::SIZE"),
     ("COPY_FIELD_BYTES", "ProbeField::SIZE"),
+    ("MAX_TYPED", "TypedText::LIMIT"),
     ("CATALOGUE_FIELD", "Refusal::FIELD_CUT"),
     ("CATALOGUE_HEADER", "Refusal::NOT_CATALOGUE"),
     ("CATALOGUE_LIMITS", "Refusal::COUNTS_OUT_OF_RANGE"),
@@ -36,6 +39,8 @@ const SAME: [(&str, &str); 26] = [
     ("BAD_TALLY", "Refusal::COUNTER_REFUSED"),
     ("NO_SUCH_PLACE", "Refusal::NO_SUCH_ROW_OR_PREDICATE"),
     ("SHORT_OUTPUT", "Refusal::OUTPUT_TOO_SHORT"),
+    ("MISSPELLED", "Refusal::TEXT_MISSPELLED"),
+    ("SHORT_TYPED_OUTPUT", "Refusal::TYPED_OUTPUT_TOO_SHORT"),
 ];
 
 /// Refusal 19 is the program's, and no call of the library gives it.
@@ -90,6 +95,11 @@ fn header_has_the_constants_of_the_crates() {
     expected.insert("LOOKS_BYTES".to_string(), row * of["Predicate::LIMIT"]);
     let most_looks = of["Row::LIMIT"] * of["Predicate::LIMIT"];
     expected.insert("COPY_BYTES".to_string(), of["ProbeField::SIZE"] * most_looks);
+    // Each condition as long as can be, in groups of its own down to the deepest, all in the outermost.
+    let head = of["Header::SIZE"];
+    let condition = head + of["Payload::HEAD"] + of["Text::LIMIT"];
+    let groups = head * (of["Group::DEPTH_LIMIT"] - 1);
+    expected.insert("TYPED_BYTES".to_string(), head + of["Predicate::LIMIT"] * (groups + condition));
     // The crates have no constants for these: that the engine answers the wrapper's numbers is seen in outcome.rs.
     for (name, answer) in [("NO", Answer::No), ("YES", Answer::Yes), ("BLANK", Answer::Blank)] {
         expected.insert(name.to_string(), answer.number().into());
@@ -98,7 +108,9 @@ fn header_has_the_constants_of_the_crates() {
     for name in header.keys().chain(expected.keys()) {
         assert_eq!(header.get(name), expected.get(name), "SEARCHROOM_{name}: the header's and the crates'");
     }
-    assert_eq!(header["COPY_BYTES"], searchroom::COPY_BYTES as u64, "the header's and the wrapper's");
+    for (name, of_wrapper) in [("COPY_BYTES", COPY_BYTES), ("MAX_TYPED", MAX_TYPED), ("TYPED_BYTES", TYPED_BYTES)] {
+        assert_eq!(header[name], of_wrapper as u64, "SEARCHROOM_{name}: the header's and the wrapper's");
+    }
 }
 
 #[test]
@@ -113,6 +125,16 @@ fn every_refusal_of_the_crates_is_in_the_header_and_in_the_wrapper() {
     of_crates.sort_unstable();
     let of_wrapper: Vec<u64> = Refusal::ALL.iter().map(|refusal| refusal.number().into()).collect();
     assert_eq!(of_crates, of_wrapper);
+}
+
+#[test]
+fn example_of_a_typed_question_is_read_into_its_bytes() {
+    let (before, after) = HEADER.split_once("\n * is read into the 32 bytes\n").expect("the example");
+    let text = before.lines().last().unwrap().trim_start_matches([' ', '*']);
+    let digits = after.lines().next().unwrap().trim_start_matches([' ', '*']).split(' ');
+    let bytes: Vec<u8> = digits.map(|two| u8::from_str_radix(two, 16).expect(two)).collect();
+    assert_eq!(bytes.len(), 32);
+    assert_eq!(typed_question(PARISH_CATALOGUE, text.as_bytes()), Ok(bytes), "{text}");
 }
 
 #[test]

@@ -3,7 +3,7 @@
 use std::ffi::{c_int, c_void};
 use std::ptr;
 
-use evaluator::{Catalogue, Column, Condition, Question, Test, Tree};
+use evaluator::{Catalogue, Column, Condition, Question, Test, Tree, spelling};
 use trials::Run;
 
 /// The promise: less than this.
@@ -51,15 +51,20 @@ extern "C" fn nothing(_: *mut c_void) -> *mut c_void {
 /// What every call is made with.
 struct Given {
     run: Run,
-    /// The copy's.
+    /// The typed question.
+    text: String,
+    /// The copy's, and the typed question's.
     output: Vec<u8>,
+    /// What each call was answered, 0 or the refusal's number, in the sequence in which they are made.
+    numbers: [u8; 7],
 }
 
 extern "C" fn every_call(given: *mut c_void) -> *mut c_void {
     // SAFETY: the one argument that the test passes, which it does not use meanwhile.
-    let Given { run: Run { catalogue, question, order, listed, looks, tally }, output } =
+    let Given { run: Run { catalogue, question, order, listed, looks, tally }, text, output, numbers } =
         unsafe { &mut *given.cast::<Given>() };
     let words = [
+        searchroom::raw::typed(catalogue, text.as_bytes(), output),
         searchroom::raw::check_catalogue(catalogue),
         searchroom::raw::check_question(catalogue, question),
         searchroom::raw::outcome(catalogue, question, 0, 0),
@@ -67,7 +72,8 @@ extern "C" fn every_call(given: *mut c_void) -> *mut c_void {
         searchroom::raw::run(catalogue, question, order, listed, looks, tally),
         searchroom::raw::copy(catalogue, question, order, output),
     ];
-    if words.iter().all(|word| word.number() == 0) { given } else { ptr::null_mut() }
+    *numbers = words.map(|word| word.number());
+    ptr::null_mut()
 }
 
 /// Eight groups deep, with 64 conditions on numbers and on texts, over 2,048 entries.
@@ -85,7 +91,9 @@ fn largest() -> Given {
     }
     let asked = Question { tree, conditions: (0..64).map(condition).collect() };
     let order: Vec<u8> = (0..64).collect();
-    Given { run: Run::fitting(&made, &asked, &order), output: vec![0; searchroom::COPY_BYTES] }
+    let run = Run::fitting(&made, &asked, &order);
+    let text = spelling(&run.question).expect("a typed form");
+    Given { run, text, output: vec![0; searchroom::COPY_BYTES], numbers: [u8::MAX; 7] }
 }
 
 #[test]
@@ -93,10 +101,15 @@ fn calls_take_less_stack_than_promised() {
     let mut given = largest();
     let thread_alone = stack_taken(nothing, ptr::null_mut());
     let taken = stack_taken(every_call, (&raw mut given).cast()) - thread_alone;
-    assert_ne!(given.run.tally, [0; 8], "the run was accepted");
-    assert_eq!(given.output[0], 76, "the copy was accepted");
+    assert_eq!(given.numbers, [0; 7], "every call was accepted");
     println!("the calls take at most {taken} bytes of stack");
     assert!(taken < PROMISED, "{taken} bytes of stack, promised are less than {PROMISED}");
+    // A text is read to its end before a ninth group is refused.
+    let mut given = largest();
+    given.text = format!("{}c0 blank{}", "all(".repeat(3_275), ")".repeat(3_275));
+    let taken = stack_taken(every_call, (&raw mut given).cast()) - thread_alone;
+    assert_eq!(given.numbers, [10, 0, 0, 0, 0, 0, 0], "the text was read to its end");
+    assert!(taken < PROMISED, "{taken} bytes of stack for a text of 3,275 nested groups");
     // The reader stops at the ninth group, however many there are.
     let mut question = vec![80, 0, 0];
     while question.len() + 3 <= 65_538 {
@@ -105,5 +118,6 @@ fn calls_take_less_stack_than_promised() {
     let mut given = largest();
     given.run.question = question;
     let taken = stack_taken(every_call, (&raw mut given).cast()) - thread_alone;
+    assert_eq!(given.numbers, [0, 0, 10, 10, 10, 10, 10], "the question was read to its ninth group");
     assert!(taken < PROMISED, "{taken} bytes of stack for 21,845 nested groups");
 }

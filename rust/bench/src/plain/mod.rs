@@ -4,8 +4,10 @@ mod catalogue;
 mod copy;
 mod question;
 mod run;
+mod typed;
 
 pub use catalogue::check_catalogue;
 pub use copy::copy_every_outcome;
 pub use question::{check_question, outcome};
 pub use run::{run_every_outcome, run_in_tree_order};
+pub use typed::typed;
