@@ -1,9 +1,9 @@
 -- `check_catalogue` meets its contract: the layout shows what was decoded.
 use Rattle.catalogue.specs.Decode.{decodeCatalogue}
-use Rattle.searchroom.proofs.Answers.{answered-refused, answered-accepted}
+use Rattle.checks.proofs.Answers.{answered-refused, answered-accepted}
 use borrow.Author.Needs.{needs}
-use Rattle.searchroom.proofs.catalogue_call.check_catalogue.Statement.{statement}
-use Rattle.searchroom.proofs.catalogue_call.check_catalogue.Tie as tie
+use Rattle.checks.proofs.check_catalogue.Statement.{statement}
+use Rattle.checks.proofs.check_catalogue.Tie as tie
 
 lay-out-requires : tie.Need-lay-out-requires
 lay-out-requires c κs = search needs

@@ -1,8 +1,8 @@
 -- `check_question` meets its contract: the number of the first check that fails, or how many predicates there are.
-use Rattle.searchroom.proofs.Answers.{question-answer-refused, question-answer-accepted}
+use Rattle.checks.proofs.Answers.{question-answer-refused, question-answer-accepted}
 use borrow.Author.Needs.{needs}
-use Rattle.searchroom.proofs.question_call.check_question.Statement.{statement}
-use Rattle.searchroom.proofs.question_call.check_question.Tie as tie
+use Rattle.checks.proofs.check_question.Statement.{statement}
+use Rattle.checks.proofs.check_question.Tie as tie
 
 slice-aggregate-begin : tie.Need-slice-aggregate-begin
 slice-aggregate-begin c = search needs
