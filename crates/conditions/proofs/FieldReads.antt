@@ -13,7 +13,7 @@ use Rattle.predicate.specs.Payload.{payloadHead}
 use Rattle.query.specs.Format.{predicateTag}
 use Rattle.syntax.specs.Spelling.{notWord, columnWord, space}
 use Rattle.syntax.specs.Parsed.{Parsed, wrong, absent, stripped, strip, ParsedTo}
-use Rattle.syntax.specs.Conditions.{columnLimit, numberAhead, testAhead, plainAhead, conditionAhead}
+use Rattle.syntax.specs.Conditions.{greatestColumn, numberAhead, testAhead, plainAhead, conditionAhead}
 use Rattle.operands.specs.Reading.{TestTo}
 use Rattle.conditions.specs.declared.condition.Condition.{Condition}
 use Rattle.conditions.specs.declared.condition.Condition.the-variants as condition
@@ -34,11 +34,11 @@ module _ (tags : List ℕ) (raised : ℕ) (text : List ℕ) (at : ℕ) where
   plain-none e = rw e
 
   module _ (a : strip columnWord (drop at text) ≡ stripped (drop (at + 1) text)) where
-    pub plain-unnumbered : numberAhead columnLimit (drop (at + 1) text) ≡ wrong → plainAhead tags raised (drop at text) ≡ wrong
+    pub plain-unnumbered : numberAhead greatestColumn (drop (at + 1) text) ≡ wrong → plainAhead tags raised (drop at text) ≡ wrong
     unfolding plainAhead
     plain-unnumbered e = rw (a, e)
 
-    module _ {column behind : ℕ} (N : ParsedTo text (at + 1) (numberAhead columnLimit (drop (at + 1) text)) column behind) where
+    module _ {column behind : ℕ} (N : ParsedTo text (at + 1) (numberAhead greatestColumn (drop (at + 1) text)) column behind) where
       pub plain-joined : strip space (drop behind text) ≡ absent → plainAhead tags raised (drop at text) ≡ wrong
       unfolding plainAhead
       plain-joined e = rw (a, N .gives, e)

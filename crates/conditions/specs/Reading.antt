@@ -2,8 +2,7 @@
 use Prim.Native.Nat.{ℕ, _+_}
 use mathlib.Core.Path.{_≡_}
 use mathlib.Core.List.{List, [], _∷_, _++_}
-use Rattle.fields.specs.Numbers.{bytesOf}
-use Rattle.fields.specs.Header.{headerSize, fieldOf}
+use Rattle.fields.specs.Header.{headerSize, headerOf, fieldOf}
 use Rattle.fields.specs.Output.{Wrote}
 use Rattle.predicate.specs.Payload.{payloadHead}
 use Rattle.query.specs.Format.{predicateTag}
@@ -13,7 +12,7 @@ use Rattle.conditions.specs.declared.condition.Condition.the-variants as
 
 -- what stands before an operand of so many bytes: a field's header, the column and the kind
 abbrev pub fieldHead : (size column kind : ℕ) → List ℕ
-fieldHead size column kind = predicateTag ∷ (bytesOf 2 (payloadHead + size) ++ (column ∷ kind ∷ []))
+fieldHead size column kind = headerOf predicateTag (payloadHead + size) ++ (column ∷ kind ∷ [])
 
 abbrev pub fieldHeadSize : ℕ
 fieldHeadSize = headerSize + payloadHead

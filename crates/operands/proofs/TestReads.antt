@@ -12,7 +12,7 @@ use Rattle.predicate.specs.Kinds.{rangeKind, numberBlankKind, equalsKind, begin
 use Rattle.syntax.specs.Spelling.{inWord, toWord, blankWord, isWord, startsWord, hasWord, quote, blankKind}
 use Rattle.syntax.specs.Parsed.{Parsed, wrong, absent, stripped, strip, ParsedTo}
 use Rattle.syntax.specs.Conditions as ahead
-use Rattle.syntax.specs.Conditions.{numberLimit, numberAhead, quotedAhead, rangeAhead, textAhead, testAhead}
+use Rattle.syntax.specs.Conditions.{greatestNumber, numberAhead, quotedAhead, rangeAhead, textAhead, testAhead}
 use Rattle.syntax.proofs.TestLaws.{blank-kinds}
 use Rattle.lexer.specs.Lexed.{QuotedTo}
 use Rattle.operands.specs.declared.test.Test.{Test}
@@ -21,18 +21,18 @@ use Rattle.operands.specs.Reading.{TestTo, TestRead}
 
 -- TWO NUMBERS
 module _ (text : List ℕ) (at : ℕ) where
-  pub range-none : numberAhead numberLimit (drop at text) ≡ wrong → rangeAhead (drop at text) ≡ wrong
+  pub range-none : numberAhead greatestNumber (drop at text) ≡ wrong → rangeAhead (drop at text) ≡ wrong
   range-none e = rw e
 
-  module _ {low dots : ℕ} (L : ParsedTo text at (numberAhead numberLimit (drop at text)) low dots) where
+  module _ {low dots : ℕ} (L : ParsedTo text at (numberAhead greatestNumber (drop at text)) low dots) where
     pub range-apart : strip toWord (drop dots text) ≡ absent → rangeAhead (drop at text) ≡ wrong
     range-apart e = rw (L .gives, e)
 
     module _ (between : strip toWord (drop dots text) ≡ stripped (drop (dots + 2) text)) where
-      pub range-open : numberAhead numberLimit (drop (dots + 2) text) ≡ wrong → rangeAhead (drop at text) ≡ wrong
+      pub range-open : numberAhead greatestNumber (drop (dots + 2) text) ≡ wrong → rangeAhead (drop at text) ≡ wrong
       range-open e = rw (L .gives, between, e)
 
-      pub range-read : {high next end half stop : ℕ} {old mid new : List ℕ} → ParsedTo text (dots + 2) (numberAhead numberLimit (drop (dots + 2) text)) high next
+      pub range-read : {high next end half stop : ℕ} {old mid new : List ℕ} → ParsedTo text (dots + 2) (numberAhead greatestNumber (drop (dots + 2) text)) high next
           → end + 8 ≤ length old → Wrote end (bytesOf 4 low) old half mid → Wrote half (bytesOf 4 high) mid stop new
           → TestTo text at (rangeAhead (drop at text)) end old rangeKind next stop new
       range-read {high} {next} H l u v = record {

@@ -17,7 +17,7 @@ use Rattle.predicate.proofs.PayloadLaws.{valid-payload}
 use Rattle.query.proofs.PayloadBytes.{payload-parts}
 use Rattle.syntax.specs.Spelling.{groupWord, notWord, columnWord, space, spellTest, spellPayload, TestTypable, PayloadTypable}
 use Rattle.syntax.specs.Parsed.{Parsed, wrong, parsed, parsedThen, Stripped, absent, stripped, strip, strippedThen}
-use Rattle.syntax.specs.Conditions.{columnLimit, numberAhead, Asked, testAhead, plainAhead, conditionAhead}
+use Rattle.syntax.specs.Conditions.{greatestColumn, numberAhead, Asked, testAhead, plainAhead, conditionAhead}
 use Rattle.syntax.proofs.Follows.{Follows}
 use Rattle.syntax.proofs.ParsedLaws.{strip-sound, parsed-parts, stripped-parts}
 use Rattle.syntax.proofs.NumberLaws.{number-reads, number-sound}
@@ -41,12 +41,12 @@ module _ (p : List ℕ) where
 
 -- EVERY CONDITION IS READ
 
-plain-reads : (tags : List ℕ) (raised column kind : ℕ) (o rest : List ℕ) → column ≤ columnLimit → Bytes o → TestTypable tags column kind o → Follows rest
+plain-reads : (tags : List ℕ) (raised column kind : ℕ) (o rest : List ℕ) → column ≤ greatestColumn → Bytes o → TestTypable tags column kind o → Follows rest
     → plainAhead tags raised (spellPlain column kind o ++ rest) ≡ parsed (column ∷ (kind + raised) ∷ o) rest
 unfolding plainAhead strip
 plain-reads tags raised column kind o rest l h t w =
-    let first : numberAhead columnLimit ((decimal column ++ (space ++ spellTest kind o)) ++ rest) ≡ parsed column (space ++ (spellTest kind o ++ rest)) =
-    ap (numberAhead columnLimit) (append-assoc (decimal column) (space ++ spellTest kind o) rest) ∙ number-reads columnLimit column (space ++ (spellTest kind o ++ rest)) l refl in
+    let first : numberAhead greatestColumn ((decimal column ++ (space ++ spellTest kind o)) ++ rest) ≡ parsed column (space ++ (spellTest kind o ++ rest)) =
+    ap (numberAhead greatestColumn) (append-assoc (decimal column) (space ++ spellTest kind o) rest) ∙ number-reads greatestColumn column (space ++ (spellTest kind o ++ rest)) l refl in
     rw (first, test-reads tags column rest kind o h t w)
 
 ahead-plain : (tags : List ℕ) (column kind : ℕ) (o rest : List ℕ) → conditionAhead tags (spellPlain column kind o ++ rest) ≡ plainAhead tags 0 (spellPlain column kind o ++ rest)
@@ -101,7 +101,7 @@ record PlainStands (tags : List ℕ) (raised : ℕ) (text p rest : List ℕ) : T
   column : ℕ
   kind : ℕ
   operand : List ℕ
-  column-small : column ≤ columnLimit
+  column-small : column ≤ greatestColumn
   kind-small : kind ≤ textBlankKind
   bytes : Bytes operand
   test : TestTypable tags column kind operand
@@ -122,12 +122,12 @@ plain-sound tags raised text p rest h = first (stripped-parts (strip columnWord 
     afterColumn column r = strippedThen (strip space r) (afterSpace column) wrong
 
     afterC : List ℕ → Parsed (List ℕ)
-    afterC r = parsedThen (numberAhead columnLimit r) afterColumn
+    afterC r = parsedThen (numberAhead greatestColumn r) afterColumn
 
-    fourth : (column : ℕ) (t : Asked) (a b c r : List ℕ) → strip columnWord text ≡ stripped a → numberAhead columnLimit a ≡ parsed column b → strip space b ≡ stripped c
+    fourth : (column : ℕ) (t : Asked) (a b c r : List ℕ) → strip columnWord text ≡ stripped a → numberAhead greatestColumn a ≡ parsed column b → strip space b ≡ stripped c
         → TestStands tags column c t r → afterTest column t r ≡ parsed p rest → PlainStands tags raised text p rest
     fourth column t a b c r e f g s h =
-        let n = number-sound columnLimit a column b (omega arith) f in
+        let n = number-sound greatestColumn a column b (omega arith) f in
         let k : r ≡ rest = cc in
         let behind : b ≡ space ++ (spellTest (t .kind) (t .operand) ++ rest) =
         strip-sound space b c g ∙ ap (λ (l : List ℕ). space ++ l) (s .spelled ∙ ap (λ (l : List ℕ). spellTest (t .kind) (t .operand) ++ l) k) in
@@ -145,19 +145,19 @@ plain-sound tags raised text p rest h = first (stripped-parts (strip columnWord 
           payload = cc;
         }
 
-    third : (column : ℕ) (a b : List ℕ) → strip columnWord text ≡ stripped a → numberAhead columnLimit a ≡ parsed column b
+    third : (column : ℕ) (a b : List ℕ) → strip columnWord text ≡ stripped a → numberAhead greatestColumn a ≡ parsed column b
         → (c : List ℕ) × (strip space b ≡ stripped c) × (afterSpace column c ≡ parsed p rest) → PlainStands tags raised text p rest
     third column a b e f (c, g, h) = go (parsed-parts (testAhead tags column c) (afterTest column) p rest h)
       where
         go : (t : Asked) × (r : List ℕ) × (testAhead tags column c ≡ parsed t r) × (afterTest column t r ≡ parsed p rest) → PlainStands tags raised text p rest
         go (t, r, k, h) = fourth column t a b c r e f g (test-sound tags column r c t k) h
 
-    second : (a : List ℕ) → strip columnWord text ≡ stripped a → (column : ℕ) × (b : List ℕ) × (numberAhead columnLimit a ≡ parsed column b) × (afterColumn column b ≡ parsed p rest)
+    second : (a : List ℕ) → strip columnWord text ≡ stripped a → (column : ℕ) × (b : List ℕ) × (numberAhead greatestColumn a ≡ parsed column b) × (afterColumn column b ≡ parsed p rest)
         → PlainStands tags raised text p rest
     second a e (column, b, f, h) = third column a b e f (stripped-parts (strip space b) (afterSpace column) p rest h)
 
     first : (a : List ℕ) × (strip columnWord text ≡ stripped a) × (afterC a ≡ parsed p rest) → PlainStands tags raised text p rest
-    first (a, e, h) = second a e (parsed-parts (numberAhead columnLimit a) afterColumn p rest h)
+    first (a, e, h) = second a e (parsed-parts (numberAhead greatestColumn a) afterColumn p rest h)
 
 stands-typable : {tags : List ℕ} {raised : ℕ} {text p rest : List ℕ} (s : PlainStands tags raised text p rest) → plainKind (s .kind + raised) ≡ s .kind → raised ≤ oppositeFrom
     → PayloadTypable tags p

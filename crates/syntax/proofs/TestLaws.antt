@@ -18,7 +18,7 @@ use Rattle.predicate.specs.Kinds.{rangeKind, equalsKind, beginsKind, containsKi
 use Rattle.predicate.specs.Meaning.{rangeSize, lowOf, highOf}
 use Rattle.syntax.specs.Spelling.{inWord, toWord, blankWord, isWord, startsWord, hasWord, quote, spellBytes, spellTest, blankKind, TestTypable}
 use Rattle.syntax.specs.Parsed.{Parsed, wrong, parsed, parsedThen, Stripped, absent, stripped, strip, strippedThen}
-use Rattle.syntax.specs.Conditions.{numberLimit, numberAhead, quotedAhead, Asked, asked, rangeAhead, textAhead, testAhead}
+use Rattle.syntax.specs.Conditions.{greatestNumber, numberAhead, quotedAhead, Asked, asked, rangeAhead, textAhead, testAhead}
 use Rattle.syntax.proofs.Follows.{Follows}
 use Rattle.syntax.proofs.ParsedLaws.{strip-sound, parsed-parts, stripped-parts}
 use Rattle.syntax.proofs.NumberLaws.{NoDigit, number-reads, number-sound}
@@ -57,13 +57,13 @@ range-operand o h e =
     let none : drop 8 o ≡ [] = drop-of-length-le o {i = 8} (omega arith) in
     sym (low ∙ ap (λ (k : List ℕ). bytesOf 4 (lowOf o) ++ k) (high ∙ ap (λ (k : List ℕ). bytesOf 4 (highOf o) ++ k) none ∙ append-nil (bytesOf 4 (highOf o))))
 
-range-reads : (low high : ℕ) (rest : List ℕ) → low ≤ numberLimit → high ≤ numberLimit → Follows rest
+range-reads : (low high : ℕ) (rest : List ℕ) → low ≤ greatestNumber → high ≤ greatestNumber → Follows rest
     → rangeAhead ((decimal low ++ (toWord ++ decimal high)) ++ rest) ≡ parsed (asked rangeKind (bytesOf 4 low ++ bytesOf 4 high)) rest
 unfolding strip
 range-reads low high rest l m w =
-    let first : numberAhead numberLimit ((decimal low ++ (toWord ++ decimal high)) ++ rest) ≡ parsed low (toWord ++ (decimal high ++ rest)) =
-    ap (numberAhead numberLimit) (append-assoc (decimal low) (toWord ++ decimal high) rest) ∙ number-reads numberLimit low (toWord ++ (decimal high ++ rest)) l refl in
-    rw (first, number-reads numberLimit high rest m (follows-no-digit rest w))
+    let first : numberAhead greatestNumber ((decimal low ++ (toWord ++ decimal high)) ++ rest) ≡ parsed low (toWord ++ (decimal high ++ rest)) =
+    ap (numberAhead greatestNumber) (append-assoc (decimal low) (toWord ++ decimal high) rest) ∙ number-reads greatestNumber low (toWord ++ (decimal high ++ rest)) l refl in
+    rw (first, number-reads greatestNumber high rest m (follows-no-digit rest w))
 
 text-reads : (kind : ℕ) (o rest : List ℕ) → Bytes o → textAhead kind (quote ∷ (spellBytes o ++ rest)) ≡ parsed (asked kind o) rest
 unfolding strip
@@ -121,7 +121,7 @@ pub record TestStands (tags : List ℕ) (column : ℕ) (text : List ℕ) (t : As
   pub test : TestTypable tags column (t .kind) (t .operand)
   pub spelled : text ≡ spellTest (t .kind) (t .operand) ++ rest
 
-module _ (low high : ℕ) (l : low ≤ numberLimit) (m : high ≤ numberLimit) where
+module _ (low high : ℕ) (l : low ≤ greatestNumber) (m : high ≤ greatestNumber) where
   low-back : lowOf (bytesOf 4 low ++ bytesOf 4 high) ≡ low
   low-back = number-read (bytesOf 4 low ++ bytesOf 4 high) 0 4 low (bytesOf 4 high) (omega arith) refl
 
@@ -136,20 +136,20 @@ range-length low high = refl
 -- the text behind `in `: a number, `..`, a number
 abbrev Range : (text : List ℕ) (t : Asked) (rest : List ℕ) → Type 0
 Range text t rest =
-    (low : ℕ) × (high : ℕ) × (low ≤ numberLimit) × (high ≤ numberLimit) × (text ≡ decimal low ++ (toWord ++ (decimal high ++ rest)))
+    (low : ℕ) × (high : ℕ) × (low ≤ greatestNumber) × (high ≤ greatestNumber) × (text ≡ decimal low ++ (toWord ++ (decimal high ++ rest)))
     × (asked rangeKind (bytesOf 4 low ++ bytesOf 4 high) ≡ t)
 
 range-parts : (text : List ℕ) (t : Asked) (rest : List ℕ) → rangeAhead text ≡ parsed t rest → Range text t rest
-range-parts text t rest h = first (parsed-parts (numberAhead numberLimit text) _ t rest h)
+range-parts text t rest h = first (parsed-parts (numberAhead greatestNumber text) _ t rest h)
   where
     after : (low : ℕ) → List ℕ → Parsed Asked
-    after low r = parsedThen (numberAhead numberLimit r) (λ high r. parsed (asked rangeKind (bytesOf 4 low ++ bytesOf 4 high)) r)
+    after low r = parsedThen (numberAhead greatestNumber r) (λ high r. parsed (asked rangeKind (bytesOf 4 low ++ bytesOf 4 high)) r)
 
-    third : (low : ℕ) (r r′ : List ℕ) → numberAhead numberLimit text ≡ parsed low r → strip toWord r ≡ stripped r′
-        → (high : ℕ) × (r″ : List ℕ) × (numberAhead numberLimit r′ ≡ parsed high r″) × (parsed (asked rangeKind (bytesOf 4 low ++ bytesOf 4 high)) r″ ≡ parsed t rest) → Range text t rest
+    third : (low : ℕ) (r r′ : List ℕ) → numberAhead greatestNumber text ≡ parsed low r → strip toWord r ≡ stripped r′
+        → (high : ℕ) × (r″ : List ℕ) × (numberAhead greatestNumber r′ ≡ parsed high r″) × (parsed (asked rangeKind (bytesOf 4 low ++ bytesOf 4 high)) r″ ≡ parsed t rest) → Range text t rest
     third low r r′ e f (high, r″, g, k) =
-        let a = number-sound numberLimit text low r (omega arith) e in
-        let b = number-sound numberLimit r′ high r″ (omega arith) g in
+        let a = number-sound greatestNumber text low r (omega arith) e in
+        let b = number-sound greatestNumber r′ high r″ (omega arith) g in
         let c : r″ ≡ rest = cc in (
           low,
           high,
@@ -159,10 +159,10 @@ range-parts text t rest h = first (parsed-parts (numberAhead numberLimit text) _
           cc,
         )
 
-    second : (low : ℕ) (r : List ℕ) → numberAhead numberLimit text ≡ parsed low r → (r′ : List ℕ) × (strip toWord r ≡ stripped r′) × (after low r′ ≡ parsed t rest) → Range text t rest
-    second low r e (r′, f, g) = third low r r′ e f (parsed-parts (numberAhead numberLimit r′) _ t rest g)
+    second : (low : ℕ) (r : List ℕ) → numberAhead greatestNumber text ≡ parsed low r → (r′ : List ℕ) × (strip toWord r ≡ stripped r′) × (after low r′ ≡ parsed t rest) → Range text t rest
+    second low r e (r′, f, g) = third low r r′ e f (parsed-parts (numberAhead greatestNumber r′) _ t rest g)
 
-    first : (low : ℕ) × (r : List ℕ) × (numberAhead numberLimit text ≡ parsed low r) × (strippedThen (strip toWord r) (after low) wrong ≡ parsed t rest) → Range text t rest
+    first : (low : ℕ) × (r : List ℕ) × (numberAhead greatestNumber text ≡ parsed low r) × (strippedThen (strip toWord r) (after low) wrong ≡ parsed t rest) → Range text t rest
     first (low, r, e, f) = second low r e (stripped-parts (strip toWord r) (after low) t rest f)
 
 -- the text behind `is `, `starts `, `has `: bytes in quotes

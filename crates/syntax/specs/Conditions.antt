@@ -10,11 +10,11 @@ use Rattle.syntax.specs.Spelling.{notWord, columnWord, space, inWord, to
 use Rattle.syntax.specs.Parsed.{Parsed, wrong, parsed, parsedThen, strip, strippedThen}
 
 -- "Columns go up to 255 and numbers up to 4,294,967,295"
-abbrev pub columnLimit : ℕ
-columnLimit = 255
+abbrev pub greatestColumn : ℕ
+greatestColumn = 255
 
-abbrev pub numberLimit : ℕ
-numberLimit = 4294967295
+abbrev pub greatestNumber : ℕ
+greatestNumber = 4294967295
 
 abbrev pub isDigit : ℕ → Bool
 isDigit x = leb 48 x && leb x 57
@@ -70,9 +70,9 @@ asked kind o = record { kind = kind; operand = o }
 
 abbrev pub rangeAhead : List ℕ → Parsed Asked
 rangeAhead text =
-    parsedThen (numberAhead numberLimit text) (λ low rest.
+    parsedThen (numberAhead greatestNumber text) (λ low rest.
     strippedThen (strip toWord rest) (λ rest.
-    parsedThen (numberAhead numberLimit rest) (λ high rest.
+    parsedThen (numberAhead greatestNumber rest) (λ high rest.
     parsed (asked rangeKind (bytesOf 4 low ++ bytesOf 4 high)) rest)) wrong)
 
 abbrev pub textAhead : (kind : ℕ) → List ℕ → Parsed Asked
@@ -91,7 +91,7 @@ testAhead tags column text =
 unfoldable pub plainAhead : (tags : List ℕ) → (raised : ℕ) → List ℕ → Parsed (List ℕ)
 plainAhead tags raised text =
     strippedThen (strip columnWord text) (λ rest.
-    parsedThen (numberAhead columnLimit rest) (λ column rest.
+    parsedThen (numberAhead greatestColumn rest) (λ column rest.
     strippedThen (strip space rest) (λ rest.
     parsedThen (testAhead tags column rest) (λ t rest.
     parsed (column ∷ (t .kind + raised) ∷ t .operand) rest)) wrong)) wrong
