@@ -63,9 +63,9 @@ p2 =
     (ran (packed (Accepted 2 0 7)) (0b101 ∷ []) (0b011 ∷ 0b011 ∷ 0b111 ∷ []) (zeros 7 ++ (7 ∷ [])))
     ∷ []
 
--- "folding: 65 to 97, 215 to 215, 222 to 254, 255 to 255"
+-- "folding: 65 to 97, 215 to 215, 222 to 254"; order 5: Case P3 now ends "255 to 121"
 abbrev pub p3 : List Case
-p3 = folds 65 97 ∷ folds 215 215 ∷ folds 222 254 ∷ folds 255 255 ∷ []
+p3 = folds 65 97 ∷ folds 215 215 ∷ folds 222 254 ∷ folds 255 121 ∷ []
 
 -- "kind 0, 1700 to 1799: 1699 no, 1700 yes, 1799 yes, 1800 no"; order 2: "Case P4 now has blank for kind 0 and for kind 128 at a blank"
 abbrev pub century : List ℕ

@@ -1,2 +1,3 @@
+pub mod SomeLaws
 pub mod Pairs
 pub mod Passing

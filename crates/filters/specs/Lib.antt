@@ -1,1 +1,3 @@
+pub mod Some
 pub mod Windows
+pub mod NonAscii

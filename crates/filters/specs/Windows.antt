@@ -1,34 +1,34 @@
 -- The filter of contains: two bytes of the operand at their distance, anywhere in the slot.
-use Prim.Native.Nat.{ℕ, zero, suc, _+_, _-_, _≤_, _<_}
+use Prim.Native.Nat.{ℕ, _+_, _-_, _≤_, _<_}
 use mathlib.Core.Path.{_≡_}
-use mathlib.Core.Bool.{Bool, false, _&&_, _||_, cond}
+use mathlib.Core.Bool.{Bool, _&&_, _||_}
 use mathlib.Core.List.{List}
 use lib.ListN.{length, getD}
-use lib.Dec.{leb}
 use Rattle.predicate.specs.Meaning.{fold}
 use Rattle.filters.specs.declared.pair.Pair.{Pair}
-use Rattle.heads.specs.ByteTest.{testPasses, MayFold}
+use Rattle.filters.specs.Some.{someBelow}
+use Rattle.heads.specs.ByteTest.{testPasses, isLoose, tightTest}
 
--- how far the second byte is from the first: the operand's last, or byte 8
-abbrev pub gapOf : (size : ℕ) → ℕ
-gapOf size = cond (leb size 9) (size - 1) 8
+-- places of a pair: the second not before the first, and at most eight further
+pub record InReach (size i j : ℕ) : Type 0 where
+  pub after : i ≤ j
+  pub inside : j < size
+  pub near : j ≤ i + 8
 
--- the tests of the operand's two bytes at their distance
+-- two bytes of the operand at their distance
+abbrev pub pairAs : (o : List ℕ) → (i j : ℕ) → Pair
+pairAs o i j = record { gap = j - i; first = tightTest (fold (getD o i 0)); second = tightTest (fold (getD o j 0)); loose = isLoose (fold (getD o i 0)) || isLoose (fold (getD o j 0)) }
+
+-- a pair of the operand, wherever it is taken
 pub record PairFor (o : List ℕ) (k : Pair) : Type 0 where
-  pub gap-is : k .gap ≡ gapOf (length o)
-  pub inside : k .gap < length o
-  pub near : k .gap ≤ 8
-  pub first-may : MayFold (fold (getD o 0 0)) (k .first)
-  pub second-may : MayFold (fold (getD o (k .gap) 0)) (k .second)
+  pub first-place : ℕ
+  pub second-place : ℕ
+  pub reach : InReach (length o) first-place second-place
+  pub pair-is : k ≡ pairAs o first-place second-place
 
 abbrev pub pairAt : List ℕ → (p q : ℕ) → Pair → Bool
 pairAt b p q k = testPasses (k .first) (getD b p 0) && testPasses (k .second) (getD b q 0)
 
--- the pair at one of n places
-unfoldable pub pairIn : List ℕ → (p q : ℕ) → Pair → (n : ℕ) → Bool
-pairIn b p q k zero = false
-pairIn b p q k (suc n) = pairAt b p q k || pairIn b (p + 1) (q + 1) k n
-
 -- contains: in the 16 places from the slot's first byte on, or in the last 16 that the pair has in it
 abbrev pub windowsPass : List ℕ → (p : ℕ) → Pair → Bool
-windowsPass b p k = pairIn b p (p + k .gap) k 16 || pairIn b (p + 8 - k .gap) (p + 8) k 16
+windowsPass b p k = someBelow (λ i. pairAt b (p + i) (p + k .gap + i) k) 16 || someBelow (λ i. pairAt b (p + 8 - k .gap + i) (p + 8 + i) k) 16

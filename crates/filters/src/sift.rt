@@ -24,8 +24,7 @@ pub fn sift(
     ensures { λ r. ⌜ Sifted (λ d. textTest kind (now (operand .entry)) (textOf (now (b .entry)) start (base + d))) due r ⌝ }
 {
     if kind == Kind::CONTAINS {
-        let k = crate::pair::pair_of(table, operand);
-        return crate::windows::windows_rows(b, start, base, k, due);
+        return crate::contains::contains_rows(table, b, start, base, operand, due);
     }
     let k = heads::head::head_of(table, kind, operand);
     heads::front::front_rows(b, start, base, k, due)

@@ -12,8 +12,9 @@ ghost use Rattle.sets.specs.Kept.{KeptBy};
 ghost use Rattle.heads.specs.Block.{HasDueRows, slotOf};
 ghost use Rattle.filters.specs.Windows.{windowsPass};
 
-// The slot at p. The pair's two places run from p and q on in the first window, from r and s on in the second, which ends
-// with the slot.
+// The slot at p. The pair's two places run from p and q on in the first window, from r and s on in the second, which
+// ends with the slot. A flag for each window: with one for both the compiler unrolls the loop and no longer inlines
+// the function.
 fn slot_passes(b: &[u8], p: usize, k: Pair) -> bool
     requires { ⌜ (p + slotSize ≤ length (now b)) × (k .gap ≤ 8) ⌝ }
     ensures { λ r. ⌜ r ≡ windowsPass (now (b .entry)) p k ⌝ }
@@ -21,15 +22,15 @@ fn slot_passes(b: &[u8], p: usize, k: Pair) -> bool
     let q = p + k.gap;
     let s = p + 8;
     let r = s - k.gap;
-    let mut any: u8 = 0;
+    let mut front: u8 = 0;
+    let mut back: u8 = 0;
     let mut i: usize = 0;
     while i < 16 {
-        any = any
-            | crate::pair::pair_at(b, p + i, q + i, k)
-            | crate::pair::pair_at(b, r + i, s + i, k);
+        front = front | crate::pair::pair_at(b, p + i, q + i, k);
+        back = back | crate::pair::pair_at(b, r + i, s + i, k);
         i += 1;
     }
-    any != 0
+    front | back != 0
 }
 
 // Of a whole block, straight through: no bit waits for another.

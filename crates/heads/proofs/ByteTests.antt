@@ -1,47 +1,53 @@
--- The law of a byte's test, computed over all bytes; flags of 0 and 1 put together.
-use Prim.Native.Nat.{ℕ, zero, suc, _<_}
-use native.Mathlib.Omega.{arith}
+-- The laws of a byte's tests, computed over all bytes; flags of 0 and 1 put together.
+use Prim.Native.Nat.{ℕ, _<_}
 use mathlib.Core.Path.{_≡_, refl, sym, ap, ap₂, _∙_}
 use mathlib.Core.Bool.{Bool, true, false, _&&_, _||_, not, cond}
 use mathlib.Core.Logic.{_⊎_, inl, inr}
-use lib.Dec.{eqb}
+use lib.Dec.{eqb, leb, ltb}
 use lib.Bits.{bitAnd, bitOr}
-use Rattle.bools.specs.Bools.{and-parts, same?}
+use Rattle.bools.specs.Bools.{and-parts, or-cases, ltb-lt}
+use Rattle.fields.proofs.Tables.{everyBelow, below-gives}
 use Rattle.predicate.specs.Meaning.{fold}
-use Rattle.heads.specs.ByteTest.{testPasses, covers, coverOf, MayFold, byteTestOf}
+use Rattle.heads.specs.ByteTest.{testPasses, MayFold, looseBits, looseTest, isLoose, tightTest}
 
--- a test of all numbers below one, computed, and carried to each of them
-abbrev everyBelow : ℕ → (ℕ → Bool) → Bool
-everyBelow zero test = true
-everyBelow (suc n) test = test n && everyBelow n test
+-- each byte passes the loose test of its fold
+loose-tested : everyBelow (λ x. testPasses (looseTest (fold x)) x) 256 ≡ true
+loose-tested = refl
 
-below-gives : (n : ℕ) (test : ℕ → Bool) → everyBelow n test ≡ true → (x : ℕ) → x < n → test x ≡ true
-below-gives zero test e x h = absurd (omega arith)
-below-gives (suc n) test e x h =
-    let p = and-parts (test n) (everyBelow n test) e in
-    let go : (x ≡ n) ⊎ (x ≡ n → ⊥) → test x ≡ true
-    = elim [ inl q ↦ ap test q ∙ p .0 | inr ne ↦ below-gives n test (p .1) x (omega arith) ] in
-    go (same? x n)
+masks-small : everyBelow (λ c. ltb (looseBits c) 256) 256 ≡ true
+masks-small = refl
 
--- each byte passes the test for its own fold, and the one pair
-own-tested : everyBelow 256 (λ x. testPasses (byteTestOf (fold x)) x) ≡ true
-own-tested = refl
+values-small : everyBelow (λ c. ltb (bitOr c (looseBits c)) 256) 256 ≡ true
+values-small = refl
 
-own-covered : everyBelow 256 (λ x. covers (coverOf (byteTestOf (fold x))) x) ≡ true
-own-covered = refl
-
-pub may-fold : (c : ℕ) → MayFold c (byteTestOf c)
-may-fold c x h f = record {
-  tested = ap (λ (k : ℕ). testPasses (byteTestOf k) x) (sym f) ∙ below-gives 256 (λ y. testPasses (byteTestOf (fold y)) y) own-tested x h;
-  covered = ap (λ (k : ℕ). covers (coverOf (byteTestOf k)) x) (sym f) ∙ below-gives 256 (λ y. covers (coverOf (byteTestOf (fold y))) y) own-covered x h;
+pub may-fold : (c : ℕ) → c < 256 → MayFold c (looseTest c)
+may-fold c small = record {
+  mask-small = ltb-lt _ _ (below-gives (λ y. ltb (looseBits y) 256) 256 masks-small c small);
+  value-small = ltb-lt _ _ (below-gives (λ y. ltb (bitOr y (looseBits y)) 256) 256 values-small c small);
+  passes = λ x h f. ap (λ (k : ℕ). testPasses (looseTest k) x) (sym f) ∙ below-gives (λ y. testPasses (looseTest (fold y)) y) 256 loose-tested x h;
 }
 
--- the pair of 255 and 255 passes every byte
-all-covered : everyBelow 256 (λ x. eqb (bitOr x 255) 255) ≡ true
-all-covered = refl
+-- a byte passes the tight test of its fold, or that is a loose letter, and the byte one of those from 128 on
+tight-tested : everyBelow (λ x. testPasses (tightTest (fold x)) x || (isLoose (fold x) && leb 128 x)) 256 ≡ true
+tight-tested = refl
 
-pub any-covered : (x : ℕ) → x < 256 → eqb (bitOr x 255) 255 ≡ true
-any-covered = below-gives 256 (λ x. eqb (bitOr x 255) 255) all-covered
+pub tight-or-non-ascii : (x c : ℕ) → x < 256 → fold x ≡ c → (testPasses (tightTest c) x ≡ true) ⊎ ((isLoose c ≡ true) × (leb 128 x ≡ true))
+tight-or-non-ascii x c h f = go (or-cases (testPasses (tightTest c) x) (isLoose c && leb 128 x) (rw f at (below-gives (λ y. testPasses (tightTest (fold y)) y || (isLoose (fold y) && leb 128 y)) 256 tight-tested x h)))
+  where
+    go : (testPasses (tightTest c) x ≡ true) ⊎ ((isLoose c && leb 128 x) ≡ true) → (testPasses (tightTest c) x ≡ true) ⊎ ((isLoose c ≡ true) × (leb 128 x ≡ true))
+    go (inl e) = inl e
+    go (inr e) = inr (and-parts (isLoose c) (leb 128 x) e)
+
+-- the mask and value 255 pass every byte
+all-pass : everyBelow (λ x. eqb (bitOr x 255) 255) 256 ≡ true
+all-pass = refl
+
+pub any-passes : (x : ℕ) → x < 256 → eqb (bitOr x 255) 255 ≡ true
+any-passes = below-gives (λ x. eqb (bitOr x 255) 255) 256 all-pass
+
+-- an arm of a match: what f gives at its key
+pub at-key : {A : Type 0} (f : ℕ → A) (c k : ℕ) → c ≡ k → f k ≡ f c
+at-key f c k e = sym (ap f e)
 
 flag-or : (s t : Bool) → bitOr (cond s 1 0) (cond t 1 0) ≡ cond (s || t) 1 0
 flag-or true true = refl

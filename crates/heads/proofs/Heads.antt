@@ -13,19 +13,18 @@ use Rattle.slots.specs.Slots.{textLimit}
 use Rattle.predicate.specs.Kinds.{equalsKind}
 use Rattle.predicate.specs.Meaning.{fold}
 use Rattle.heads.specs.declared.byte_test.ByteTest.{ByteTest}
-use Rattle.heads.specs.declared.byte_test.Cover.{Cover}
-use Rattle.heads.specs.ByteTest.{anyByte, coverOf, covers, MayFold}
-use Rattle.heads.specs.Head.{headSize, Starts, CoverFor, HeadFor, BlankHeadIs}
-use Rattle.heads.proofs.ByteTests.{any-covered}
+use Rattle.heads.specs.ByteTest.{anyByte, MayFold}
+use Rattle.heads.specs.Head.{headSize, Starts, TestFor, HeadFor, BlankHeadIs}
+use Rattle.heads.proofs.ByteTests.{any-passes}
 
 -- what byte j may be
 
 module _ (kind : ℕ) (o : List ℕ) where
-  pub cover-any : (j : ℕ) → CoverFor kind o j anyByte
-  cover-any j = record { mask-small = omega arith; value-small = omega arith; passes = λ b p S. any-covered (getD b (p + j) 0) (S .bytes (p + j)) }
+  pub test-any : (j : ℕ) → TestFor kind o j anyByte
+  test-any j = record { mask-small = omega arith; value-small = omega arith; passes = λ b p S. any-passes (getD b (p + j) 0) (S .bytes (p + j)) }
 
-  pub cover-size : {j size : ℕ} → j ≡ 0 → kind ≡ equalsKind → size ≡ length o → length o ≤ textLimit → CoverFor kind o j (record { mask = 0; value = size })
-  cover-size {j} {size} z e n l = record {
+  pub test-size : {j size : ℕ} → j ≡ 0 → kind ≡ equalsKind → size ≡ length o → length o ≤ textLimit → TestFor kind o j (record { mask = 0; value = size })
+  test-size {j} {size} z e n l = record {
     mask-small = omega arith;
     value-small = omega arith;
     passes = λ b p S.
@@ -33,14 +32,14 @@ module _ (kind : ℕ) (o : List ℕ) where
         eq-eqb _ _ (or-zero-r (getD b (p + j) 0) ∙ ap (λ (i : ℕ). getD b i 0) q ∙ S .sized e ∙ sym n);
   }
 
-  pub cover-byte : {j c : ℕ} {test : ByteTest} {k : Cover} → 0 < j → j ≤ length o → c ≡ fold (getD o (j - 1) 0) → MayFold c test → k ≡ coverOf test → k .mask < 256 → k .value < 256 → CoverFor kind o j k
-  cover-byte {j} {c} {test} {k} some inside c-is L e m v = record {
-    mask-small = m;
-    value-small = v;
+  pub test-byte : {j c : ℕ} {k : ByteTest} → 0 < j → j ≤ length o → c ≡ fold (getD o (j - 1) 0) → MayFold c k → TestFor kind o j k
+  test-byte {j} {c} {k} some inside c-is K = record {
+    mask-small = K .mask-small;
+    value-small = K .value-small;
     passes = λ b p S.
         let q : p + 1 + (j - 1) ≡ p + j = omega arith in
         let f : fold (getD b (p + j) 0) ≡ c = ap (λ (i : ℕ). fold (getD b i 0)) (sym q) ∙ S .alike (j - 1) (omega arith) ∙ sym c-is in
-        ap (λ (i : Cover). covers i (getD b (p + j) 0)) e ∙ L (getD b (p + j) 0) (S .bytes (p + j)) f .covered;
+        K .passes (getD b (p + j) 0) (S .bytes (p + j)) f;
   }
 
 -- the first j bytes are put together
@@ -71,7 +70,7 @@ module _ {kind : ℕ} {o : List ℕ} {j mask value : ℕ} (H : Heading kind o j 
         let v = H .value-small in
         (omega arith, omega arith)
 
-    pub heading-next : {k : Cover} {m v : ℕ} → CoverFor kind o j k → m ≡ k .mask → v ≡ k .value → Heading kind o (j + 1) (256 * mask + m) (256 * value + v)
+    pub heading-next : {k : ByteTest} {m v : ℕ} → TestFor kind o j k → m ≡ k .mask → v ≡ k .value → Heading kind o (j + 1) (256 * mask + m) (256 * value + v)
     unfolding numberAt
     heading-next {k} {m} {v} K me ve = record {
       inside = omega arith;

@@ -1,41 +1,49 @@
--- A cheap test of a byte that every byte with a given fold passes, and perhaps others: all that the filters know of the fold.
+-- Cheap tests of a byte: all that the filters know of the fold.
 use Prim.Native.Nat.{ℕ, _<_}
 use mathlib.Core.Path.{_≡_}
-use mathlib.Core.Bool.{Bool, true, _||_}
+use mathlib.Core.Bool.{Bool, true, _||_, cond}
 use lib.Dec.{eqb}
-use lib.Bits.{bitAnd, bitOr, bitXor}
+use lib.Bits.{bitAnd, bitOr}
 use Rattle.predicate.specs.Meaning.{fold}
 use Rattle.heads.specs.declared.byte_test.ByteTest.{ByteTest}
-use Rattle.heads.specs.declared.byte_test.Cover.{Cover}
 
--- a byte passes where, with the bits of a mask set, it is the value; there are two such pairs
+-- a byte passes where, with the bits of the mask set, it is the value
 abbrev pub testPasses : ByteTest → (x : ℕ) → Bool
-testPasses k x = eqb (bitOr x (k .mask)) (k .value) || eqb (bitOr x (k .mask2)) (k .value2)
+testPasses k x = eqb (bitOr x (k .mask)) (k .value)
 
--- one pair
-abbrev pub covers : Cover → (x : ℕ) → Bool
-covers k x = eqb (bitOr x (k .mask)) (k .value)
-
--- every byte passes
-abbrev pub anyByte : Cover
+-- every byte
+abbrev pub anyByte : ByteTest
 anyByte = record { mask = 255; value = 255 }
 
--- what is open in either pair or told apart by them is open
-abbrev pub coverOf : ByteTest → Cover
-coverOf k = record { mask = openBits; value = bitOr (k .value) openBits }
-  where
-    openBits : ℕ
-    openBits = bitOr (bitOr (k .mask) (k .mask2)) (bitXor (k .value) (k .value2))
+-- the loose letters a, e, i, n, o and u: they differ from their accented forms in so many bits that a mask for all of these passes seven letters or more
+abbrev pub isLoose : (c : ℕ) → Bool
+isLoose c = eqb c 97 || eqb c 101 || eqb c 105 || eqb c 110 || eqb c 111 || eqb c 117
 
--- a byte passes the test, and the one pair of it
-pub record Passes (k : ByteTest) (x : ℕ) : Type 0 where
-  pub tested : testPasses k x ≡ true
-  pub covered : covers (coverOf k) x ≡ true
+-- the bits that a test of c leaves open: bit 5 where c has it, which tells the cases of a letter apart; more for 99 and 121, the two letters with accented
+-- forms that are not loose
+abbrev pub tightBits : (c : ℕ) → ℕ
+tightBits c = cond (eqb c 99) 0xA4 (cond (eqb c 121) 0xA6 (bitAnd c 32))
 
--- every byte that folds to c passes both
-abbrev pub MayFold : (c : ℕ) → ByteTest → Type 0
-MayFold c k = (x : ℕ) → x < 256 → fold x ≡ c → Passes k x
+-- the same, and of a loose letter what its accented forms need
+abbrev pub looseBits : (c : ℕ) → ℕ
+looseBits c =
+    cond (eqb c 97) 0xA7
+    (cond (eqb c 101) 0xAF
+    (cond (eqb c 105) 0xA7
+    (cond (eqb c 110) 0xBF
+    (cond (eqb c 111) 0xBF
+    (cond (eqb c 117) 0xAF (tightBits c))))))
 
--- a byte or its other case, where bit 5 tells the cases apart; for the present fold one pair is enough, so the second is the same
-abbrev pub byteTestOf : (c : ℕ) → ByteTest
-byteTestOf c = record { mask = bitAnd c 32; value = c; mask2 = bitAnd c 32; value2 = c }
+-- of a loose letter its two cases, without its accented forms; of any other byte all that fold to it, and few others
+abbrev pub tightTest : (c : ℕ) → ByteTest
+tightTest c = record { mask = tightBits c; value = bitOr c (tightBits c) }
+
+-- every byte that folds to c, and others
+abbrev pub looseTest : (c : ℕ) → ByteTest
+looseTest c = record { mask = looseBits c; value = bitOr c (looseBits c) }
+
+-- a test of bytes that every byte that folds to c passes
+pub record MayFold (c : ℕ) (k : ByteTest) : Type 0 where
+  pub mask-small : k .mask < 256
+  pub value-small : k .value < 256
+  pub passes : (x : ℕ) → x < 256 → fold x ≡ c → testPasses k x ≡ true

@@ -9,9 +9,9 @@ use lib.Bits.{bitOr}
 use Rattle.fields.specs.Numbers.{numberAt, Bytes}
 use Rattle.predicate.specs.Kinds.{equalsKind}
 use Rattle.predicate.specs.Meaning.{fold}
-use Rattle.heads.specs.declared.byte_test.Cover.{Cover}
+use Rattle.heads.specs.declared.byte_test.ByteTest.{ByteTest}
 use Rattle.heads.specs.declared.head.Head.{Head}
-use Rattle.heads.specs.ByteTest.{covers}
+use Rattle.heads.specs.ByteTest.{testPasses}
 
 -- the length and three bytes of text
 abbrev pub headSize : ℕ
@@ -27,10 +27,10 @@ pub record Starts (kind : ℕ) (o b : List ℕ) (p : ℕ) : Type 0 where
   pub alike : (i : ℕ) → i < length o → fold (getD b (p + 1 + i) 0) ≡ fold (getD o i 0)
 
 -- byte j of every such slot passes
-pub record CoverFor (kind : ℕ) (o : List ℕ) (j : ℕ) (k : Cover) : Type 0 where
+pub record TestFor (kind : ℕ) (o : List ℕ) (j : ℕ) (k : ByteTest) : Type 0 where
   pub mask-small : k .mask < 256
   pub value-small : k .value < 256
-  pub passes : (b : List ℕ) (p : ℕ) → Starts kind o b p → covers k (getD b (p + j) 0) ≡ true
+  pub passes : (b : List ℕ) (p : ℕ) → Starts kind o b p → testPasses k (getD b (p + j) 0) ≡ true
 
 -- every such slot passes
 abbrev pub HeadFor : (kind : ℕ) → (o : List ℕ) → Head → Type 0

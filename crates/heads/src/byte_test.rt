@@ -1,19 +1,10 @@
-// Which bytes may fold to a byte: a test that passes all of them, and perhaps others.
+// Tests of a byte that stand for the fold: each is one mask and one comparison.
 ghost use mathlib.Core.Path.{_≡_};
 ghost use mathlib.Core.Bool.{cond};
-ghost use Prim.Native.Nat.{_<_};
-ghost use Rattle.heads.specs.ByteTest.{testPasses, anyByte, coverOf, MayFold};
+ghost use Rattle.heads.specs.ByteTest.{testPasses, anyByte, isLoose, tightBits, looseBits, tightTest, looseTest};
 
-// A byte passes where, with the mask's bits set, it is the value; so for either pair.
+// A byte passes where, with the mask's bits set, it is the value.
 pub struct ByteTest {
-    pub mask: u8,
-    pub value: u8,
-    pub mask2: u8,
-    pub value2: u8,
-}
-
-// One pair: a byte passes where, with the mask's bits set, it is the value.
-pub struct Cover {
     pub mask: u8,
     pub value: u8,
 }
@@ -28,40 +19,80 @@ pub fn bit(test: bool) -> u8
 pub fn passes(test: ByteTest, x: u8) -> u8
     ensures { λ r. ⌜ r ≡ cond (testPasses test x) 1 0 ⌝ }
 {
-    bit(x | test.mask == test.value) | bit(x | test.mask2 == test.value2)
+    bit(x | test.mask == test.value)
 }
 
-// The bytes that fold to c: c, or its other case, where bit 5 tells the cases apart. One pair is enough for the present
-// fold, so both are the same.
-pub fn byte_test_of(c: u8) -> ByteTest
-    ensures { λ r. ⌜ MayFold c r ⌝ }
+// Whether c is a loose letter, one of six that differ from their accented forms in so many bits that a mask for all
+// of these passes seven letters or more.
+pub fn is_loose(c: u8) -> bool
+    ensures { λ r. ⌜ r ≡ isLoose c ⌝ }
 {
-    let mask = c & 32;
+    match c {
+        b'a' => true,
+        b'e' => true,
+        b'i' => true,
+        b'n' => true,
+        b'o' => true,
+        b'u' => true,
+        _ => false,
+    }
+}
+
+// The bits that a test of c leaves open: bit 5 where c has it, which tells the cases of a letter apart; more for the two
+// letters with accented forms that are not loose.
+fn tight_bits(c: u8) -> u8
+    ensures { λ r. ⌜ r ≡ tightBits c ⌝ }
+{
+    match c {
+        b'c' => 0xa4,
+        b'y' => 0xa6,
+        _ => c & 32,
+    }
+}
+
+// The same, and of a loose letter what its accented forms need.
+fn loose_bits(c: u8) -> u8
+    ensures { λ r. ⌜ r ≡ looseBits c ⌝ }
+{
+    match c {
+        b'a' => 0xa7,
+        b'e' => 0xaf,
+        b'i' => 0xa7,
+        b'n' => 0xbf,
+        b'o' => 0xbf,
+        b'u' => 0xaf,
+        _ => tight_bits(c),
+    }
+}
+
+// Of a loose letter its two cases, without its accented forms; of any other byte all that fold to it, and few others.
+pub fn tight_test(c: u8) -> ByteTest
+    ensures { λ r. ⌜ r ≡ tightTest c ⌝ }
+{
+    let mask = tight_bits(c);
     ByteTest {
         mask,
-        value: c,
-        mask2: mask,
-        value2: c,
+        value: c | mask,
     }
 }
 
-// The pair that every byte passes.
-pub fn any_byte() -> Cover
+// Every byte that folds to c, and others.
+pub fn loose_test(c: u8) -> ByteTest
+    ensures { λ r. ⌜ r ≡ looseTest c ⌝ }
+{
+    let mask = loose_bits(c);
+    ByteTest {
+        mask,
+        value: c | mask,
+    }
+}
+
+// Every byte.
+pub fn any_byte() -> ByteTest
     ensures { λ r. ⌜ r ≡ anyByte ⌝ }
 {
-    Cover {
+    ByteTest {
         mask: 255,
         value: 255,
-    }
-}
-
-// One pair that passes what either pair of a test passes.
-pub fn cover_of(test: ByteTest) -> Cover
-    ensures { λ r. ⌜ (r ≡ coverOf test) × (r .mask < 256) × (r .value < 256) ⌝ }
-{
-    let mask = test.mask | test.mask2 | (test.value ^ test.value2);
-    Cover {
-        mask,
-        value: test.value | mask,
     }
 }

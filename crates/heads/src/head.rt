@@ -1,12 +1,12 @@
 // What equals and begins ask of a slot's head: its length and the first three bytes of its text, as one number.
-use crate::byte_test::Cover;
+use crate::byte_test::ByteTest;
 use predicate::kind::Kind;
 ghost use mathlib.Core.Path.{_≡_};
-ghost use Prim.Native.Nat.{_+_, _≤_, _<_};
+ghost use Prim.Native.Nat.{_+_, _≤_};
 ghost use lib.ListN.{length};
 ghost use Rattle.slots.specs.Slots.{textLimit};
 ghost use Rattle.predicate.specs.Outcome.{Folds};
-ghost use Rattle.heads.specs.Head.{headSize, headPasses, CoverFor, HeadFor, BlankHeadIs};
+ghost use Rattle.heads.specs.Head.{headSize, headPasses, TestFor, HeadFor, BlankHeadIs};
 
 // A slot passes where its head, with the mask's bits set, is the value.
 pub struct Head {
@@ -21,13 +21,13 @@ impl Head {
 
 // What byte j of the slot may be. Equals asks for the operand's length; a byte of the text may be any that folds as the
 // operand's; nothing else is asked.
-fn cover_at(table: &[u8], kind: u8, operand: &[u8], j: usize) -> Cover
+fn test_at(table: &[u8], kind: u8, operand: &[u8], j: usize) -> ByteTest
     requires { ⌜ Folds (now table) × (length (now operand) ≤ textLimit) ⌝ }
-    ensures { λ r. ⌜ CoverFor kind (now (operand .entry)) j r ⌝ }
+    ensures { λ r. ⌜ TestFor kind (now (operand .entry)) j r ⌝ }
 {
     if j == 0 {
         if kind == Kind::EQUALS {
-            return Cover {
+            return ByteTest {
                 mask: 0,
                 value: fields::number::narrow(operand.len()),
             };
@@ -38,7 +38,7 @@ fn cover_at(table: &[u8], kind: u8, operand: &[u8], j: usize) -> Cover
         return crate::byte_test::any_byte();
     }
     let c = predicate::text::fold_byte(table, operand[j - 1]);
-    crate::byte_test::cover_of(crate::byte_test::byte_test_of(c))
+    crate::byte_test::loose_test(c)
 }
 
 pub fn head_of(table: &[u8], kind: u8, operand: &[u8]) -> Head
@@ -49,7 +49,7 @@ pub fn head_of(table: &[u8], kind: u8, operand: &[u8]) -> Head
     let mut value: u32 = 0;
     let mut j: usize = 0;
     while j < Head::SIZE {
-        let next = cover_at(table, kind, operand, j);
+        let next = test_at(table, kind, operand, j);
         mask = 256 * mask + next.mask as u32;
         value = 256 * value + next.value as u32;
         j += 1;

@@ -4,3 +4,4 @@ pub mod TextLaws
 pub mod PayloadLaws
 pub mod OutcomeLaws
 pub mod BlankLaws
+pub mod FoldLaws

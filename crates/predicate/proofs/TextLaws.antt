@@ -12,7 +12,7 @@ use borrow.Author.Tests.{eq-eqb, ne-eqb}
 use Rattle.fields.proofs.Parts.{part-rest}
 use Rattle.predicate.specs.Meaning.{fold, folded, same, begins, occurs, equals, beginsWith, contains}
 
-folded-length : (x : List ℕ) → length (folded x) ≡ length x
+pub folded-length : (x : List ℕ) → length (folded x) ≡ length x
 unfolding folded
 folded-length [] = refl
 folded-length (a ∷ x) = ap suc (folded-length x)

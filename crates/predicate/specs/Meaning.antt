@@ -19,8 +19,25 @@ between low high n = leb low n && leb n high
 abbrev pub capital : ℕ → Bool
 capital x = between 65 90 x || between 192 222 x && not (eqb x 215)
 
+abbrev pub lower : ℕ → ℕ
+lower x = cond (capital x) (x + 32) x
+
+-- order 5's "224 to 229 become 97, 231 becomes 99, 232 to 235 become 101, 236 to 239 become 105, 241 becomes 110, 242 to 246 become 111,
+-- 249 to 252 become 117, 253 and 255 become 121. The others, 230, 240, 248 and 254 among them, stay."
+abbrev pub unaccented : ℕ → ℕ
+unaccented x =
+    cond (between 224 229 x) 97
+    (cond (eqb x 231) 99
+    (cond (between 232 235 x) 101
+    (cond (between 236 239 x) 105
+    (cond (eqb x 241) 110
+    (cond (between 242 246 x) 111
+    (cond (between 249 252 x) 117
+    (cond (eqb x 253 || eqb x 255) 121 x)))))))
+
+-- "After the present fold"
 abbrev pub fold : ℕ → ℕ
-fold x = cond (capital x) (x + 32) x
+fold x = unaccented (lower x)
 
 unfoldable pub folded : List ℕ → List ℕ
 folded [] = []

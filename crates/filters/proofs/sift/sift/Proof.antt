@@ -5,18 +5,15 @@ use borrow.Author.Needs.{needs}
 use Rattle.filters.proofs.sift.sift.Statement.{statement}
 use Rattle.filters.proofs.sift.sift.Tie as tie
 
-pair-of-requires : tie.Need-pair-of-requires
-pair-of-requires c κs = search needs
-
-windows-rows-requires : tie.Need-windows-rows-requires
-windows-rows-requires c κs = (c .before .before .before .before .before .pre .1, c .pair-of .ensures .near)
+contains-rows-requires : tie.Need-contains-rows-requires
+contains-rows-requires c κs = search needs
 
 returns : tie.Need-returns
 returns c =
-    let s = c .before .before .before .before in
+    let s = c .before .before .before in
     let a = s .before .before .args in
     let h = s .before .before .pre in
-    contains-sifts (a .b .now) (λ i. omega (arith, s .shared-slice-known2 .given i)) _ _ _ (a .operand .now) _ _ (h .1) (h .4) _ (c .before .pair-of .ensures) (c .before .before .if1 .taken) (c .windows-rows .ensures)
+    contains-sifts (a .b .now) (λ i. omega (arith, s .shared-slice-known2 .given i)) _ _ (a .operand .now) _ (h .1) (h .4) _ _ (c .before .if1 .taken) (c .contains-rows .ensures)
 
 head-of-requires : tie.Need-head-of-requires
 head-of-requires c κs = search needs
@@ -30,7 +27,7 @@ returns-2 c =
     let s = c .before .before .before .before in
     let a = s .before .before .args in
     let h = s .before .before .pre in
-    front-sifts (a .b .now) (λ i. omega (arith, s .shared-slice-known2 .given i)) _ _ _ (a .operand .now) _ _ (h .1) (h .4) _ (c .before .head-of .ensures) (h .2) (omega arith) (c .front-rows .ensures)
+    front-sifts (a .b .now) (λ i. omega (arith, s .shared-slice-known2 .given i)) _ _ (a .operand .now) _ (h .1) (h .4) _ _ _ (c .before .head-of .ensures) (h .2) (omega arith) (c .front-rows .ensures)
 
 pub sift-spec : {M : Type 1} → statement M
-sift-spec = tie.close (tie.spec pair-of-requires windows-rows-requires returns head-of-requires front-rows-requires returns-2)
+sift-spec = tie.close (tie.spec contains-rows-requires returns head-of-requires front-rows-requires returns-2)

@@ -1,16 +1,19 @@
 -- `slot_passes` meets its contract: the places that are left decide, with what was found so far.
-use Prim.Native.Nat.{_-_, _≤_}
+use Prim.Native.Nat.{_+_, _-_, _≤_}
 use native.Mathlib.Omega.{arith}
-use Rattle.filters.proofs.Pairs.{Tried, tried-none, tried-next, tried-all}
+use mathlib.Core.Path.{_≡_}
+use Rattle.filters.specs.Windows.{pairAt}
+use Rattle.filters.proofs.SomeLaws.{Tried, tried-none, tried-next}
+use Rattle.filters.proofs.Pairs.{windows-tried}
 use borrow.Author.Needs.{needs}
 use Rattle.filters.proofs.windows.slot_passes.Statement.{statement}
 use Rattle.filters.proofs.windows.slot_passes.Tie as tie
 
 abbrev Inv-loop : tie.InvT-loop
-Inv-loop b p k q s r any₀ i₀ any i = (i ≤ 16) × Tried b p k i any
+Inv-loop b p k q s r front₀ back₀ i₀ front back i = (i ≤ 16) × Tried (λ j. pairAt b (p + j) (p + k .gap + j) k) i front × Tried (λ j. pairAt b (p + 8 - k .gap + j) (p + 8 + j) k) i back
 
 abbrev μ-loop : tie.MeasureT-loop
-μ-loop b p k q s r any₀ i₀ any i = 16 - i
+μ-loop b p k q s r front₀ back₀ i₀ front back i = 16 - i
 
 add-q : tie.Need-add-q Inv-loop μ-loop
 add-q c = search needs
@@ -22,7 +25,7 @@ sub-r : tie.Need-sub-r Inv-loop μ-loop
 sub-r c = search needs
 
 loop-holds : tie.Need-loop-holds Inv-loop μ-loop
-loop-holds c = let a = c .before .before .before .args in (omega arith, tried-none (a .b .now) (a .p) (a .k))
+loop-holds c = (omega arith, tried-none _, tried-none _)
 
 add-pair-at : tie.Need-add-pair-at Inv-loop μ-loop
 add-pair-at c = search needs
@@ -50,15 +53,15 @@ loop-less c = search needs
 
 loop-again : tie.Need-loop-again Inv-loop μ-loop
 loop-again c =
-    let a = c .before .before .before .before .before .before .before .args in
     let l = c .before .before .before .loop in
-    (omega arith, tried-next (a .b .now) (a .p) (a .k) (l .inv .1) (omega arith) (c .before .pair-at .ensures) (c .pair-at2 .ensures))
+    (omega arith, tried-next _ (l .inv .1) (c .before .pair-at .ensures), tried-next _ (l .inv .2) (c .pair-at2 .ensures))
 
 returns : tie.Need-returns Inv-loop μ-loop
 returns c =
     let a = c .before .before .before .before .before .args in
     let l = c .before .loop in
-    tried-all (a .b .now) (a .p) (a .k) (l .inv .1) (omega arith)
+    let e : l .i ≡ 16 = omega (arith, l .inv .0) in
+    windows-tried (a .b .now) (a .p) (a .k) (rw e at (l .inv .1)) (rw e at (l .inv .2))
 
 pub slot-passes-spec : {M : Type 1} → statement M
 slot-passes-spec =

@@ -15,8 +15,8 @@ abbrev μ-loop : tie.MeasureT-loop
 loop-holds : tie.Need-loop-holds Inv-loop μ-loop
 loop-holds c = heading-none _ _
 
-cover-at-requires : tie.Need-cover-at-requires Inv-loop μ-loop
-cover-at-requires c κs = c .before .before .before .before .pre
+test-at-requires : tie.Need-test-at-requires Inv-loop μ-loop
+test-at-requires c κs = c .before .before .before .before .pre
 
 mul-mask : tie.Need-mul-mask Inv-loop μ-loop
 mul-mask c = let s = heading-small (c .before .before .loop .inv) (omega arith) .0 in omega arith
@@ -25,7 +25,7 @@ cast-mask : tie.Need-cast-mask Inv-loop μ-loop
 cast-mask c = omega arith
 
 add-mask : tie.Need-add-mask Inv-loop μ-loop
-add-mask c = let s = heading-small (c .before .before .before .loop .inv) (omega arith) .0 in let k = c .before .cover-at .ensures .mask-small in omega arith
+add-mask c = let s = heading-small (c .before .before .before .loop .inv) (omega arith) .0 in let k = c .before .test-at .ensures .mask-small in omega arith
 
 mul-value : tie.Need-mul-value Inv-loop μ-loop
 mul-value c = let s = heading-small (c .before .before .before .loop .inv) (omega arith) .1 in omega arith
@@ -34,7 +34,7 @@ cast-value : tie.Need-cast-value Inv-loop μ-loop
 cast-value c = omega arith
 
 add-value : tie.Need-add-value Inv-loop μ-loop
-add-value c = let s = heading-small (c .before .before .before .before .loop .inv) (omega arith) .1 in let k = c .before .before .cover-at .ensures .value-small in omega arith
+add-value c = let s = heading-small (c .before .before .before .before .loop .inv) (omega arith) .1 in let k = c .before .before .test-at .ensures .value-small in omega arith
 
 add-j : tie.Need-add-j Inv-loop μ-loop
 add-j c = omega arith
@@ -43,7 +43,7 @@ loop-less : tie.Need-loop-less Inv-loop μ-loop
 loop-less c = omega arith
 
 loop-again : tie.Need-loop-again Inv-loop μ-loop
-loop-again c = heading-next (c .before .before .before .before .loop .inv) (omega arith) (c .before .before .cover-at .ensures) refl refl
+loop-again c = heading-next (c .before .before .before .before .loop .inv) (omega arith) (c .before .before .test-at .ensures) refl refl
 
 returns : tie.Need-returns Inv-loop μ-loop
 returns c = heading-end (c .before .loop .inv) (omega arith)
@@ -55,7 +55,7 @@ head-of-spec =
     Inv-loop
     μ-loop
     loop-holds
-    cover-at-requires
+    test-at-requires
     mul-mask
     cast-mask
     add-mask
