@@ -116,11 +116,33 @@ fn folded(text: &[u8]) -> Vec<u8> {
     text.iter().map(|&byte| fold(byte)).collect()
 }
 
-/// The fold rule: 65 to 90 and 192 to 222 except 215 gain 32; every other byte is unchanged.
+/// The fold, by which text and operand are compared: "after the present fold" (order 5), so lower case first, and then the
+/// accent is taken off.
 pub fn fold(byte: u8) -> u8 {
+    without_accent(lower_case(byte))
+}
+
+/// Document 01: "65 to 90 and 192 to 222 except 215 gain 32; every other byte is unchanged."
+fn lower_case(byte: u8) -> u8 {
     match byte {
         215 => 215,
         65..=90 | 192..=222 => byte + 32,
+        _ => byte,
+    }
+}
+
+/// Order 5: "224 to 229 become 97, 231 becomes 99, 232 to 235 become 101, 236 to 239 become 105, 241 becomes 110, 242 to 246
+/// become 111, 249 to 252 become 117, 253 and 255 become 121. The others, 230, 240, 248 and 254 among them, stay."
+fn without_accent(byte: u8) -> u8 {
+    match byte {
+        224..=229 => 97,
+        231 => 99,
+        232..=235 => 101,
+        236..=239 => 105,
+        241 => 110,
+        242..=246 => 111,
+        249..=252 => 117,
+        253 | 255 => 121,
         _ => byte,
     }
 }

@@ -1,5 +1,5 @@
 //! Random inputs from a seed: decoded values, their bytes, and damages to bytes and to typed texts. Beside them, worked by
-//! hand, the twelve kinds with their answers.
+//! hand, the twelve kinds with their answers, and the letters that a search takes for the same.
 //!
 //! The same seed gives the same input on every machine, so that a test which fails names the seed and no more.
 
@@ -9,6 +9,7 @@ mod damage;
 mod encode;
 mod faulty;
 mod kinds;
+mod letters;
 mod misspelling;
 mod near;
 mod outcomes;
@@ -21,6 +22,7 @@ pub use damage::{Damage, damage};
 pub use encode::{encode_catalogue, encode_condition, encode_question, encode_texts, field};
 pub use faulty::{faulty_question, typable_question};
 pub use kinds::{Kind, twelve_kinds};
+pub use letters::{alike, latin_1, plain_letter};
 pub use misspelling::{Misspelling, misspell};
 pub use near::{near_text, operand};
 pub use outcomes::{BLOCK, Pattern, with_outcomes};

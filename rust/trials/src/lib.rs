@@ -1,5 +1,6 @@
 //! What the tests in `tests/` share: lent memory with guards, comparison with the evaluator, and reports.
 
+mod both;
 mod catalogue;
 mod copy;
 mod damaged;
@@ -14,6 +15,7 @@ mod run;
 mod seen;
 mod typed;
 
+pub use both::{compare_both, compare_condition};
 pub use catalogue::compare_catalogue;
 pub use copy::{Copying, compare_copy};
 pub use damaged::Damaged;

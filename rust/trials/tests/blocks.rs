@@ -6,7 +6,7 @@ use generator::{
     BLOCK, Pattern, Rng, catalogue_of, near_text, operand, question_of, running_order, tree_of, with_blanks,
     with_outcomes,
 };
-use trials::{Run, compare_copy, compare_run, fewer, seeds};
+use trials::{compare_both, compare_condition, fewer, seeds};
 
 /// Sizes at the ends of blocks.
 const SIZES: [usize; 17] = [0, 1, 2, 8, 62, 63, 64, 65, 66, 127, 128, 129, 191, 192, 193, 2_047, 2_048];
@@ -18,36 +18,6 @@ const MOST: u32 = BLANK_NUMBER - 1;
 /// The sizes, or but one of the large ones.
 fn sizes() -> impl Iterator<Item = usize> {
     SIZES.into_iter().filter(|&size| size != 2_048 || !fewer())
-}
-
-/// A run with tables and tally of any bytes, the tables often longer than they must be.
-fn lending(rng: &mut Rng, catalogue: &Catalogue, question: &Question, order: &[u8]) -> Run {
-    let fit = Run::fitting(catalogue, question, order);
-    let mut table = |fit: &[u8]| {
-        let more = *rng.pick(&[0, 1, 7, 8, 9, 300]);
-        rng.bytes(fit.len() + more)
-    };
-    let (listed, looks) = (table(&fit.listed), table(&fit.looks));
-    // A tally that no run passes.
-    let tally = (rng.next_u64() >> 1).to_be_bytes().to_vec();
-    Run { listed, looks, tally, ..fit }
-}
-
-/// Makes the run in an order and its copy, and sees that both are accepted. Where less is to be tried, some are not copied.
-fn compare(rng: &mut Rng, label: &str, catalogue: &Catalogue, question: &Question, order: &[u8]) -> Ran {
-    let given = lending(rng, catalogue, question, order);
-    let ran = compare_run(label, &given);
-    assert_eq!(ran.word as u8, 0, "{label} is refused");
-    if !fewer() || rng.chance(10) {
-        let (written, more) = (7 * look_count(&ran), *rng.pick(&[0, 1, 7, 300]));
-        let copied = compare_copy(label, &given.copying(&rng.bytes(written + more)));
-        assert_eq!(copied.word, pack(0, 0, written), "{label}, the copy");
-    }
-    ran
-}
-
-fn found_count(ran: &Ran) -> usize {
-    (ran.word >> 8) as u16 as usize
 }
 
 fn look_count(ran: &Ran) -> usize {
@@ -73,7 +43,7 @@ fn sizes_around_every_multiple_of_64() {
         let (count, depth) = (*rng.pick(&[1, 3, 6, 9, 13, 20]), rng.between(1, 8));
         let asked = question_of(&mut rng, &made, count, depth);
         let order = running_order(&mut rng, count);
-        let ran = compare(&mut rng, &format!("{size} entries, {count} conditions"), &made, &asked, &order);
+        let ran = compare_both(&mut rng, &format!("{size} entries, {count} conditions"), &made, &asked, &order);
         skipped += size * count - look_count(&ran);
     }
     assert!(skipped > 50_000, "{skipped} looks skipped");
@@ -88,7 +58,7 @@ fn every_small_size() {
         let made = catalogue_of(&mut rng, size, 4);
         let asked = question_of(&mut rng, &made, 7, 3);
         let order = running_order(&mut rng, 7);
-        compare(&mut rng, &format!("{size} entries"), &made, &asked, &order);
+        compare_both(&mut rng, &format!("{size} entries"), &made, &asked, &order);
     }
 }
 
@@ -135,11 +105,11 @@ fn every_condition_due_everywhere() {
             let order = running_order(&mut rng, count);
             let label = format!("all due, {size} entries, {count} conditions");
             let asked = Question { tree: all_of(count), conditions: conditions.clone() };
-            let ran = compare(&mut rng, &label, &made, &asked, &order);
+            let ran = compare_both(&mut rng, &label, &made, &asked, &order);
             assert_eq!(ran.word, pack(size, 0, size * count), "{label}");
             conditions.iter_mut().for_each(|condition| condition.opposite = !condition.opposite);
             let asked = Question { tree: any_of(count), conditions };
-            let ran = compare(&mut rng, &label, &made, &asked, &order);
+            let ran = compare_both(&mut rng, &label, &made, &asked, &order);
             assert_eq!(ran.word, pack(0, 0, size * count), "{label}, opposite");
         }
     }
@@ -155,14 +125,14 @@ fn none_due_after_the_first() {
             let mut order = running_order(&mut rng, count);
             let label = format!("settled by the first, {size} entries, {count} conditions");
             let asked = Question { tree: any_of(count), conditions: conditions.clone() };
-            assert_eq!(compare(&mut rng, &label, &made, &asked, &order).word, pack(size, 0, size), "{label}");
+            assert_eq!(compare_both(&mut rng, &label, &made, &asked, &order).word, pack(size, 0, size), "{label}");
             // Two groups of which the first settles the question, once both its members are seen.
             conditions.iter_mut().for_each(|condition| condition.opposite = !condition.opposite);
             let rest = Tree::AllOf((2..count).map(Tree::Condition).collect());
             let pair = Tree::AnyOf(vec![Tree::Condition(0), Tree::Condition(1)]);
             let tree = if count == 2 { pair } else { Tree::AllOf(vec![pair, rest]) };
             order.sort_unstable();
-            let ran = compare(&mut rng, &label, &made, &Question { tree, conditions }, &order);
+            let ran = compare_both(&mut rng, &label, &made, &Question { tree, conditions }, &order);
             assert_eq!(ran.word, pack(0, 0, 2 * size), "{label}, two groups");
         }
     }
@@ -186,7 +156,7 @@ fn groups_settle_at_some_entries_of_a_block() {
         let depth = rng.between(1, 8);
         let asked = Question { tree: tree_of(&mut rng, count, depth), conditions };
         let order = running_order(&mut rng, count);
-        let ran = compare(&mut rng, &format!("patterns, seed {seed}"), &made, &asked, &order);
+        let ran = compare_both(&mut rng, &format!("patterns, seed {seed}"), &made, &asked, &order);
         skipped += size * count - look_count(&ran);
     }
     assert!(skipped > 20_000, "{skipped} looks skipped");
@@ -208,7 +178,7 @@ fn one_entry_differs_from_its_neighbours() {
             let (made, conditions) = with_outcomes(&mut rng, size, &outcomes);
             let asked = Question { tree: tree_of(&mut rng, count, depth), conditions };
             let order = running_order(&mut rng, count);
-            compare(&mut rng, &format!("entry {place} differs, seed {seed}"), &made, &asked, &order);
+            compare_both(&mut rng, &format!("entry {place} differs, seed {seed}"), &made, &asked, &order);
         }
     }
 }
@@ -224,7 +194,7 @@ fn groups_nested_eight_deep_and_64_conditions() {
         let some = running_order(&mut rng, 64);
         let orders = if size > 200 { vec![some] } else { vec![forward, backward, some] };
         for order in orders {
-            compare(&mut rng, &format!("64 conditions, {size} entries"), &made, &asked, &order);
+            compare_both(&mut rng, &format!("64 conditions, {size} entries"), &made, &asked, &order);
         }
         // A group in a group, eight times, a condition beside each.
         let outcomes: Vec<Vec<bool>> = (0..8).map(|_| Pattern::Half.of(&mut rng, size)).collect();
@@ -236,31 +206,8 @@ fn groups_nested_eight_deep_and_64_conditions() {
         }
         let asked = Question { tree: Tree::AnyOf(vec![tree]), conditions };
         let order = running_order(&mut rng, 8);
-        compare(&mut rng, &format!("eight deep, {size} entries"), &made, &asked, &order);
+        compare_both(&mut rng, &format!("eight deep, {size} entries"), &made, &asked, &order);
     }
-}
-
-/// Runs a condition on column 1 where it is due everywhere, and where another on column 0 leaves it due at some entries
-/// alone; then its opposite. The catalogue's last column ends where readable memory ends. Gives the number of entries that
-/// the condition lists where it is due everywhere, and that of its opposite.
-fn compare_condition(rng: &mut Rng, label: &str, column: Column, test: Test) -> [usize; 2] {
-    let size = match &column {
-        Column::Numbers(numbers) => numbers.len(),
-        Column::Texts(texts) => texts.len(),
-    };
-    [false, true].map(|opposite| {
-        let condition = Condition { column: 1, test: test.clone(), opposite };
-        let pattern = *rng.pick(&Pattern::ALL);
-        let gate = pattern.of(rng, size).into_iter().map(u32::from).collect();
-        let made = Catalogue { entries: size, columns: vec![Column::Numbers(gate), column.clone()] };
-        let bare = Question { tree: Tree::Condition(0), conditions: vec![condition.clone()] };
-        let found = found_count(&compare(rng, &format!("{label}, {condition:?}"), &made, &bare, &[0]));
-        let gate = Condition { column: 0, test: Test::NumberFrom { low: 1, high: 1 }, opposite: rng.chance(50) };
-        let tree = if rng.chance(50) { all_of(2) } else { any_of(2) };
-        let gated = Question { tree, conditions: vec![gate, condition.clone()] };
-        compare(rng, &format!("{label}, {pattern:?} due, {condition:?}"), &made, &gated, &[0, 1]);
-        found
-    })
 }
 
 /// Blanks in every kind of pattern, one of them the ends of blocks, among values that meet a condition and values that do
@@ -287,7 +234,8 @@ fn blanks_among_the_entries_of_a_block() {
                 (&parishes, Test::TextBlank, by_blank),
             ] {
                 let label = format!("{size} entries, blank: {blanks:?}, {test:?}");
-                assert_eq!(compare_condition(&mut rng, &label, column.clone(), test), listed, "{label}");
+                let found = compare_condition(&mut rng, &label, column.clone(), test).map(|found| found.len());
+                assert_eq!(found, listed, "{label}");
             }
         }
     }
@@ -309,27 +257,21 @@ fn texts_that_nearly_match() {
     }
 }
 
-/// Every byte against every byte, alone, first and last: the fold table as a run works it.
+/// Every byte against every byte, alone, first and last, by each kind of condition: the fold table as a run works it.
 #[test]
 fn every_byte_against_every_byte() {
     let mut rng = Rng::new(2);
-    for sought in (0..=255).step_by(if fewer() { 5 } else { 1 }) {
-        let alone = (0..=255).map(|byte| vec![byte]);
-        let first = (0..=255).map(|byte| vec![byte, b'-']);
-        let last = (0..=255).map(|byte| vec![b'-', byte]);
-        let texts: Vec<Vec<u8>> = alone.chain(first).chain(last).collect();
-        let made = Catalogue { entries: texts.len(), columns: vec![Column::Texts(texts)] };
-        let conditions = [
-            Test::Equals(vec![sought]),
-            Test::BeginsWith(vec![sought]),
-            Test::Contains(vec![sought]),
-            Test::Equals(vec![b'-', sought]),
-            Test::BeginsWith(vec![sought, b'-']),
-        ];
-        let conditions = conditions.map(|test| Condition { column: 0, test, opposite: false }).to_vec();
-        let asked = Question { tree: any_of(conditions.len()), conditions };
-        let order = running_order(&mut rng, asked.conditions.len());
-        compare(&mut rng, &format!("byte {sought}"), &made, &asked, &order);
+    let alone = (0..=255).map(|byte| vec![byte]);
+    let first = (0..=255).map(|byte| vec![byte, b'-']);
+    let last = (0..=255).map(|byte| vec![b'-', byte]);
+    let texts = Column::Texts(alone.chain(first).chain(last).collect());
+    for sought in (0..=255).step_by(if fewer() { 17 } else { 1 }) {
+        for operand in [vec![sought], vec![sought, b'-'], vec![b'-', sought]] {
+            for kind in [Test::Equals, Test::BeginsWith, Test::Contains] {
+                let label = format!("byte {sought}");
+                compare_condition(&mut rng, &label, texts.clone(), kind(operand.clone()));
+            }
+        }
     }
 }
 

@@ -5,7 +5,7 @@ use std::os::unix::fs::{PermissionsExt, symlink};
 
 use evaluator::{Catalogue, Column, Condition, Question, Test, Tree, refused_register, register};
 use generator::{
-    Rng, catalogue_of, encode_catalogue, encode_question, faulty_question, field, question_of, running_order,
+    Rng, catalogue_of, encode_catalogue, encode_question, faulty_question, field, latin_1, question_of, running_order,
 };
 use trials::{ENTRIES_AT_ENDS, OUTSIDE_THE_CENTURY, PARISH_CATALOGUE, PARISH_ORDER, PARISH_QUESTION, Room, Seen};
 
@@ -42,6 +42,17 @@ fn proved_case_2_prints_other_looks() {
 fn undated_entry_is_not_outside_the_century() {
     let expected = "consultation register\nfound 1\nentry 1\nlooks 3\ncondition 0 3\n";
     assert_eq!(consult("outside the century", PARISH_CATALOGUE, OUTSIDE_THE_CENTURY, &[0]), expected);
+}
+
+#[test]
+fn found_with_or_without_the_accent() {
+    let names = ["Andre", "ANDRÉ", "Andrew", "André"].map(latin_1).to_vec();
+    let catalogue = encode_catalogue(&Catalogue { entries: 4, columns: vec![Column::Texts(names)] });
+    let expected = "consultation register\nfound 3\nentry 0\nentry 1\nentry 3\nlooks 4\ncondition 0 4\n";
+    for name in ["andre", "André"].map(latin_1) {
+        let question = field(80, &[&[0, 2], name.as_slice()].concat());
+        assert_eq!(consult("accents", &catalogue, &question, &[0]), expected);
+    }
 }
 
 /// The tally starts at zero in each consultation, and none leaves anything behind.
