@@ -7,7 +7,8 @@ use crate::sqlite::Database;
 use crate::table::Table;
 
 /// Runs against SQLite, which keeps the rows decoded and need not check them again. Its LIKE and NOCASE fold the letters
-/// A to Z alone, so the texts hold no others. A blank is NULL, which meets neither a condition nor its NOT, as in the engine.
+/// A to Z alone and take off no accent, so texts and operands hold no other letters. A blank is NULL, which meets neither a
+/// condition nor its NOT, as in the engine.
 pub fn report(table: &mut Table) {
     let Some(database) = Database::open() else {
         println!("SQLite's library (Debian: libsqlite3-0) is not installed: its lines are left out");

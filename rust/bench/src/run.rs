@@ -16,15 +16,18 @@ pub fn report(table: &mut Table) {
     for (count, depth, asked) in at_each_depth(&mut rng, &made) {
         against_plain(table, &format!("run, conditions: {count}, depth up to {depth}"), AT_2048, &asked);
     }
-    for (name, test) in [
-        ("contains", Test::Contains(b"hby".to_vec())),
-        ("begins with", Test::BeginsWith(b"ash".to_vec())),
-        ("equals", Test::Equals(b"ashby".to_vec())),
+    for (name, aim, test) in [
+        ("contains", AT_2048, Test::Contains(b"hby".to_vec())),
+        ("begins with", AT_2048, Test::BeginsWith(b"ash".to_vec())),
+        ("equals", AT_2048, Test::Equals(b"ashby".to_vec())),
+        // Letters that all have accented forms tell the engine's filters least.
+        ("contains, letters with accents", None, Test::Contains(b"on".to_vec())),
+        ("begins with, letters with accents", None, Test::BeginsWith(b"an".to_vec())),
     ] {
         let condition = Condition { column: 1, test, opposite: false };
         let question = Question { tree: Tree::Condition(0), conditions: vec![condition] };
         let asked = Asked::new(&mut rng, &made, &question);
-        against_plain(table, &format!("run, one condition: {name}"), AT_2048, &asked);
+        against_plain(table, &format!("run, one condition: {name}"), aim, &asked);
     }
     against_plain(table, "run, 20 conditions, settled by the first", AT_2048, &settled_early(&mut rng));
     for (entries, aim) in [(64, AT_64), (256, None), (1_024, None), (2_048, AT_2048)] {
