@@ -29,7 +29,7 @@
 #include <stdint.h>
 
 /* The release; the pkg-config file has the same. */
-#define SEARCHROOM_VERSION "0.4.0"
+#define SEARCHROOM_VERSION "0.5.0"
 
 #ifdef __cplusplus
 extern "C" {
@@ -179,8 +179,13 @@ static inline unsigned searchroom_columns(uint64_t word) { return searchroom_sec
  *     128 to 133  the opposites of 0 to 5, yes where these answer no and no where they answer yes; operands as there
  * A blank field meets neither a condition nor its opposite: there kinds 0, 2, 3, 4 and their opposites 128, 130, 131, 132
  * answer SEARCHROOM_BLANK, and a run takes that as no. Kinds 1, 5, 129 and 133 ask for the blank itself and never answer so.
- * Text and operand are compared after folding (ISO/IEC 8859-1): bytes 65 to 90, and 192 to 222 except 215, gain 32; every
- * other byte is unchanged.
+ * Text and operand are compared after folding (ISO/IEC 8859-1), so that a text is found in capitals or small letters, with or
+ * without the accent: `Andre` finds `Andr\E9` (as searchroom_typed spells it), and `Andr\E9` finds `ANDRE`. Each byte is first
+ * made small: 65 to 90, and 192 to 222 except 215, gain 32. Then it loses its accent:
+ *     224 to 229 become 97 (a)      231 becomes 99 (c)            232 to 235 become 101 (e)     236 to 239 become 105 (i)
+ *     241 becomes 110 (n)           242 to 246 become 111 (o)     249 to 252 become 117 (u)     253 and 255 become 121 (y)
+ * Every other byte is unchanged, 230, 240, 248 and 254 among them. Whether a condition repeats an earlier one (13) is told
+ * without folding: `Andre` and `Andr\E9` may stand in one question.
  *
  * Results: first the number of conditions n (searchroom_conditions).
  * Refusals: 1 to 6 for the catalogue; then 7 to 14, met while walking the question from front to back: at each field 7,

@@ -89,6 +89,15 @@ static void each_refusal(void)
     EXPECT_EQ(searchroom_check_question(tag, 0, tag, sizeof tag), SEARCHROOM_CATALOGUE_FIELD);
 }
 
+/* Refusal 13 compares bytes as they are given: "Andre" and "Andr\xE9" find the same and are two conditions. */
+static void conditions_that_differ_by_an_accent(void)
+{
+    uint8_t two[] = {79, 0, 20, 80, 0, 7, 1, 2, 'A', 'n', 'd', 'r', 'e', 80, 0, 7, 1, 2, 'A', 'n', 'd', 'r', 0xE9};
+    EXPECT_EQ(searchroom_conditions(check(two, sizeof two)), 2);
+    two[sizeof two - 1] = 'e';
+    EXPECT_EQ(check(two, sizeof two), SEARCHROOM_REPEATED_CONDITION);
+}
+
 static void parish_outcomes(void)
 {
     static const unsigned expected[3][3] = {{SEARCHROOM_YES, SEARCHROOM_NO, SEARCHROOM_BLANK},
@@ -156,6 +165,7 @@ void question_cases(void)
     CASE(parish_question);
     CASE(limits_of_questions);
     CASE(each_refusal);
+    CASE(conditions_that_differ_by_an_accent);
     CASE(parish_outcomes);
     CASE(each_kind_at_values_and_at_blanks);
     CASE(no_such_entry_or_condition);

@@ -97,6 +97,35 @@ static void undated_is_not_outside_the_century(void)
     EXPECT_EQ(looks[0], 7);
 }
 
+/* Four names find each other, whichever is sought and by each kind, and not the fifth. */
+static void found_with_or_without_the_accent(void)
+{
+    enum { NAMES = 5, LEN = 5, SLOT = 24 };
+    static const char *const names[NAMES] = {"Andre", "ANDRE", "Andr\xE9", "ANDR\xC9", "Andr\xF8"};
+    static const uint8_t order[] = {0};
+    uint8_t made[9 + NAMES * SLOT] = {67, 0, 3, 0, NAMES, 1, 84, 0, NAMES * SLOT};
+    for (unsigned entry = 0; entry < NAMES; entry++) {
+        made[9 + SLOT * entry] = LEN;
+        memcpy(made + 10 + SLOT * entry, names[entry], LEN);
+    }
+    for (unsigned sought = 0; sought < 4; sought++) {
+        for (uint8_t kind = 2; kind <= 4; kind++) {
+            uint8_t asked[5 + LEN] = {80, 0, 2 + LEN, 0, kind};
+            memcpy(asked + 5, names[sought], LEN);
+            memset(tally, 0, sizeof tally);
+            uint64_t word = searchroom_run(made, sizeof made, asked, sizeof asked, order, sizeof order, listed,
+                                           sizeof listed, looks, sizeof looks, tally, SEARCHROOM_TALLY_BYTES);
+            EXPECT_EQ(searchroom_refusal(word), SEARCHROOM_ACCEPTED);
+            EXPECT_EQ(searchroom_found(word), 4);
+            EXPECT_EQ(listed[0], 15);
+            for (unsigned entry = 0; entry < NAMES; entry++) {
+                word = searchroom_outcome(made, sizeof made, asked, sizeof asked, entry, 0);
+                EXPECT_EQ(searchroom_answer(word), entry < 4 ? SEARCHROOM_YES : SEARCHROOM_NO);
+            }
+        }
+    }
+}
+
 static void longer_tables_keep_their_further_bytes(void)
 {
     uint64_t word = run((Lengths){forward, 3, 40, 90, 8, 0x5A});
@@ -133,6 +162,7 @@ void run_cases(void)
     CASE(parish_in_order);
     CASE(parish_in_reverse);
     CASE(undated_is_not_outside_the_century);
+    CASE(found_with_or_without_the_accent);
     CASE(longer_tables_keep_their_further_bytes);
     CASE(refusals_alter_nothing);
     free(catalogue);

@@ -54,7 +54,8 @@ pub fn check_question_word(catalogue: &[u8], question: &[u8]) -> Word {
     })
 }
 
-/// Works out one condition of a question at one entry of a catalogue.
+/// Works out one condition of a question at one entry of a catalogue. Texts are compared up to their case and their accents:
+/// "Andre" finds "André" and "ANDRÉ", and is found by them.
 ///
 /// ```
 /// use searchroom::{Answer, Refusal, outcome};
