@@ -21,7 +21,7 @@ use Rattle.sets.specs.KeptLaws.{kept-sifts, kept-either}
 use Rattle.heads.specs.declared.head.Head.{Head}
 use Rattle.heads.specs.Block.{HasDueRows, slotOf, textOf}
 use Rattle.filters.specs.Windows.{InReach, pairAs, windowsPass}
-use Rattle.filters.specs.NonAscii.{nonAsciiIn}
+use Rattle.filters.specs.NonAscii.{isNonAscii, nonAsciiIn}
 use Rattle.filters.proofs.SomeLaws.{some-there}
 use Rattle.heads.specs.ByteTest.{testPasses, isLoose, tightTest}
 use Rattle.heads.specs.Head.{headPasses, Starts, HeadFor}
@@ -66,7 +66,7 @@ module _ (b : List ℕ) (bytes : Bytes b) (o : List ℕ) (some : 0 < length o)
           let size = found-size b p (fits .0) (fits .1) o some a found in
           let l = fits .1 in
           let z : p + (1 + a + i) ≡ place = omega arith in
-          inr (e .0, some-there (λ k. leb 128 (getD b (p + k) 0)) slotSize (1 + a + i) (omega arith) (rw z (e .1)))
+          inr (e .0, some-there (isNonAscii b p) slotSize (1 + a + i) (omega arith) (rw z (e .1)))
 
   contains-passes : (i j : ℕ) → InReach (length o) i j → contains o (textAt b p) ≡ true
       → (windowsPass b p (pairAs o i j) ≡ true) ⊎ ((pairAs o i j .loose ≡ true) × (nonAsciiIn b p slotSize ≡ true))

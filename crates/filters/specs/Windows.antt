@@ -29,6 +29,13 @@ pub record PairFor (o : List ℕ) (k : Pair) : Type 0 where
 abbrev pub pairAt : List ℕ → (p q : ℕ) → Pair → Bool
 pairAt b p q k = testPasses (k .first) (getD b p 0) && testPasses (k .second) (getD b q 0)
 
+-- place i of the window that begins with the slot at p, and of that which ends with it
+abbrev pub inFirst : List ℕ → (p : ℕ) → Pair → (i : ℕ) → Bool
+inFirst b p k i = pairAt b (p + i) (p + k .gap + i) k
+
+abbrev pub inSecond : List ℕ → (p : ℕ) → Pair → (i : ℕ) → Bool
+inSecond b p k i = pairAt b (p + 8 - k .gap + i) (p + 8 + i) k
+
 -- contains: in the 16 places from the slot's first byte on, or in the last 16 that the pair has in it
 abbrev pub windowsPass : List ℕ → (p : ℕ) → Pair → Bool
-windowsPass b p k = someBelow (λ i. pairAt b (p + i) (p + k .gap + i) k) 16 || someBelow (λ i. pairAt b (p + 8 - k .gap + i) (p + 8 + i) k) 16
+windowsPass b p k = someBelow (inFirst b p k) 16 || someBelow (inSecond b p k) 16

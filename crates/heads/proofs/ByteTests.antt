@@ -8,7 +8,14 @@ use lib.Bits.{bitAnd, bitOr}
 use Rattle.bools.specs.Bools.{and-parts, or-cases, ltb-lt}
 use Rattle.fields.proofs.Tables.{everyBelow, below-gives}
 use Rattle.predicate.specs.Meaning.{fold}
-use Rattle.heads.specs.ByteTest.{testPasses, MayFold, looseBits, looseTest, isLoose, tightTest}
+use Rattle.heads.specs.declared.byte_test.ByteTest.{ByteTest}
+use Rattle.heads.specs.ByteTest.{testPasses, looseBits, looseTest, isLoose, tightTest}
+
+-- a test of bytes that every byte that folds to c passes
+pub record MayFold (c : ℕ) (k : ByteTest) : Type 0 where
+  pub mask-small : k .mask < 256
+  pub value-small : k .value < 256
+  pub passes : (x : ℕ) → x < 256 → fold x ≡ c → testPasses k x ≡ true
 
 -- each byte passes the loose test of its fold
 loose-tested : everyBelow (λ x. testPasses (looseTest (fold x)) x) 256 ≡ true

@@ -13,9 +13,9 @@ use Rattle.slots.specs.Slots.{textLimit}
 use Rattle.predicate.specs.Kinds.{equalsKind}
 use Rattle.predicate.specs.Meaning.{fold}
 use Rattle.heads.specs.declared.byte_test.ByteTest.{ByteTest}
-use Rattle.heads.specs.ByteTest.{anyByte, MayFold}
+use Rattle.heads.specs.ByteTest.{anyByte}
 use Rattle.heads.specs.Head.{headSize, Starts, TestFor, HeadFor, BlankHeadIs}
-use Rattle.heads.proofs.ByteTests.{any-passes}
+use Rattle.heads.proofs.ByteTests.{MayFold, any-passes}
 
 -- what byte j may be
 

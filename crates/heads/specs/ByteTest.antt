@@ -1,10 +1,8 @@
--- Cheap tests of a byte: all that the filters know of the fold.
-use Prim.Native.Nat.{ℕ, _<_}
-use mathlib.Core.Path.{_≡_}
-use mathlib.Core.Bool.{Bool, true, _||_, cond}
+-- Cheap tests of a byte: all that the filters know of the fold (the laws are those of proofs/ByteTests).
+use Prim.Native.Nat.{ℕ}
+use mathlib.Core.Bool.{Bool, _||_, cond}
 use lib.Dec.{eqb}
 use lib.Bits.{bitAnd, bitOr}
-use Rattle.predicate.specs.Meaning.{fold}
 use Rattle.heads.specs.declared.byte_test.ByteTest.{ByteTest}
 
 -- a byte passes where, with the bits of the mask set, it is the value
@@ -41,9 +39,3 @@ tightTest c = record { mask = tightBits c; value = bitOr c (tightBits c) }
 -- every byte that folds to c, and others
 abbrev pub looseTest : (c : ℕ) → ByteTest
 looseTest c = record { mask = looseBits c; value = bitOr c (looseBits c) }
-
--- a test of bytes that every byte that folds to c passes
-pub record MayFold (c : ℕ) (k : ByteTest) : Type 0 where
-  pub mask-small : k .mask < 256
-  pub value-small : k .value < 256
-  pub passes : (x : ℕ) → x < 256 → fold x ≡ c → testPasses k x ≡ true

@@ -3,8 +3,8 @@ use crate::{Rng, alike};
 /// The longest text and the longest operand.
 const LONGEST: usize = 23;
 
-/// Bytes at the ends of what the fold changes, by case and by each letter's accents, and bytes beside them; and those that
-/// differ from them in bit 5 alone.
+/// Bytes at the ends of what the fold changes, by case and by each letter's accents, and bytes beside them; those that differ
+/// from them in bit 5 alone; and the zero that fills a slot up and lengths.
 const ENDS: [u8; 57] = [
     0, 1, 2, 23, 24, 32, 64, 65, 90, 91, 96, 97, 122, 123, 159, 160, 191, 192, 193, 197, 198, 199, 200, 203, 204, 207,
     208, 209, 210, 214, 215, 216, 217, 220, 221, 222, 223, 224, 225, 229, 230, 231, 232, 235, 236, 239, 240, 241, 242,

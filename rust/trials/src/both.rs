@@ -9,11 +9,16 @@ pub fn compare_both(rng: &mut Rng, label: &str, catalogue: &Catalogue, question:
     let ran = compare_run(label, &given);
     assert_eq!(ran.word as u8, 0, "{label} is refused");
     if !fewer() || rng.chance(10) {
-        let (written, more) = (7 * (ran.word >> 40) as usize, *rng.pick(&[0, 1, 7, 300]));
+        let (written, more) = (7 * look_count(&ran), *rng.pick(&[0, 1, 7, 300]));
         let copied = compare_copy(label, &given.copying(&rng.bytes(written + more)));
         assert_eq!(copied.word, pack(0, 0, written), "{label}, the copy");
     }
     ran
+}
+
+/// The number of looks that an accepted run made.
+pub fn look_count(ran: &Ran) -> usize {
+    (ran.word >> 40) as usize
 }
 
 /// A run with tables and tally of any bytes, the tables often longer than they must be.

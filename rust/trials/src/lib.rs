@@ -15,7 +15,7 @@ mod run;
 mod seen;
 mod typed;
 
-pub use both::{compare_both, compare_condition};
+pub use both::{compare_both, compare_condition, look_count};
 pub use catalogue::compare_catalogue;
 pub use copy::{Copying, compare_copy};
 pub use damaged::Damaged;

@@ -1,12 +1,12 @@
 //! Runs and copies over catalogues whose entries fill blocks of 64, or nearly do: what one entry gives must not reach its
 //! neighbours, and the last block ends where the entries end.
 
-use evaluator::{BLANK_NUMBER, Catalogue, Column, Condition, Question, Ran, Test, Tree, pack};
+use evaluator::{BLANK_NUMBER, Catalogue, Column, Condition, Question, Test, Tree, pack};
 use generator::{
     BLOCK, Pattern, Rng, catalogue_of, near_text, operand, question_of, running_order, tree_of, with_blanks,
     with_outcomes,
 };
-use trials::{compare_both, compare_condition, fewer, seeds};
+use trials::{compare_both, compare_condition, fewer, look_count, seeds};
 
 /// Sizes at the ends of blocks.
 const SIZES: [usize; 17] = [0, 1, 2, 8, 62, 63, 64, 65, 66, 127, 128, 129, 191, 192, 193, 2_047, 2_048];
@@ -18,10 +18,6 @@ const MOST: u32 = BLANK_NUMBER - 1;
 /// The sizes, or but one of the large ones.
 fn sizes() -> impl Iterator<Item = usize> {
     SIZES.into_iter().filter(|&size| size != 2_048 || !fewer())
-}
-
-fn look_count(ran: &Ran) -> usize {
-    (ran.word >> 40) as usize
 }
 
 fn all_of(count: usize) -> Tree {

@@ -1,10 +1,9 @@
--- `slot_has_non_ascii` meets its contract: the bytes that are left decide, with what was found so far.
-use Prim.Native.Nat.{_+_, _-_, _≤_}
+-- `slot_has_non_ascii` meets its contract: the flag tells whether one of the bytes tried so far is from 128 on.
+use Prim.Native.Nat.{_-_, _≤_}
 use mathlib.Core.Path.{_≡_}
-use lib.ListN.{getD}
-use lib.Dec.{leb}
 use native.Mathlib.Omega.{arith}
 use Rattle.slots.specs.Slots.{slotSize}
+use Rattle.filters.specs.NonAscii.{isNonAscii}
 use Rattle.filters.proofs.SomeLaws.{Tried, tried-none, tried-next}
 use Rattle.heads.proofs.ByteTests.{flag-set}
 use borrow.Author.Needs.{needs}
@@ -12,7 +11,7 @@ use Rattle.filters.proofs.non_ascii.slot_has_non_ascii.Statement.{state
 use Rattle.filters.proofs.non_ascii.slot_has_non_ascii.Tie as tie
 
 abbrev Inv-loop : tie.InvT-loop
-Inv-loop b p any₀ i₀ any i = (i ≤ slotSize) × Tried (λ j. leb 128 (getD b (p + j) 0)) i any
+Inv-loop b p any₀ i₀ any i = (i ≤ slotSize) × Tried (isNonAscii b p) i any
 
 abbrev μ-loop : tie.MeasureT-loop
 μ-loop b p any₀ i₀ any i = slotSize - i

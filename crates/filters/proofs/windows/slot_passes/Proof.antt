@@ -1,8 +1,8 @@
--- `slot_passes` meets its contract: the places that are left decide, with what was found so far.
-use Prim.Native.Nat.{_+_, _-_, _≤_}
+-- `slot_passes` meets its contract: each flag tells whether the pair is at one of the places tried so far.
+use Prim.Native.Nat.{_-_, _≤_}
 use native.Mathlib.Omega.{arith}
 use mathlib.Core.Path.{_≡_}
-use Rattle.filters.specs.Windows.{pairAt}
+use Rattle.filters.specs.Windows.{inFirst, inSecond}
 use Rattle.filters.proofs.SomeLaws.{Tried, tried-none, tried-next}
 use Rattle.filters.proofs.Pairs.{windows-tried}
 use borrow.Author.Needs.{needs}
@@ -10,7 +10,7 @@ use Rattle.filters.proofs.windows.slot_passes.Statement.{statement}
 use Rattle.filters.proofs.windows.slot_passes.Tie as tie
 
 abbrev Inv-loop : tie.InvT-loop
-Inv-loop b p k q s r front₀ back₀ i₀ front back i = (i ≤ 16) × Tried (λ j. pairAt b (p + j) (p + k .gap + j) k) i front × Tried (λ j. pairAt b (p + 8 - k .gap + j) (p + 8 + j) k) i back
+Inv-loop b p k q s r front₀ back₀ i₀ front back i = (i ≤ 16) × Tried (inFirst b p k) i front × Tried (inSecond b p k) i back
 
 abbrev μ-loop : tie.MeasureT-loop
 μ-loop b p k q s r front₀ back₀ i₀ front back i = 16 - i
