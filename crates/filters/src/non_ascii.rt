@@ -36,7 +36,7 @@ pub fn non_ascii_rows(b: &[u8], start: usize, base: usize, due: u64) -> u64
         let row = base + fields::number::widen(d);
         let next = sets::rest(left);
         let passes = slot_has_non_ascii(b, start + Text::SLOT_SIZE * row);
-        met = met | sets::kept(passes, d);
+        met = met | sets::kept(passes, left ^ next);
         left = next;
     }
     met

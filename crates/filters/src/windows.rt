@@ -60,7 +60,7 @@ fn due_windows(b: &[u8], start: usize, base: usize, k: Pair, due: u64) -> u64
         let row = base + fields::number::widen(d);
         let next = sets::rest(left);
         let passes = slot_passes(b, start + Text::SLOT_SIZE * row, k);
-        met = met | sets::kept(passes, d);
+        met = met | sets::kept(passes, left ^ next);
         left = next;
     }
     met

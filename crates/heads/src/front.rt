@@ -35,7 +35,7 @@ fn due_front(b: &[u8], start: usize, base: usize, k: Head, due: u64) -> u64
         let row = base + fields::number::widen(d);
         let next = sets::rest(left);
         let passes = crate::head::head_passes(b, start + Text::SLOT_SIZE * row, k);
-        met = met | sets::kept(passes, d);
+        met = met | sets::kept(passes, left ^ next);
         left = next;
     }
     met

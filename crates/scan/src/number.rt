@@ -68,7 +68,7 @@ fn due_within(b: &[u8], start: usize, base: usize, low: u32, width: u32, due: u6
         let row = base + fields::number::widen(d);
         let next = sets::rest(left);
         let n = catalogue::column::number_at(b, start, row);
-        met = met | sets::kept(is_within(low, width, n), d);
+        met = met | sets::kept(is_within(low, width, n), left ^ next);
         left = next;
     }
     met

@@ -35,7 +35,7 @@ pub fn texts_that_pass(
         let next = sets::rest(left);
         let text = catalogue::column::text_at(b, start, row);
         let passes = predicate::text::text_test(table, kind, operand, text);
-        met = met | sets::kept(passes, d);
+        met = met | sets::kept(passes, left ^ next);
         left = next;
     }
     met

@@ -126,7 +126,7 @@ module _ {P : ℕ → Bool} {x left met t w : ℕ} (S : Sorting P x left met) (F
 
   -- `next` is the rest, p the test's answer, and `more` what is met
   module _ {next : ℕ} (R : RestIs left next) where
-    pub sort-next : {p : Bool} {more : ℕ} → p ≡ P w → more ≡ cond p (oneSet t) 0 → Sorting P x next (bitOr met more)
+    pub sort-next : {p : Bool} {more : ℕ} → p ≡ P w → more ≡ cond p (bitXor left next) 0 → Sorting P x next (bitOr met more)
     sort-next {p} {more} e m = record {
       small = let l = R .less in let s = S .small in omega arith;
       within = λ d y. S .within d (left-of (eqb d t) (has left d) (sym (rest-has F R d) ∙ y));
@@ -142,7 +142,9 @@ module _ {P : ℕ → Bool} {x left met t w : ℕ} (S : Sorting P x left met) (F
         kept-has false z d = has-none d
 
         met-has : (d : ℕ) → has more d ≡ (p && eqb d t)
-        met-has d = ap (λ (z : ℕ). has z d) m ∙ kept-has p (oneSet t) d ∙ ap (λ (b : Bool). p && b) (has-one t d)
+        met-has d =
+            let alone : bitXor left next ≡ oneSet t = R .taken ∙ ap oneSet (sym (F .lowest-is)) in
+            ap (λ (z : ℕ). has z d) (m ∙ rw alone) ∙ kept-has p (oneSet t) d ∙ ap (λ (b : Bool). p && b) (has-one t d)
 
         here : (k q : Bool) → ((k || (q && true)) || false) ≡ (k || (true && q))
         here true q = refl

@@ -1,6 +1,6 @@
 -- Membership in sets made by bit operations, and sets that have the same members.
 use Prim.Native.Nat.{ℕ, zero, suc, _-_, _*_, _/_, _%_, _^_, _≤_, _<_}
-use native.Mathlib.Nat.{zero-mul, one-mul, mod-lt, pow-suc, zero-div, div-eq-of-lt}
+use native.Mathlib.Nat.{one-mul, mod-lt, pow-suc, zero-div, div-eq-of-lt}
 use native.Mathlib.Numerals.{one-add}
 use native.Mathlib.Omega.{arith}
 use mathlib.Core.Path.{_≡_, refl, sym, ap, _∙_, fun-ext}
@@ -144,7 +144,3 @@ bit-has x d = ap (λ (m : ℕ). eqb m 1) (and-mask (x / 2 ^ d) 1)
 
 pub shift-one : (d : ℕ) → d < 64 → 1 * 2 ^ d % 2 ^ 64 ≡ oneSet d
 shift-one d h = shl-exact {a = 1} 1 d 64 (lit< tt) (omega arith) ∙ one-mul (2 ^ d)
-
-pub shift-kept : (p : Bool) (d : ℕ) → d < 64 → cond p 1 0 * 2 ^ d % 2 ^ 64 ≡ cond p (oneSet d) 0
-shift-kept true d h = shift-one d h
-shift-kept false d h = shl-exact {a = 0} 0 d 64 (lit< tt) (omega arith) ∙ zero-mul (2 ^ d)

@@ -72,10 +72,10 @@ pub fn bit(test: bool) -> u64
     if test { 1 } else { 0 }
 }
 
-// The set of d alone where it passes a test, or none: the answer is shifted, so that no branch depends on it.
-pub fn kept(test: bool, d: u8) -> u64
-    requires { ⌜ d < 64 ⌝ }
-    ensures { λ r. ⌜ r ≡ cond test (oneSet d) 0 ⌝ }
+// The set x where a test passes, else none. A loop hands over its lowest number alone, left ^ rest(left): a bit shifted to its
+// place waits for that number.
+pub fn kept(test: bool, x: u64) -> u64
+    ensures { λ r. ⌜ r ≡ cond test x 0 ⌝ }
 {
-    bit(test) << d
+    if test { x } else { 0 }
 }
