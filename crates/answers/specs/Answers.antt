@@ -32,7 +32,7 @@ outcomeNumber No = 0
 outcomeNumber Yes = 1
 outcomeNumber Blank = 2
 
--- "Working out one condition: 1 to 14, then 18, no such entry or condition."
+-- "Working out one condition: 1 to 14, then 18, no such entry or condition."; order 6's 23 is with 1 to 14
 abbrev pub outcomeAnswer : Decoded Input → (row c : ℕ) → Answer
 outcomeAnswer (refused e) row c = Refused e
 outcomeAnswer (accepted i) row c =

@@ -6,7 +6,7 @@ use mathlib.Core.Path.{_≡_, refl, sym, ap, ap₂, _∙_}
 use mathlib.Core.Bool.{Bool, true, false, _&&_, _||_}
 use mathlib.Core.Logic.{_⊎_, inl, inr}
 use mathlib.Core.List.{List, [], _∷_}
-use lib.ListN.{length, getD}
+use lib.ListN.{length, getD, List·getD-eq-default}
 use lib.Dec.{eqb, ltb}
 use lib.Pow.{pow-mono}
 use lib.Bits.{bitOr, or-shifted-r}
@@ -104,6 +104,11 @@ bit-at t i j l =
     let q : (i * 8 + j) / 8 ≡ i = omega arith in
     let r : (i * 8 + j) % 8 ≡ j = omega arith in
     rw (q, r)
+
+-- past the end of a table no bit is set
+pub bit-past : (t : List ℕ) (k : ℕ) → length t ≤ k / 8 → bit t k ≡ false
+unfolding bit has
+bit-past t k h = ap (λ (x : ℕ). has x (k % 8)) (List·getD-eq-default t 0 h) ∙ has-none (k % 8)
 
 bit-first : (x : ℕ) (xs : List ℕ) (e : ℕ) → e < 8 → bit (x ∷ xs) e ≡ has x e
 bit-first x xs e l = let q : 0 * 8 + e ≡ e = omega arith in sym (ap (bit (x ∷ xs)) q) ∙ bit-at (x ∷ xs) 0 e l

@@ -4,8 +4,8 @@ use Prim.Native.Nat.{ℕ, zero, suc, _+_, _-_, _*_, _≤_}
 use native.Mathlib.Omega.{arith}
 use mathlib.Core.Path.{_≡_, refl, sym, ap, _∙_}
 use mathlib.Core.Bool.{Bool, true, false, _&&_, cond}
-use mathlib.Core.List.{List, [], _∷_, _++_, append-assoc, append-nil}
-use lib.ListN.{length, getD, take, drop, replicate, length-drop, take-append-drop, drop-of-length-le}
+use mathlib.Core.List.{List, [], _∷_, _++_, append-assoc}
+use lib.ListN.{length, getD, take, drop, replicate, length-drop, take-append-drop}
 use lib.Seq.{drop-cons, drop-drop, length-take-le}
 use lib.Dec.{leb, eqb}
 use borrow.Author.Tests.{eqb-true, leb-true}
@@ -22,12 +22,14 @@ use Rattle.catalogue.specs.declared.column.ColumnField.{ColumnField}
 use Rattle.catalogue.specs.declared.column.ColumnField.the-variants as field
 use Rattle.catalogue.specs.declared.first.First.{First}
 use Rattle.catalogue.specs.declared.first.First.the-variants as first
-use Rattle.catalogue.specs.Format.{firstTag, firstSize, numberTag, numberSize, textTag, rowLimit, columnLimit, notCatalogue, countsOutOfRange, notColumn, badSlot, bytesAfterColumns}
-use Rattle.catalogue.specs.Catalogue.{Column, numbers, texts, Catalogue}
+use Rattle.catalogue.specs.Format.{firstTag, firstSize, numberTag, numberSize, textTag, rowLimit, columnLimit, notCatalogue, countsOutOfRange, notColumn, badSlot}
+use Rattle.catalogue.specs.Catalogue.{Column, numbers, texts, Mark, Catalogue}
 use Rattle.slots.specs.Slots.{slotSize, textLimit, textAt, textsAt, zerosAt, validSlot, validSlots}
 use Rattle.catalogue.specs.Decode.{numbersAt, countsAt, firstFieldOf, columnOf, Columns, columnBefore, columnThen, columnsAt, catalogueOf, firstThen, decodeCatalogue}
 use Rattle.catalogue.specs.Encode.{encodeNumbers, encodeText, encodeTexts, encodeColumn, encodeColumns, encodeCounts, encodeCatalogue}
+use Rattle.catalogue.specs.Mark.{markFieldAt, markOf}
 use Rattle.catalogue.specs.Formed.{AreNumbers, AreTexts, FormedColumn, FormedColumns, Formed}
+use Rattle.catalogue.proofs.MarkLaws.{MarkWritten, mark-written}
 
 -- what a column's field tells: it stands there, with a payload of the right size
 abbrev ColumnIs : (b : List ℕ) → (rows at : ℕ) → ColumnField → Type 0
@@ -249,15 +251,13 @@ module _ (b : List ℕ) (bytes : Bytes b) where
       → andThen d (catalogueOf b rows) ≡ accepted c → Whole c
   unfolding encodeCatalogue
   columns-whole rows columns next c (refused e) k w h = let z : _≡_ {A = ℕ} 0 1 = cc in absurd (omega arith)
-  columns-whole rows columns next c (accepted C) (written, few, some, narrow) (rest, count, each) h = go (eqb (C .end) (length b)) refl h
+  columns-whole rows columns next c (accepted C) (written, few, some, narrow) (rest, count, each) h = go (markOf b (markFieldAt b rows (C .end))) (mark-written b bytes rows (C .end)) h
     where
-      go : (x : Bool) → eqb (C .end) (length b) ≡ x → cond x (accepted (record { rows = rows; columns = C .columns })) (refused bytesAfterColumns) ≡ accepted c → Whole c
-      go false e h = let z : _≡_ {A = ℕ} 0 1 = cc in absurd (omega arith)
-      go true e h =
-          let z : record { rows = rows; columns = C .columns } ≡ c = cc in
-          let l : C .end ≡ length b = eqb-true _ _ e in
-          let n : drop (C .end) b ≡ [] = drop-of-length-le b {i = C .end} (omega arith) in
-          rw (← z) (record { rows-few = few; some = omega arith; few = omega arith; each = each }, written ∙ rw (rest, count, n, append-nil))
+      go : (d : Decoded Mark) → MarkWritten b bytes rows (C .end) d → mapped (λ m. record { rows = rows; columns = C .columns; mark = m }) d ≡ accepted c → Whole c
+      go (refused e) w h = let z : _≡_ {A = ℕ} 0 1 = cc in absurd (omega arith)
+      go (accepted m) (marks, formed) h =
+          let z : record { rows = rows; columns = C .columns; mark = m } ≡ c = cc in
+          rw (← z) (record { rows-few = few; some = omega arith; few = omega arith; each = each; mark = formed }, written ∙ rw (rest, count, marks))
 
   pub catalogue-written : (c : Catalogue) → decodeCatalogue b ≡ accepted c → Formed c × (b ≡ encodeCatalogue c)
   unfolding decodeCatalogue

@@ -13,8 +13,9 @@ use Rattle.catalogue.specs.declared.column.ColumnField.{ColumnField}
 use Rattle.catalogue.specs.declared.column.ColumnField.the-variants as field
 use Rattle.catalogue.specs.declared.first.First.{First}
 use Rattle.catalogue.specs.declared.first.First.the-variants as first
-use Rattle.catalogue.specs.Format.{firstTag, firstSize, numberTag, numberSize, textTag, rowLimit, columnLimit, fieldCut, notCatalogue, countsOutOfRange, notColumn, badSlot, bytesAfterColumns}
+use Rattle.catalogue.specs.Format.{firstTag, firstSize, numberTag, numberSize, textTag, rowLimit, columnLimit, fieldCut, notCatalogue, countsOutOfRange, notColumn, badSlot}
 use Rattle.catalogue.specs.Catalogue.{Column, numbers, texts, Catalogue}
+use Rattle.catalogue.specs.Mark.{markFieldAt, markOf}
 use Rattle.slots.specs.Slots.{slotSize, textsAt, validSlots}
 
 -- so many numbers of four bytes from a place on
@@ -62,9 +63,9 @@ unfoldable pub columnsAt : List ℕ → (rows n at : ℕ) → Decoded Columns
 columnsAt b rows zero at = accepted (record { columns = []; end = at })
 columnsAt b rows (suc n) at = columnThen b rows (columnOf b rows (headerAt b at (length b))) (λ next. columnsAt b rows n next)
 
--- "At the end: 6, bytes left over."
+-- "At the end: 6, bytes left over.", or order 6's mark
 abbrev pub catalogueOf : List ℕ → (rows : ℕ) → Columns → Decoded Catalogue
-catalogueOf b rows c = cond (eqb (c .end) (length b)) (accepted (record { rows = rows; columns = c .columns })) (refused bytesAfterColumns)
+catalogueOf b rows c = mapped (λ m. record { rows = rows; columns = c .columns; mark = m }) (markOf b (markFieldAt b rows (c .end)))
 
 abbrev pub firstThen : List ℕ → First → Decoded Catalogue
 firstThen b (first.Refused e) = refused e

@@ -13,6 +13,10 @@ numberTag = 78
 abbrev pub textTag : ℕ
 textTag = 84
 
+-- order 6: "one field, tag 87"
+abbrev pub markTag : ℕ
+markTag = 87
+
 -- bytes of a number, and the number that means blank
 abbrev pub numberSize : ℕ
 numberSize = 4
@@ -26,7 +30,7 @@ rowLimit = 2048
 abbrev pub columnLimit : ℕ
 columnLimit = 16
 
--- refusals 1 to 6: "1, fewer than three bytes left or the length passes the end"
+-- refusals 1 to 6 and 23: "1, fewer than three bytes left or the length passes the end"
 abbrev pub fieldCut : ℕ
 fieldCut = 1
 
@@ -46,6 +50,10 @@ notColumn = 4
 abbrev pub badSlot : ℕ
 badSlot = 5
 
--- "6, bytes left over"
-abbrev pub bytesAfterColumns : ℕ
-bytesAfterColumns = 6
+-- "6, bytes left over"; order 6: "any other byte there, or bytes after the mark"
+abbrev pub bytesLeftOver : ℕ
+bytesLeftOver = 6
+
+-- order 6: "23, a wrong length or a stray bit"
+abbrev pub badMark : ℕ
+badMark = 23

@@ -8,11 +8,14 @@ use Rattle.catalogue.specs.declared.column.ColumnField.{ColumnField}
 use Rattle.catalogue.specs.declared.column.ColumnField.the-variants.{Refused, Numbers, Texts}
 use Rattle.catalogue.specs.declared.first.First.{First}
 use Rattle.catalogue.specs.declared.first.First.the-variants as first
-use Rattle.catalogue.specs.Format.{numberSize, rowLimit, columnLimit, bytesAfterColumns}
+use Rattle.catalogue.specs.declared.mark.MarkField.{MarkField}
+use Rattle.catalogue.specs.declared.mark.MarkField.the-variants as mark
+use Rattle.catalogue.specs.Format.{numberSize, rowLimit, columnLimit}
 use Rattle.slots.specs.Slots.{slotSize, validSlots}
+use Rattle.bitmaps.specs.Bitmap.{bytesFor}
 
 abbrev pub IsRefusal : ℕ → Type 0
-IsRefusal e = (0 < e) × (e ≤ bytesAfterColumns)
+IsRefusal e = (0 < e) × (e < 256)
 
 abbrev pub SoundFirst : List ℕ → First → Type 0
 SoundFirst b (first.Refused e) = IsRefusal e
@@ -22,3 +25,8 @@ abbrev pub SoundColumn : List ℕ → (rows : ℕ) → ColumnField → Type 0
 SoundColumn b rows (Refused e) = IsRefusal e
 SoundColumn b rows (Numbers start end) = (start + numberSize * rows ≡ end) × (end ≤ length b)
 SoundColumn b rows (Texts start end) = (start + slotSize * rows ≡ end) × (end ≤ length b) × (validSlots b start rows ≡ true)
+
+abbrev pub SoundMark : List ℕ → (rows : ℕ) → MarkField → Type 0
+SoundMark b rows (mark.Refused e) = IsRefusal e
+SoundMark b rows mark.Absent = Unit {0}
+SoundMark b rows (mark.Marked start) = start + bytesFor rows ≡ length b

@@ -25,6 +25,13 @@ impl Number {
     pub const BLANK: u32 = 4294967295;
 }
 
+// Order 6's withdrawal mark.
+pub struct Mark;
+
+impl Mark {
+    pub const TAG: u8 = 87;
+}
+
 // The first field.
 pub struct FirstField;
 
@@ -34,7 +41,7 @@ impl FirstField {
     pub const SIZE: usize = 3;
 }
 
-// Document 01's refusals 1 to 6.
+// Document 01's refusals 1 to 6, order 6's 23.
 pub struct Refusal;
 
 impl Refusal {
@@ -48,5 +55,7 @@ impl Refusal {
 
     pub const BAD_SLOT: u8 = 5;
 
-    pub const BYTES_AFTER_COLUMNS: u8 = 6;
+    pub const BYTES_LEFT_OVER: u8 = 6;
+
+    pub const BAD_MARK: u8 = 23;
 }

@@ -13,7 +13,7 @@ use Rattle.strategy.specs.Tree.{eval}
 use Rattle.strategy.specs.Order.{occurrences, allBelow, isOrder}
 use Rattle.bitmaps.specs.Sums.{sumOf, joined}
 use Rattle.bitmaps.specs.Bitmap.{bitmap, bitmaps, onesIn}
-use Rattle.rows.specs.Task.{isSelected, traceAt}
+use Rattle.rows.specs.Task.{isSelected, dueAt, traceAt}
 use Rattle.answers.specs.Checks.{checked}
 use Rattle.demands.specs.Run.{selection, probeBitmaps, runOn}
 use Rattle.bitmaps.specs.Bit.{bit}
@@ -34,5 +34,5 @@ parish-register : consultationOf parish question (0 ∷ 1 ∷ 2 ∷ [])
     ++ (99 ∷ 111 ∷ 110 ∷ 100 ∷ 105 ∷ 116 ∷ 105 ∷ 111 ∷ 110 ∷ 32 ∷ 48 ∷ 32 ∷ 51 ∷ 10 ∷ [])
     ++ (99 ∷ 111 ∷ 110 ∷ 100 ∷ 105 ∷ 116 ∷ 105 ∷ 111 ∷ 110 ∷ 32 ∷ 49 ∷ 32 ∷ 49 ∷ 10 ∷ [])
     ++ (99 ∷ 111 ∷ 110 ∷ 100 ∷ 105 ∷ 116 ∷ 105 ∷ 111 ∷ 110 ∷ 32 ∷ 50 ∷ 32 ∷ 50 ∷ 10 ∷ [])
-unfolding numberAt bytesOf folded same begins occurs plainKind asksContent numberTest textTest outcomeOf update elem predicates decides someOutcomes due trace eval occurrences allBelow isOrder sumOf joined bitmap bitmaps onesIn isSelected traceAt selection probeBitmaps checked runOn ones digitOnes xor bit has digits decimal line entries conditionLine conditions accepted
+unfolding numberAt bytesOf folded same begins occurs plainKind asksContent numberTest textTest outcomeOf update elem predicates decides someOutcomes due trace eval occurrences allBelow isOrder sumOf joined bitmap bitmaps onesIn isSelected dueAt traceAt selection probeBitmaps checked runOn ones digitOnes xor bit has digits decimal line entries conditionLine conditions accepted
 parish-register = ap₂ registerAfter parish-input (run-on parish question _ _ _ _ parish-input)

@@ -6,8 +6,9 @@ use Rattle.fields.specs.Decoded.{accepted}
 use Rattle.fields.specs.Numbers.{numberAt}
 use Rattle.fields.specs.Header.{headerAt}
 use Rattle.slots.specs.Slots.{textAt, textsAt, zerosAt, validSlot, validSlots}
-use Rattle.catalogue.specs.Catalogue.{Catalogue, numbers, texts}
+use Rattle.catalogue.specs.Catalogue.{Catalogue, numbers, texts, unmarked}
 use Rattle.catalogue.specs.Decode.{numbersAt, countsAt, firstFieldOf, columnOf, columnsAt, decodeCatalogue}
+use Rattle.catalogue.specs.Mark.{markFieldAt}
 use Rattle.predicate.specs.Kinds.{plainKind}
 use Rattle.predicate.specs.Meaning.{Predicate, same}
 use Rattle.predicate.specs.Payload.{tagsIn, kindFits, rangeFits, operandFits, validPayload}
@@ -23,6 +24,7 @@ abbrev pub parishCatalogue : Catalogue
 parishCatalogue = record {
   rows = 3;
   columns = numbers (1701 ∷ 1822 ∷ 4294967295 ∷ []) ∷ texts ((0x41 ∷ 0x73 ∷ 0x68 ∷ []) ∷ (0x41 ∷ 0x53 ∷ 0x48 ∷ 0x42 ∷ 0x59 ∷ []) ∷ [] ∷ []) ∷ [];
+  mark = unmarked;
 }
 
 -- the three conditions, each with its operand at a place
@@ -45,7 +47,7 @@ abbrev pub parishQuery : Query
 parishQuery = record { tree = any (more bothTree (more (leaf 2) none)); predicates = inCentury 11 ∷ beginsAsh 24 ∷ isBlank 32 ∷ [] }
 
 parish-catalogue : decodeCatalogue parish ≡ accepted parishCatalogue
-unfolding numberAt headerAt textAt textsAt zerosAt validSlot validSlots numbersAt countsAt firstFieldOf columnOf columnsAt decodeCatalogue
+unfolding numberAt headerAt textAt textsAt zerosAt validSlot validSlots numbersAt countsAt firstFieldOf columnOf columnsAt markFieldAt decodeCatalogue
 parish-catalogue = refl
 
 parish-query : decodeQuery parishCatalogue question ≡ accepted parishQuery
@@ -59,13 +61,13 @@ both-query = refl
 -- one row, and the last condition alone
 
 abbrev pub oneCatalogue : Catalogue
-oneCatalogue = record { rows = 1; columns = numbers (1701 ∷ []) ∷ [] }
+oneCatalogue = record { rows = 1; columns = numbers (1701 ∷ []) ∷ []; mark = unmarked }
 
 abbrev pub blankQuery : Query
 blankQuery = record { tree = leaf 0; predicates = isBlank 5 ∷ [] }
 
 one-catalogue : decodeCatalogue oneRow ≡ accepted oneCatalogue
-unfolding numberAt headerAt numbersAt countsAt firstFieldOf columnOf columnsAt decodeCatalogue
+unfolding numberAt headerAt numbersAt countsAt firstFieldOf columnOf columnsAt markFieldAt decodeCatalogue
 one-catalogue = refl
 
 blank-query : decodeQuery oneCatalogue yearBlank ≡ accepted blankQuery

@@ -15,6 +15,7 @@ use Rattle.fields.specs.Header.{headerAt}
 use Rattle.catalogue.specs.Catalogue.{Catalogue}
 use Rattle.slots.specs.Slots.{textAt, textsAt, zerosAt, validSlot, validSlots}
 use Rattle.catalogue.specs.Decode.{numbersAt, countsAt, firstFieldOf, columnOf, columnsAt, decodeCatalogue}
+use Rattle.catalogue.specs.Mark.{markFieldAt}
 use Rattle.predicate.specs.Kinds.{plainKind, asksContent}
 use Rattle.predicate.specs.Meaning.{folded, same, begins, occurs, numberTest, textTest, outcomeOf}
 use Rattle.predicate.specs.Payload.{tagsIn, kindFits, rangeFits, operandFits, validPayload}
@@ -27,8 +28,9 @@ use Rattle.strategy.specs.Trace.{decides, someOutcomes, due, trace}
 use Rattle.strategy.specs.Tree.{eval}
 use Rattle.strategy.specs.Order.{occurrences, allBelow, isOrder}
 use Rattle.bitmaps.specs.Sums.{sumOf, joined}
+use Rattle.bitmaps.specs.Bit.{bit}
 use Rattle.bitmaps.specs.Bitmap.{bytesFor, bitmap, bitmaps, onesIn}
-use Rattle.rows.specs.Task.{isSelected, traceAt}
+use Rattle.rows.specs.Task.{isSelected, dueAt, traceAt}
 use Rattle.input.specs.Input.{Input, withQuery, decodeInput}
 use Rattle.answers.specs.Checks.{checked}
 use Rattle.answers.specs.declared.word.Answer.the-variants.{Refused, Accepted}
@@ -87,17 +89,17 @@ module _ (i : Input) (b q order listed looks tally : List ℕ) (z : rowCount i �
       rw (o, tables-fit, no-selection, no-probes, t .0, t .1)
 
 finds-nothing : Holds (findsNothing noRows)
-unfolding numberAt headerAt numbersAt countsAt firstFieldOf columnOf columnsAt decodeCatalogue decodeInput runOf
+unfolding numberAt headerAt numbersAt countsAt firstFieldOf columnOf columnsAt markFieldAt decodeCatalogue decodeInput runOf
 finds-nothing q order listed looks tally i e o bytes n =
     let z : rowCount i ≡ 0 = ap (λ (C : Catalogue). C .rows) (its-catalogue _ (decodeQuery _ q) i e) in
     rw e (no-rows-run i noRows q order listed looks tally z o bytes n)
 
 nine-nested : Holds (questionCheck parish (nested 9 yearBlank) (Refused 10))
-unfolding numberAt headerAt textAt textsAt zerosAt validSlot validSlots numbersAt countsAt firstFieldOf columnOf columnsAt decodeCatalogue plainKind tagsIn kindFits rangeFits operandFits validPayload payloadAt isRepeated predicateField groupField memberField decodeTagged decodeQuery member decodeInput nested
+unfolding numberAt headerAt textAt textsAt zerosAt validSlot validSlots numbersAt countsAt firstFieldOf columnOf columnsAt markFieldAt decodeCatalogue plainKind tagsIn kindFits rangeFits operandFits validPayload payloadAt isRepeated predicateField groupField memberField decodeTagged decodeQuery member decodeInput nested
 nine-nested = refl
 
 pub cases-hold : AllHold cases
-unfolding numberAt bytesOf headerAt numbersAt countsAt firstFieldOf columnOf columnsAt decodeCatalogue folded same begins occurs plainKind asksContent numberTest textTest outcomeOf update elem predicates decides someOutcomes due trace eval occurrences allBelow isOrder sumOf joined bitmap bitmaps onesIn isSelected traceAt selection probeBitmaps checked runOn ones digitOnes xor
+unfolding numberAt bytesOf headerAt numbersAt countsAt firstFieldOf columnOf columnsAt markFieldAt decodeCatalogue folded same begins occurs plainKind asksContent numberTest textTest outcomeOf update elem predicates decides someOutcomes due trace eval occurrences allBelow isOrder sumOf joined bitmap bitmaps onesIn bit isSelected dueAt traceAt selection probeBitmaps checked runOn ones digitOnes xor
 cases-hold = (
   run-on parish question _ _ _ _ parish-input,
   (run-on parish question _ _ _ _ parish-input, (refl, (refl, (refl, (refl, (refl, (refl, (refl, (refl, (refl, (refl, (refl, (refl, (refl, (refl, (finds-nothing, (refl, (nine-nested, (run-on parish bothMembers _ _ _ _ both-input, (run-on oneRow yearBlank _ _ _ _ one-input, tt)))))))))))))))))))),

@@ -14,15 +14,15 @@ use Rattle.rows.specs.Task.{predicateAt, isProbed}
 use Rattle.input.specs.Input.{Input}
 use Rattle.answers.specs.Answers.{outcomeNumber}
 use Rattle.demands.specs.Run.{Request, rowCount, taskOf}
-use Rattle.demands.specs.Demands.{pattern, LookDue}
+use Rattle.demands.specs.Demands.{LookMade}
 use Rattle.demands.specs.Log.{outcomeNumberAt, taskFields, LogGives}
 use Rattle.demands.specs.CopyPage.{copyBytes, CopyKept, CopyBroken, CopyNumber, CopyRefused, CopyAccepted, CopyLength, CopyAnySequence, CopyMost, CopyFurther}
 use Rattle.demands.specs.CopyPage.{looksOf, lookField, fieldBytes, CopyFieldThere, CopyBlank, CopyFieldOnce, CopyAscends, CopyLooks}
 use Rattle.demands.proofs.DemandBlanks.{blank-at}
-use Rattle.demands.proofs.DemandTables.{front-old, front-line, probed-due, look-count-le}
+use Rattle.demands.proofs.DemandTables.{front-old, front-line, probed-made, look-count-le}
 use Rattle.demands.proofs.Demands.{demand-2-looks}
 use Rattle.demands.proofs.CopyTables.{sequence-count, sequence-length}
-use Rattle.demands.proofs.CopyBytes.{field-plain, field-parts, fieldsBefore, FieldAt, field-before, field-ascends, field-of, log-cut, place-due, due-place, place-alone}
+use Rattle.demands.proofs.CopyBytes.{field-plain, field-parts, fieldsBefore, FieldAt, field-before, field-ascends, field-of, log-cut, place-made, made-place, place-alone}
 use Rattle.demands.proofs.CopyRuns.{Cases, copy-cases, broken-number, kept-output, kept-sequence, kept-gives, broken-output, broken-gives}
 
 pub copy-number : CopyNumber
@@ -49,8 +49,8 @@ pub copy-any-sequence : CopyAnySequence
 copy-any-sequence r i o s each = sequence-length i (r .order) o s (λ e m c. go e c m (isProbed (taskOf i (r .order)) c e) refl)
   where
     go : (e c : ℕ) → e < rowCount i → (b : Bool) → isProbed (taskOf i (r .order)) c e ≡ b → occurrences c (s e) ≡ digit b
-    go e c m true y = each e c m .0 (probed-due i (r .order) o c e .0 y)
-    go e c m false y = each e c m .1 (λ D. clash (probed-due i (r .order) o c e .1 D) y)
+    go e c m true y = each e c m .0 (probed-made i (r .order) o c e .0 y)
+    go e c m false y = each e c m .1 (λ D. clash (probed-made i (r .order) o c e .1 D) y)
 
 pub copy-most : CopyMost
 copy-most r i f = omega (arith, look-count-le i (r .order) 2048 (f .0 .0 .rows-few), f .1 .0 .few)
@@ -94,16 +94,16 @@ pub copy-field-there : CopyFieldThere
 copy-field-there r old new w L i k e c o = (to, from)
   where
     to : (j : ℕ) × (j < looksOf i r) × (fieldBytes new j ≡ lookField e c o)
-        → (e < rowCount i) × LookDue i (r .order) (pattern i e) c × (o ≡ outcomeNumber (outcome (i .catalogue) (predicateAt (i .query) c) e))
+        → (e < rowCount i) × LookMade i (r .order) e c × (o ≡ outcomeNumber (outcome (i .catalogue) (predicateAt (i .query) c) e))
     to (j, l, h) =
         let (e′, p, F) = field-place L i k j l in
         let same = field-parts e e′ (sym h ∙ field-bytes L i k F) in
-        rw (same .0, same .1) (F .inside, place-due i (r .order) (k .order) (L .sequence) (kept-sequence L i k) (F .inside) (F .within), same .2)
+        rw (same .0, same .1) (F .inside, place-made i (r .order) (k .order) (L .sequence) (kept-sequence L i k) (F .inside) (F .within), same .2)
 
-    from : (e < rowCount i) × LookDue i (r .order) (pattern i e) c × (o ≡ outcomeNumber (outcome (i .catalogue) (predicateAt (i .query) c) e))
+    from : (e < rowCount i) × LookMade i (r .order) e c × (o ≡ outcomeNumber (outcome (i .catalogue) (predicateAt (i .query) c) e))
         → (j : ℕ) × (j < looksOf i r) × (fieldBytes new j ≡ lookField e c o)
     from (m, D, h) =
-        let (p, l, q) = due-place i (r .order) (k .order) (L .sequence) (kept-sequence L i k) m D in
+        let (p, l, q) = made-place i (r .order) (k .order) (L .sequence) (kept-sequence L i k) m D in
         let F : At L i k (fieldsBefore (L .sequence) e + p) e p = record { inside = m; within = l; place = refl } in
         (fieldsBefore (L .sequence) e + p, omega (arith, field-count L i k, field-before F), field-bytes L i k F ∙ rw (q, h))
 

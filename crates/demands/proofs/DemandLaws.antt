@@ -1,5 +1,5 @@
--- What reads is accepted, and what is accepted of bytes reads; the refusals of both decoders are in their range; the word taken apart.
-use Prim.Native.Nat.{ℕ, _≤_}
+-- What reads is accepted, and what is accepted of bytes reads; the refusals of both decoders have room in the word; the word taken apart.
+use Prim.Native.Nat.{ℕ, _≤_, _<_}
 use native.Mathlib.Omega.{arith}
 use mathlib.Core.Path.{_≡_, refl}
 use mathlib.Core.Logic.{_⊎_, inl, inr}
@@ -29,6 +29,14 @@ is-catalogue b C (formed, written) = decode-written C formed b written
 
 pub is-question : (C : Catalogue) (q : List ℕ) (Q : Query) → IsQuestion C q Q → decodeQuery C q ≡ accepted Q
 is-question C q Q (formed, written) = rw written (decode-encoded C Q formed)
+
+-- a refusal has room in the word
+pub catalogue-range : (b : List ℕ) (e : ℕ) → decodeCatalogue b ≡ refused e → (1 ≤ e) × (e < 256)
+catalogue-range b e h = go (catalogue-refusal b e h)
+  where
+    go : ((1 ≤ e) × (e ≤ 6)) ⊎ (e ≡ 23) → (1 ≤ e) × (e < 256)
+    go (inl r) = omega arith
+    go (inr r) = omega arith
 
 module _ (b q : List ℕ) where
   -- the decoders accept both
@@ -66,8 +74,8 @@ module _ (b q : List ℕ) where
       go (inl (i, d)) = inl (i, (catalogue-exactly b (i .catalogue) bytes .0 (d .0), question-exactly (i .catalogue) q (i .query) bytes′ .0 (d .1)))
       go (inr x) = inr x
 
-  pub broken-range : (e : ℕ) → FormBroken b q e → (1 ≤ e) × (e ≤ 14)
-  broken-range e (inl x) = let s = catalogue-refusal b e x in omega arith
+  pub broken-range : (e : ℕ) → FormBroken b q e → (1 ≤ e) × (e < 256)
+  broken-range e (inl x) = catalogue-range b e x
   broken-range e (inr x) = let s = query-refusal (x .0) q e (x .2) in omega arith
 
 -- THE WORD TAKEN APART

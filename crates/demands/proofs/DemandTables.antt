@@ -3,18 +3,18 @@ use Prim.Native.Nat.{ℕ, zero, suc, _+_, _*_, _≤_, _<_}
 use native.Mathlib.Nat.{mul-le-mul-right}
 use native.Mathlib.Omega.{arith}
 use mathlib.Core.Path.{_≡_, refl, sym, ap, _∙_, subst}
-use mathlib.Core.Bool.{Bool, true, false, _&&_, _||_}
+use mathlib.Core.Bool.{Bool, true, false, not, _&&_, _||_, cond}
 use mathlib.Core.Logic.{_↔_, _⊎_, inl, inr}
 use mathlib.Core.List.{List, [], _∷_, _++_}
 use lib.ListN.{length, take, drop, length-drop}
 use lib.Seq.{take-append-seam, drop-append-seam, take-append-le, drop-append-le}
 use lib.Dec.{eqb}
-use Rattle.bools.specs.Bools.{both, and-parts, eqb-eq, eqb-self, eqb-ne, same?, ltb-yes, ltb-no}
+use Rattle.bools.specs.Bools.{both, not-of-true, and-parts, eqb-eq, eqb-self, eqb-ne, same?, ltb-yes, ltb-no}
 use Rattle.strategy.specs.Assignment.{Assignment, Among, elem, Once}
 use Rattle.strategy.specs.AssignmentLaws.{elem-yes, elem-among, elem-no}
 use Rattle.strategy.specs.Order.{occurrences, allBelow, isOrder, Order}
 use Rattle.strategy.specs.OrderLaws.{allBelow-gives, allBelow-of, order-law}
-use Rattle.strategy.specs.Strategy.{Due, predicates}
+use Rattle.strategy.specs.Strategy.{State, Due, predicates}
 use Rattle.strategy.specs.Trace.{trace}
 use Rattle.strategy.specs.TraceLaws.{trace-among, trace-once, trace-due}
 use Rattle.bitmaps.specs.Sums.{sumOf, digit, countOf}
@@ -23,10 +23,12 @@ use Rattle.fields.specs.Output.{putFront}
 use Rattle.bitmaps.specs.Bitmap.{bytesFor, bitmap}
 use Rattle.bitmaps.specs.Bit.{bit}
 use Rattle.bitmaps.specs.BitmapLaws.{bitmap-length, bitmap-bytes, bitmap-bit, bitmap-ones, bitmaps-length, bitmaps-line, bitmaps-ones}
-use Rattle.rows.specs.Task.{isSelected, traceAt, isProbed}
+use Rattle.catalogue.specs.Catalogue.{isWithdrawn}
+use Rattle.rows.specs.Task.{isSelected, dueAt, traceAt, isProbed}
+use Rattle.rows.proofs.Withdrawn.{probed-is}
 use Rattle.input.specs.Input.{Input}
 use Rattle.demands.specs.Run.{rowCount, predicateCount, taskOf, selection, probeBitmaps, foundCount, lookCount}
-use Rattle.demands.specs.Demands.{RunningOrder, pattern, treeValue, LookDue, LineOf, listedLine, looksLine}
+use Rattle.demands.specs.Demands.{RunningOrder, Present, ifPresent, pattern, treeValue, LookDue, LookMade, LineOf, listedLine, looksLine}
 
 -- SUMS
 
@@ -156,24 +158,34 @@ module _ (i : Input) (order : List ℕ) (o : RunningOrder i order) where
   traced-inside : (a : Assignment) (c : ℕ) → Among c (predicates (trace (treeValue i) a order)) → c < predicateCount i
   traced-inside a c m = held .inside c (trace-among (treeValue i) a order c m)
 
-  pub probed-inside : (c e : ℕ) → isProbed (taskOf i order) c e ≡ true → c < predicateCount i
-  unfolding traceAt
-  probed-inside c e x = traced-inside (pattern i e) c (elem-among c (predicates (trace (treeValue i) (pattern i e) order)) x)
+  -- a look that is made is due, at an entry in the house
+  probed-traced : (c e : ℕ) → isProbed (taskOf i order) c e ≡ true → Present i e × Among c (predicates (trace (treeValue i) (pattern i e) order))
+  unfolding dueAt
+  probed-traced c e x =
+      let p = and-parts (not (isWithdrawn (i .catalogue) e)) (elem c (predicates (dueAt (taskOf i order) e))) (sym (probed-is (taskOf i order) e c) ∙ x) in
+      (not-of-true (isWithdrawn (i .catalogue) e) (p .0), elem-among c (predicates (dueAt (taskOf i order) e)) (p .1))
 
-  pub probed-due : (c e : ℕ) → (isProbed (taskOf i order) c e ≡ true) ↔ LookDue i order (pattern i e) c
-  unfolding traceAt
-  probed-due c e =
-      let law = traced-due (pattern i e) c in
-      let l : List ℕ = predicates (trace (treeValue i) (pattern i e) order) in
-      (λ x. law .0 (elem-among c l x), λ D. elem-yes c l (law .1 D))
+  pub probed-inside : (c e : ℕ) → isProbed (taskOf i order) c e ≡ true → c < predicateCount i
+  probed-inside c e x = traced-inside (pattern i e) c (probed-traced c e x .1)
+
+  pub probed-made : (c e : ℕ) → (isProbed (taskOf i order) c e ≡ true) ↔ LookMade i order e c
+  unfolding dueAt
+  probed-made c e = (
+    λ x. let p = probed-traced c e x in (p .0, traced-due (pattern i e) c .0 (p .1)),
+    λ (h, D). rw (probed-is (taskOf i order) e c, h) (elem-yes c (predicates (dueAt (taskOf i order) e)) (traced-due (pattern i e) c .1 D)),
+  )
 
   -- how many looks a row has
-  pub probed-count : (e : ℕ) → countOf (λ c. isProbed (taskOf i order) c e) (predicateCount i) ≡ length (predicates (trace (treeValue i) (pattern i e) order))
-  unfolding traceAt
-  probed-count e =
-      count-elem (predicates (trace (treeValue i) (pattern i e) order)) (predicateCount i)
-      (trace-once (treeValue i) (pattern i e) order (held .once))
-      (traced-inside (pattern i e))
+  pub probed-count : (e : ℕ) → countOf (λ c. isProbed (taskOf i order) c e) (predicateCount i) ≡ ifPresent i e (length (predicates (trace (treeValue i) (pattern i e) order)))
+  unfolding traceAt dueAt predicates elem
+  probed-count e = go (isWithdrawn (i .catalogue) e)
+    where
+      all : State
+      all = trace (treeValue i) (pattern i e) order
+
+      go : (w : Bool) → countOf (λ c. elem c (predicates (cond w [] all))) (predicateCount i) ≡ cond w 0 (length (predicates all))
+      go true = sum-zero (λ c. 0) (predicateCount i) (λ c l. refl)
+      go false = count-elem (predicates all) (predicateCount i) (trace-once (treeValue i) (pattern i e) order (held .once)) (traced-inside (pattern i e))
 
 -- COUNTS
 
@@ -196,10 +208,10 @@ module _ (i : Input) (order : List ℕ) where
   pub look-count-across : lookCount (taskOf i order) ≡ sumOf (λ e. countOf (λ c. isProbed (taskOf i order) c e) (predicateCount i)) (rowCount i)
   look-count-across = look-count ∙ sum-swap (λ c e. digit (isProbed (taskOf i order) c e)) (predicateCount i) (rowCount i)
 
-  pub look-count-rows : RunningOrder i order → lookCount (taskOf i order) ≡ sumOf (λ e. length (predicates (trace (treeValue i) (pattern i e) order))) (rowCount i)
+  pub look-count-rows : RunningOrder i order → lookCount (taskOf i order) ≡ sumOf (λ e. ifPresent i e (length (predicates (trace (treeValue i) (pattern i e) order)))) (rowCount i)
   look-count-rows o =
       look-count-across
-      ∙ sum-same (λ e. countOf (λ c. isProbed (taskOf i order) c e) (predicateCount i)) (λ e. length (predicates (trace (treeValue i) (pattern i e) order))) (rowCount i)
+      ∙ sum-same (λ e. countOf (λ c. isProbed (taskOf i order) c e) (predicateCount i)) (λ e. ifPresent i e (length (predicates (trace (treeValue i) (pattern i e) order)))) (rowCount i)
       (λ e l. probed-count i order o e)
 
 -- THE LENT TABLES AFTERWARDS

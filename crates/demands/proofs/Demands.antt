@@ -3,14 +3,17 @@ use Prim.Native.Nat.{ℕ, suc, _+_, _*_, _/_, _%_, _^_, _≤_, _<_}
 use native.Mathlib.Nat.{mul-comm}
 use native.Mathlib.Omega.{arith}
 use mathlib.Core.Path.{_≡_, refl, sym, ap, _∙_, subst}
-use mathlib.Core.Bool.{true, _&&_}
-use mathlib.Core.Logic.{inl, inr}
+use mathlib.Core.Bool.{Bool, true, false, not, _&&_, cond}
+use mathlib.Core.Logic.{_↔_, inl, inr}
 use mathlib.Core.List.{List, [], _∷_}
 use lib.ListN.{length}
 use lib.Dec.{ltb}
 use Rattle.fields.specs.Numbers.{numberAt}
 use Rattle.fields.proofs.Laws.{number-of-bytes}
+use Rattle.catalogue.specs.Catalogue.{marked, isWithdrawn}
 use Rattle.catalogue.specs.Encode.{encodeCatalogue}
+use Rattle.catalogue.specs.Formed.{FormedBits}
+use Rattle.catalogue.proofs.MarkLaws.{withdrawn-marked, withdrawn-unmarked}
 use Rattle.catalogue.proofs.EncodedBytes.{catalogue-bytes}
 use Rattle.catalogue.proofs.Exactly as catalogue
 use Rattle.catalogue.proofs.Refusals.{catalogue-refusal}
@@ -25,7 +28,7 @@ use Rattle.query.proofs.Refusals.{query-refusal}
 use Rattle.predicate.specs.Meaning.{Predicate, outcomeOf, outcome}
 use Rattle.predicate.specs.Outcome.{isBlank}
 use Rattle.predicate.specs.Payload.{tagsOf, validPayload, predicateOf}
-use Rattle.bools.specs.Bools.{not-true, and-parts, ltb-yes, ltb-lt}
+use Rattle.bools.specs.Bools.{not-true, not-of-true, both, and-parts, ltb-yes, ltb-lt}
 use Rattle.strategy.specs.Assignment.{Assignment, Among}
 use Rattle.strategy.specs.Tree.{eval, size}
 use Rattle.strategy.specs.TreeLaws.{all-none, all-more, any-none, any-more}
@@ -45,11 +48,12 @@ use Rattle.answers.specs.Refusals.{noSuchRowOrPredicate}
 use Rattle.answers.specs.Answers.{outcomeNumber}
 use Rattle.answers.proofs.Outcomes.{outcome-small}
 use Rattle.demands.specs.Run.{rowCount, predicateCount, taskOf, selection, probeBitmaps, foundCount, lookCount}
-use Rattle.demands.specs.Demands.{after, Reads, RunningOrder, lineBytes, Kept, FirstBroken, pattern, treeValue, listedLine, looksLine}
-use Rattle.demands.specs.Demands.{Demand1CatalogueForm, Demand1QuestionForm, Demand1Payload, Demand1FormsWritten, Demand1WrittenOnce, Demand1Number, Demand1Refused, Demand1Accepted, Demand1Limits, Demand1Catalogue, Demand1Question, Demand1Outcome}
-use Rattle.demands.specs.Demands.{Gives, outcomeWord, Reads, conditionOf, Demand2Blank, Demand2AsNo, Demand2Opposite, Demand2Tree, Demand2Listed, Demand2Looks, Demand2Further, Demand2Counts, Demand2Tally, Demand3, Demand3Ours, Demand3Count, Demand3Run}
-use Rattle.demands.proofs.DemandLaws.{is-catalogue, is-question, reads-input, broken-input, broken-range, unpacked}
-use Rattle.demands.proofs.DemandTables.{sum-le, line-of, line-count, front-old, order-plain, held, traced-due, probed-due, found-count, look-count, look-count-le, look-count-rows, selection-length, listed-line, probeBitmaps-length, looks-line}
+use Rattle.demands.specs.Demands.{after, Reads, RunningOrder, lineBytes, Kept, FirstBroken, Present, ifPresent, pattern, treeValue, LineOf, listedLine, looksLine}
+use Rattle.demands.specs.Demands.{Demand1CatalogueForm, Demand1QuestionForm, Demand1Payload, Demand1FormsWritten, Demand1WrittenOnce, Demand1Mark, Demand1AfterColumns, Demand1Number, Demand1Refused, Demand1Accepted, Demand1Limits, Demand1Catalogue, Demand1Question, Demand1Outcome}
+use Rattle.demands.specs.Demands.{Gives, outcomeWord, Reads, conditionOf, Demand2Blank, Demand2AsNo, Demand2Opposite, Demand2AsBefore, Demand2Tree, Demand2Listed, Demand2Looks, Demand2Withdrawn, Demand2Further, Demand2Counts, Demand2Tally, Demand3, Demand3Ours, Demand3Count, Demand3Run}
+use Rattle.demands.proofs.AfterColumns.{after-other, after-cut, after-bad, after-more, after-mark}
+use Rattle.demands.proofs.DemandLaws.{catalogue-range, is-catalogue, is-question, reads-input, broken-input, broken-range, unpacked}
+use Rattle.demands.proofs.DemandTables.{sum-le, line-of, line-count, front-old, order-plain, held, traced-due, probed-made, found-count, look-count, look-count-le, look-count-rows, selection-length, listed-line, probeBitmaps-length, looks-line}
 use Rattle.demands.proofs.DemandBlanks.{yes-number, blank-answer, blank-at, opposite-of, blank-false, other-opposite}
 use Rattle.demands.proofs.DemandRuns.{Cases, kept-run, broken-run, broken-number, run-cases, broken-gives, kept-gives}
 
@@ -84,6 +88,25 @@ demand-1-forms-written C formed = (
 pub demand-1-written-once : Demand1WrittenOnce
 demand-1-written-once = (catalogue.encode-once, question.encode-once)
 
+pub demand-1-mark : Demand1Mark
+demand-1-mark C formed = (shown, withdrawn-unmarked C)
+  where
+    shown : (m : List ℕ) → C .mark ≡ marked m → LineOf (λ e. isWithdrawn C e ≡ true) (C .rows) m
+    shown m h =
+        let f : FormedBits (C .rows) m = rw h at (formed .mark) in
+        record { size = f .size; bytes = f .bytes; bits = λ e l. let q = withdrawn-marked C m h e in (λ x. q ∙ x, λ x. sym q ∙ x); unused = f .unused }
+
+pub demand-1-after-columns : Demand1AfterColumns
+demand-1-after-columns C formed plain more bytes = (
+  after-other C formed plain more,
+  λ tag. (
+    after-cut C formed plain more tag,
+    λ l n. after-bad C formed plain more tag l bytes n,
+    after-more C formed plain more tag,
+    after-mark C formed plain more tag,
+  ),
+)
+
 -- DEMAND 1: THE CALLS
 
 pub demand-1-number : Demand1Number
@@ -107,7 +130,7 @@ demand-1-accepted l bytes = (λ h. go h (run-cases l bytes), λ x. kept-gives l 
 
 pub demand-1-catalogue : Demand1Catalogue
 demand-1-catalogue b = (
-  λ e h. let s = catalogue-refusal b e h in
+  λ e h. let s = catalogue-range b e h in
       rw h (unpacked (Refused e) (omega arith)),
   λ C h. let s = h .0 in
       rw (is-catalogue b C h) (unpacked (Accepted (C .rows) (length (C .columns)) 0) (omega (arith, s .rows-few, s .few))),
@@ -172,6 +195,9 @@ demand-2-opposite column kind o e l = rw (opposite-of column kind o e l) (
   λ n. other-opposite (outcomeOf column kind o e) (not-true (isBlank (outcomeOf column kind o e)) (λ h. n (blank-answer column kind o e .0 h))),
 )
 
+pub demand-2-as-before : Demand2AsBefore
+demand-2-as-before C m p e = refl
+
 pub demand-2-tree : Demand2Tree
 unfolding eval
 demand-2-tree a = (λ c. refl, all-none a, all-more a, any-none a, any-more a)
@@ -179,12 +205,25 @@ demand-2-tree a = (λ c. refl, all-none a, all-more a, any-none a, any-more a)
 pub demand-2-listed : Demand2Listed
 unfolding isSelected
 demand-2-listed l i k =
-    rw (kept-run l i k, listed-line i (l .request .order) (l .listed)) (line-of (λ e. treeValue i (pattern i e) ≡ true) (isSelected (taskOf i (l .request .order))) (rowCount i) (λ e. (λ x. x, λ x. x)))
+    rw (kept-run l i k, listed-line i (l .request .order) (l .listed))
+    (line-of (λ e. Present i e × (treeValue i (pattern i e) ≡ true)) (isSelected (taskOf i (l .request .order))) (rowCount i) holds)
+  where
+    holds : (e : ℕ) → (isSelected (taskOf i (l .request .order)) e ≡ true) ↔ (Present i e × (treeValue i (pattern i e) ≡ true))
+    holds e = (
+      λ x. let p = and-parts (not (isWithdrawn (i .catalogue) e)) (treeValue i (pattern i e)) x in (not-of-true (isWithdrawn (i .catalogue) e) (p .0), p .1),
+      λ (h, t). both (ap not h) t,
+    )
 
 pub demand-2-looks : Demand2Looks
 demand-2-looks l i k c m =
     rw (kept-run l i k, looks-line i (l .request .order) (l .looks) c m)
-    (line-of _ (isProbed (taskOf i (l .request .order)) c) (rowCount i) (λ e. probed-due i (l .request .order) (k .order) c e))
+    (line-of _ (isProbed (taskOf i (l .request .order)) c) (rowCount i) (λ e. probed-made i (l .request .order) (k .order) c e))
+
+pub demand-2-withdrawn : Demand2Withdrawn
+demand-2-withdrawn l i k e m n = (
+  not-true _ (λ h. n (demand-2-listed l i k .bits e m .0 h .0)),
+  λ c j. not-true _ (λ h. n (demand-2-looks l i k c j .bits e m .0 h .0)),
+)
 
 pub demand-2-counts : Demand2Counts
 demand-2-counts l i k = rw (← found, ← looked) (kept-gives l i k)
@@ -247,8 +286,8 @@ demand-3-ours b q i r order o a = (
 pub demand-3-count : Demand3Count
 demand-3-count b q i r order o =
     look-count-rows i order o
-    ∙ sum-same (λ e. length (predicates (trace (treeValue i) (pattern i e) order))) (λ e. length (probes (ours (treeValue i) order) (pattern i e) order)) (rowCount i)
-    (λ e l. ap (λ (s : State). length (predicates s)) (sym (ours-final b q i r order o (pattern i e))))
+    ∙ sum-same (λ e. ifPresent i e (length (predicates (trace (treeValue i) (pattern i e) order)))) (λ e. ifPresent i e (length (probes (ours (treeValue i) order) (pattern i e) order))) (rowCount i)
+    (λ e l. ap (λ (s : State). ifPresent i e (length (predicates s))) (sym (ours-final b q i r order o (pattern i e))))
 
 pub demand-3-run : Demand3Run
 demand-3-run l i k way R = (looks, count)
@@ -256,11 +295,15 @@ demand-3-run l i k way R = (looks, count)
     looks : (e c : ℕ) → e < rowCount i → c < predicateCount i → bit (looksLine i (after l .looks) c) e ≡ true → Among c (probes way (pattern i e) (l .request .order))
     looks e c m n h =
         optimal (treeValue i) (l .request .order) (held i (l .request .order) (k .order) .once) way R (pattern i e) c
-        (traced-due i (l .request .order) (k .order) (pattern i e) c .1 (demand-2-looks l i k c n .bits e m .0 h))
+        (traced-due i (l .request .order) (k .order) (pattern i e) c .1 (demand-2-looks l i k c n .bits e m .0 h .1))
 
-    count : after l .word / 2 ^ 40 ≤ sumOf (λ e. length (probes way (pattern i e) (l .request .order))) (rowCount i)
+    in-house : (w : Bool) {x y : ℕ} → x ≤ y → cond w 0 x ≤ cond w 0 y
+    in-house true h = omega arith
+    in-house false h = h
+
+    count : after l .word / 2 ^ 40 ≤ sumOf (λ e. ifPresent i e (length (probes way (pattern i e) (l .request .order)))) (rowCount i)
     count =
-        subst (λ (x : ℕ). x ≤ sumOf (λ e. length (probes way (pattern i e) (l .request .order))) (rowCount i))
+        subst (λ (x : ℕ). x ≤ sumOf (λ e. ifPresent i e (length (probes way (pattern i e) (l .request .order)))) (rowCount i))
         (sym (kept-gives l i k .4 ∙ look-count-rows i (l .request .order) (k .order)))
-        (sum-le (λ e. length (predicates (trace (treeValue i) (pattern i e) (l .request .order)))) (λ e. length (probes way (pattern i e) (l .request .order))) (rowCount i)
-        (λ e m. counted i (l .request .order) (k .order) way R (pattern i e)))
+        (sum-le (λ e. ifPresent i e (length (predicates (trace (treeValue i) (pattern i e) (l .request .order))))) (λ e. ifPresent i e (length (probes way (pattern i e) (l .request .order)))) (rowCount i)
+        (λ e m. in-house (isWithdrawn (i .catalogue) e) (counted i (l .request .order) (k .order) way R (pattern i e))))

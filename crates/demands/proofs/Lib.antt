@@ -1,5 +1,6 @@
 pub mod CaseInputs
 pub mod Cases
+pub mod AfterColumns
 pub mod DemandLaws
 pub mod DemandBlanks
 pub mod DemandTables

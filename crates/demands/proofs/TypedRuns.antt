@@ -1,5 +1,5 @@
 -- A typed question breaks nothing, or there is a first check that fails: the tests of `typedOf` are the page's sentences, and decide what it leaves.
-use Prim.Native.Nat.{ℕ, _≤_}
+use Prim.Native.Nat.{ℕ, _≤_, _<_}
 use native.Mathlib.Omega.{arith}
 use mathlib.Core.Path.{_≡_, refl, sym, ap, subst}
 use mathlib.Core.Bool.{Bool, true, false, cond}
@@ -13,7 +13,6 @@ use Rattle.fields.specs.Numbers.{Bytes}
 use Rattle.catalogue.specs.Catalogue.{Catalogue}
 use Rattle.catalogue.specs.Decode.{decodeCatalogue}
 use Rattle.catalogue.proofs.Exactly.{accepted-exactly as catalogue-exactly}
-use Rattle.catalogue.proofs.Refusals.{catalogue-refusal}
 use Rattle.predicate.specs.Payload.{tagsOf}
 use Rattle.query.specs.Query.{Query}
 use Rattle.query.specs.Decode.{decodeQuery}
@@ -31,7 +30,7 @@ use Rattle.answers.specs.Checks.{checked}
 use Rattle.demands.specs.Demands.{Gives, IsCatalogue, Reads}
 use Rattle.demands.specs.Typed.{acceptTyped, takenText, typedOf}
 use Rattle.demands.specs.TypedPage.{Spells, afterTyping, TypedKept, TypedBroken, typedCatalogue, typedText, typedForm, typedNoRoom}
-use Rattle.demands.proofs.DemandLaws.{is-catalogue, is-question, unpacked}
+use Rattle.demands.proofs.DemandLaws.{catalogue-range, is-catalogue, is-question, unpacked}
 
 -- a text is taken exactly if it is short enough and spells a question
 module _ (C : Catalogue) (text : List ℕ) where
@@ -79,8 +78,8 @@ module _ (b text output : List ℕ) where
       catalogues (refused e) h = inr (e, typedCatalogue h)
       catalogues (accepted C) h = texts C (catalogue-exactly b C bytes .0 h) (takenText C text) refl
 
-  pub broken-number : (e : ℕ) → TypedBroken b text output e → (1 ≤ e) × (e ≤ 22)
-  broken-number e (typedCatalogue h) = let r = catalogue-refusal b e h in omega arith
+  pub broken-number : (e : ℕ) → TypedBroken b text output e → (1 ≤ e) × (e < 256)
+  broken-number e (typedCatalogue h) = catalogue-range b e h
   broken-number e (typedText C f n z) = omega arith
   broken-number e (typedForm C q f l s h) = let r = query-refusal C q e h in omega arith
   broken-number e (typedNoRoom i q l s r n z) = omega arith

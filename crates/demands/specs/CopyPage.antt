@@ -12,7 +12,7 @@ use Rattle.bitmaps.specs.Bit.{bit}
 use Rattle.input.specs.Input.{Input}
 use Rattle.answers.specs.Answers.{outcomeNumber}
 use Rattle.demands.specs.Run.{Request, Lent, rowCount, predicateCount, taskOf, lookCount}
-use Rattle.demands.specs.Demands.{Gives, InBytes, after, Reads, FormBroken, RunningOrder, Kept, conditionOf, BlankAt, pattern, LookDue, looksLine}
+use Rattle.demands.specs.Demands.{Gives, InBytes, after, Reads, FormBroken, RunningOrder, Kept, conditionOf, BlankAt, LookMade, looksLine}
 use Rattle.demands.specs.Log.{taskFields, LogGives}
 
 -- WORDS OF THIS PAGE
@@ -30,7 +30,7 @@ pub record CopyKept (r : Request) (output : List ℕ) (i : Input) : Type 0 where
   pub order : RunningOrder i (r .order)
   pub room : copyBytes i r ≤ length output
 
--- the first check that fails: 1 to 14, 15, then "20, the lent output is too short, after 15"
+-- the first check that fails: 1 to 14 and 23, 15, then "20, the lent output is too short, after 15"
 pub data CopyBroken (r : Request) (output : List ℕ) (e : ℕ) : Type 0 where
   copyForm : FormBroken (r .catalogue) (r .question) e → CopyBroken r output e
   copyOrder : (i : Input) → Reads (r .catalogue) (r .question) i → (RunningOrder i (r .order) → ⊥) → e ≡ 15 → CopyBroken r output e
@@ -41,7 +41,7 @@ pub data CopyBroken (r : Request) (output : List ℕ) (e : ℕ) : Type 0 where
 abbrev pub EachLookOnce : Input → Request → (sequence : (entry : ℕ) → List ℕ) → Type 0
 EachLookOnce i r s =
     (e c : ℕ) → e < rowCount i
-    → (LookDue i (r .order) (pattern i e) c → occurrences c (s e) ≡ 1) × ((LookDue i (r .order) (pattern i e) c → ⊥) → occurrences c (s e) ≡ 0)
+    → (LookMade i (r .order) e c → occurrences c (s e) ≡ 1) × ((LookMade i (r .order) e c → ⊥) → occurrences c (s e) ≡ 0)
 
 -- THE CALL
 
@@ -91,19 +91,19 @@ lookField e c o = 76 ∷ 0 ∷ 4 ∷ e / 256 ∷ e % 256 ∷ c ∷ o ∷ []
 abbrev pub fieldBytes : (output : List ℕ) → (j : ℕ) → List ℕ
 fieldBytes output j = take 7 (drop (j * 7) output)
 
--- "Write one field per look": a field is among those written exactly if the look at its condition is due on its entry and "outcome (1 yes, 0 no)" is
+-- "Write one field per look": a field is among those written exactly if there is a look at its condition on its entry and "outcome (1 yes, 0 no)" is
 -- the condition's own there
 abbrev pub CopyFieldThere : Type 0
 CopyFieldThere =
     (r : Request) (old new : List ℕ) (w : ℕ) → LogGives r old w new → (i : Input) → CopyKept r old i → (e c o : ℕ)
     → ((j : ℕ) × (j < looksOf i r) × (fieldBytes new j ≡ lookField e c o))
-    ↔ ((e < rowCount i) × LookDue i (r .order) (pattern i e) c × (o ≡ outcomeNumber (outcome (i .catalogue) (conditionOf i c) e)))
+    ↔ ((e < rowCount i) × LookMade i (r .order) e c × (o ≡ outcomeNumber (outcome (i .catalogue) (conditionOf i c) e)))
 
 -- order 2: "The steward's copy gains outcome 2 for blank."
 abbrev pub CopyBlank : Type 0
 CopyBlank =
     (r : Request) (old new : List ℕ) (w : ℕ) → LogGives r old w new → (i : Input) → CopyKept r old i → (e c : ℕ)
-    → ((j : ℕ) × (j < looksOf i r) × (fieldBytes new j ≡ lookField e c 2)) ↔ ((e < rowCount i) × LookDue i (r .order) (pattern i e) c × BlankAt i e c)
+    → ((j : ℕ) × (j < looksOf i r) × (fieldBytes new j ≡ lookField e c 2)) ↔ ((e < rowCount i) × LookMade i (r .order) e c × BlankAt i e c)
 
 -- "each look has one field": there is nothing but fields among the bytes written, and no field twice
 abbrev pub CopyFieldOnce : Type 0

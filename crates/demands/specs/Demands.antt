@@ -1,20 +1,21 @@
 -- THE THREE DEMANDS, sentence by sentence, over the definitions; proofs/Demands.antt proves each statement of this page.
 -- It speaks of the definitions `catalogueAnswer`, `questionAnswer`, `outcomeAnswer`, `runOf`; an exported call is tied to its definition by its
 -- contract, for any bytes lent, and a contract is one of total correctness: the call finishes. `Due`, `Strategy`, its working and `Right` stand on
--- one screen in crates/strategy/specs/Strategy.antt; what document 01 allows as a catalogue and as a question in crates/catalogue/specs/Formed.antt
+-- one screen in crates/strategy/specs/Strategy.antt; what document 01 and order 6 allow as a catalogue, and what 01 allows as a question, in crates/catalogue/specs/Formed.antt
 -- and crates/query/specs/WellFormed.antt, their bytes in Encode.antt beside them.
 use Prim.Native.Nat.{ℕ, _+_, _*_, _/_, _%_, _^_, _≤_, _<_}
 use mathlib.Core.Path.{_≡_}
-use mathlib.Core.Bool.{true, false, not, _&&_, _||_}
+use mathlib.Core.Bool.{true, false, not, _&&_, _||_, cond}
 use mathlib.Core.Logic.{_↔_, _⊎_}
 use mathlib.Core.List.{List, [], _∷_, _++_}
 use lib.ListN.{length, getD, take, drop}
 use Rattle.fields.specs.Decoded.{refused, accepted}
 use Rattle.fields.specs.Numbers.{numberAt, bytesOf, Bytes}
-use Rattle.catalogue.specs.Catalogue.{Catalogue, Column, numbers, texts}
+use Rattle.catalogue.specs.Catalogue.{Catalogue, Column, numbers, texts, Mark, unmarked, marked, withMark, isWithdrawn}
+use Rattle.catalogue.specs.Mark.{declaredSize, declaredPayload}
 use Rattle.catalogue.specs.Decode.{decodeCatalogue}
 use Rattle.catalogue.specs.Encode.{encodeCatalogue}
-use Rattle.catalogue.specs.Formed.{Formed}
+use Rattle.catalogue.specs.Formed.{FormedBits, Formed}
 use Rattle.predicate.specs.Meaning.{Predicate, truth, outcomeOf, columnAsked, outcome}
 use Rattle.predicate.specs.Payload.{tagsOf, validPayload}
 use Rattle.query.specs.Query.{Query}
@@ -61,7 +62,7 @@ InBytes r = Bytes (r .catalogue) × Bytes (r .question)
 abbrev pub after : Lent → Ran
 after l = runOf l
 
--- document 01's "Catalogue": these bytes are those of a catalogue as it allows
+-- document 01's "Catalogue", with order 6: these bytes are those of a catalogue as they allow
 abbrev pub IsCatalogue : (bytes : List ℕ) → Catalogue → Type 0
 IsCatalogue b C = Formed C × (b ≡ encodeCatalogue C)
 
@@ -69,11 +70,12 @@ IsCatalogue b C = Formed C × (b ≡ encodeCatalogue C)
 abbrev pub IsQuestion : Catalogue → (bytes : List ℕ) → Query → Type 0
 IsQuestion C q Q = WellFormed C Q × (q ≡ encode (payloads Q))
 
--- catalogue and question break none of 1 to 14, and read as this
+-- catalogue and question break none of 1 to 14 and order 6's 23, and read as this
 abbrev pub Reads : (catalogue question : List ℕ) → Input → Type 0
 Reads b q i = IsCatalogue b (i .catalogue) × IsQuestion (i .catalogue) q (i .query)
 
--- or this is the first that they break, as the walk front to back meets it: "Checking a question first gives 1 to 6 for the catalogue, then walks the question."
+-- or this is the first that they break, as the walk front to back meets it: "Checking a question first gives 1 to 6 for the catalogue, then walks the
+-- question."; order 6 adds 23 to the catalogue's
 abbrev pub FormBroken : (catalogue question : List ℕ) → ℕ → Type 0
 FormBroken b q e = (decodeCatalogue b ≡ refused e) ⊎ ((C : Catalogue) × (decodeCatalogue b ≡ accepted C) × (decodeQuery C q ≡ refused e))
 
@@ -100,7 +102,7 @@ pub record Kept (l : Lent) (i : Input) : Type 0 where
   pub tables : TablesFit i (l .listed) (l .looks)
   pub tally : TallyFits i (l .request .order) (l .tally)
 
--- "The first failing check in the stated order decides." "Running: 1 to 14; 15, ..; 16, ..; 17, .."
+-- "The first failing check in the stated order decides." "Running: 1 to 14; 15, ..; 16, ..; 17, ..", with order 6's 23
 pub data FirstBroken (l : Lent) (e : ℕ) : Type 0 where
   badForm : FormBroken (l .request .catalogue) (l .request .question) e → FirstBroken l e
   badOrder : (i : Input) → Reads (l .request .catalogue) (l .request .question) i → (RunningOrder i (l .request .order) → ⊥) → e ≡ 15 → FirstBroken l e
@@ -112,6 +114,14 @@ pub data FirstBroken (l : Lent) (e : ℕ) : Type 0 where
 -- a condition of the question
 abbrev pub conditionOf : Input → (c : ℕ) → Predicate
 conditionOf i c = predicateAt (i .query) c
+
+-- order 6: "the entries still in the house"
+abbrev pub Present : Input → (entry : ℕ) → Type 0
+Present i e = isWithdrawn (i .catalogue) e ≡ false
+
+-- n for an entry still in the house, 0 for a withdrawn one
+abbrev pub ifPresent : Input → (entry n : ℕ) → ℕ
+ifPresent i e n = cond (isWithdrawn (i .catalogue) e) 0 n
 
 -- "4,294,967,295 means blank", "length 0 means blank"
 abbrev pub BlankField : Column → (entry : ℕ) → Type 0
@@ -139,6 +149,10 @@ treeValue i = eval (i .query .tree)
 abbrev pub LookDue : Input → (order : List ℕ) → Assignment → (c : ℕ) → Type 0
 LookDue i order a c = (earlier : List ℕ) × (later : List ℕ) × (order ≡ earlier ++ (c ∷ later)) × Due (treeValue i) c later a
 
+-- a look that is made: it is due, and its entry still in the house; order 6 has a withdrawn one "never looked at"
+abbrev pub LookMade : Input → (order : List ℕ) → (entry c : ℕ) → Type 0
+LookMade i order e c = Present i e × LookDue i order (pattern i e) c
+
 -- "entry e is the bit of weight 2^(e mod 8) in byte e div 8, unused bits zero": the line of the entries for which P holds
 pub record LineOf (P : ℕ → Type 0) (entries : ℕ) (line : List ℕ) : Type 0 where
   pub size : length line ≡ bytesFor entries
@@ -155,7 +169,7 @@ looksLine i looks c = take (lineBytes i) (drop (c * lineBytes i) looks)
 
 -- DEMAND 1: WHAT IS ACCEPTED
 
--- what is accepted, for every list of bytes: exactly the catalogues as document 01 allows them, each by its own bytes; and there is a refusal
+-- what is accepted, for every list of bytes: exactly the catalogues as document 01 and order 6 allow them, each by its own bytes; and there is a refusal
 -- exactly if the bytes are those of none
 abbrev pub Demand1CatalogueForm : Type 0
 Demand1CatalogueForm =
@@ -176,7 +190,7 @@ abbrev pub Demand1Payload : Type 0
 Demand1Payload =
     (C : Catalogue) (payload : List ℕ) → (validPayload (tagsOf C) payload ≡ true) ↔ ((p : Predicate) × ValidPredicate C p × (payload ≡ payloadOf p))
 
--- so every catalogue as document 01 allows, and every question on it, has bytes that are accepted: no engine that declines one of them passes
+-- so every catalogue as document 01 and order 6 allow, and every question on it, has bytes that are accepted: no engine that declines one of them passes
 abbrev pub Demand1FormsWritten : Type 0
 Demand1FormsWritten =
     (C : Catalogue) → Formed C
@@ -188,6 +202,27 @@ abbrev pub Demand1WrittenOnce : Type 0
 Demand1WrittenOnce =
     ((C C′ : Catalogue) → Formed C → Formed C′ → encodeCatalogue C ≡ encodeCatalogue C′ → C ≡ C′)
     × ((C : Catalogue) (Q Q′ : Query) → WellFormed C Q → WellFormed C Q′ → encode (payloads Q) ≡ encode (payloads Q′) → Q ≡ Q′)
+
+-- order 6: "A catalogue may end with one field, .. ceiling(E / 8) bytes, set out like the listed table; a one bit marks a withdrawn entry": the bytes
+-- are the line of the withdrawn entries, and without the field no entry is withdrawn
+abbrev pub Demand1Mark : Type 0
+Demand1Mark =
+    (C : Catalogue) → Formed C
+    → ((m : List ℕ) → C .mark ≡ marked m → LineOf (λ e. isWithdrawn C e ≡ true) (C .rows) m)
+    × (C .mark ≡ unmarked → (e : ℕ) → isWithdrawn C e ≡ false)
+
+-- order 6: "where byte 87 follows the last column, 1 comes first, then 23, a wrong length or a stray bit; 6 is for any other byte there, or bytes after the
+-- mark": whatever bytes follow the columns of a catalogue, this comes of them
+abbrev pub Demand1AfterColumns : Type 0
+Demand1AfterColumns =
+    (C : Catalogue) → Formed C → C .mark ≡ unmarked → (more : List ℕ) → Bytes more
+    → (0 < length more → (getD more 0 0 ≡ 87 → ⊥) → decodeCatalogue (encodeCatalogue C ++ more) ≡ refused 6)
+    × (getD more 0 0 ≡ 87
+    → (length more < 3 + declaredSize more → decodeCatalogue (encodeCatalogue C ++ more) ≡ refused 1)
+    × (3 + declaredSize more ≤ length more → (FormedBits (C .rows) (declaredPayload more) → ⊥) → decodeCatalogue (encodeCatalogue C ++ more) ≡ refused 23)
+    × (3 + declaredSize more < length more → FormedBits (C .rows) (declaredPayload more) → decodeCatalogue (encodeCatalogue C ++ more) ≡ refused 6)
+    × (3 + declaredSize more ≡ length more → FormedBits (C .rows) (declaredPayload more)
+    → decodeCatalogue (encodeCatalogue C ++ more) ≡ accepted (withMark C (marked (declaredPayload more)))))
 
 -- DEMAND 1: THE CALLS
 
@@ -229,10 +264,10 @@ Demand1Outcome =
     × ((i : Input) → Reads b q i → entry < rowCount i → c < predicateCount i
     → Gives (outcomeWord b q entry c) 0 (outcomeNumber (outcome (i .catalogue) (conditionOf i c) entry)) 0 0)
 
--- the numbers of the forms are 1 to 6 and 7 to 14, never 0, and what is accepted keeps the limits: entries, columns, conditions, depth
+-- the numbers of the forms are 1 to 6 or order 6's 23 and 7 to 14, never 0, and what is accepted keeps the limits: entries, columns, conditions, depth
 abbrev pub Demand1Limits : Type 0
 Demand1Limits =
-    ((b : List ℕ) (e : ℕ) → decodeCatalogue b ≡ refused e → (1 ≤ e) × (e ≤ 6))
+    ((b : List ℕ) (e : ℕ) → decodeCatalogue b ≡ refused e → ((1 ≤ e) × (e ≤ 6)) ⊎ (e ≡ 23))
     × ((C : Catalogue) (q : List ℕ) (e : ℕ) → decodeQuery C q ≡ refused e → (7 ≤ e) × (e ≤ 14))
     × ((b q : List ℕ) (i : Input) → Reads b q i
     → (rowCount i ≤ 2048) × (1 ≤ length (i .catalogue .columns)) × (length (i .catalogue .columns) ≤ 16)
@@ -259,6 +294,10 @@ Demand2Opposite =
     → (BlankField column e × MayAnswerBlank kind → (truth (outcomeOf column kind o e) ≡ false) × (truth (outcomeOf column (kind + 128) o e) ≡ false))
     × ((BlankField column e × MayAnswerBlank kind → ⊥) → truth (outcomeOf column (kind + 128) o e) ≡ not (truth (outcomeOf column kind o e)))
 
+-- order 6: "Working out a single condition there goes on as before.": the mark makes no difference to it
+abbrev pub Demand2AsBefore : Type 0
+Demand2AsBefore = (C : Catalogue) (m : Mark) (p : Predicate) (e : ℕ) → outcome (withMark C m) p e ≡ outcome C p e
+
 -- "the question's tree, read as document 000 reads a boolean formula": each member of an all-of group, some member of an any-of group
 abbrev pub Demand2Tree : Type 0
 Demand2Tree =
@@ -267,16 +306,25 @@ Demand2Tree =
     × (eval (all none) a ≡ true) × ((t : Tree ℕ) (f : Forest ℕ) → eval (all (more t f)) a ≡ (eval t a && eval (all f) a))
     × (eval (any none) a ≡ false) × ((t : Tree ℕ) (f : Forest ℕ) → eval (any (more t f)) a ≡ (eval t a || eval (any f) a))
 
--- "An entry is listed exactly if the question's tree .. holds of it under document 01's rules for conditions."
+-- "An entry is listed exactly if the question's tree .. holds of it under document 01's rules for conditions."; order 6: "The rule on listing .. [is] about
+-- the entries still in the house"
 abbrev pub Demand2Listed : Type 0
-Demand2Listed = (l : Lent) (i : Input) → Kept l i → LineOf (λ e. treeValue i (pattern i e) ≡ true) (rowCount i) (listedLine i (after l .listed))
+Demand2Listed =
+    (l : Lent) (i : Input) → Kept l i
+    → LineOf (λ e. Present i e × (treeValue i (pattern i e) ≡ true)) (rowCount i) (listedLine i (after l .listed))
 
 -- "A look is registered exactly if, with the conditions earlier in the order at their true outcomes, some outcomes of the later ones make
 -- this condition alone decide the tree."
 abbrev pub Demand2Looks : Type 0
 Demand2Looks =
     (l : Lent) (i : Input) → Kept l i → (c : ℕ) → c < predicateCount i
-    → LineOf (λ e. LookDue i (l .request .order) (pattern i e) c) (rowCount i) (looksLine i (after l .looks) c)
+    → LineOf (λ e. LookMade i (l .request .order) e c) (rowCount i) (looksLine i (after l .looks) c)
+
+-- order 6: "Such an entry is never listed and never looked at, whatever the question."
+abbrev pub Demand2Withdrawn : Type 0
+Demand2Withdrawn =
+    (l : Lent) (i : Input) → Kept l i → (e : ℕ) → e < rowCount i → (Present i e → ⊥)
+    → (bit (listedLine i (after l .listed)) e ≡ false) × ((c : ℕ) → c < predicateCount i → bit (looksLine i (after l .looks) c) e ≡ false)
 
 -- "The counts are those of listed entries and of looks."
 abbrev pub Demand2Counts : Type 0
@@ -321,16 +369,18 @@ Demand3Ours =
     → ((c : ℕ) → Among c (probes (ours (treeValue i) order) a order) ↔ LookDue i order a c)
     × (answerOf (ours (treeValue i) order) a order ≡ treeValue i a)
 
--- "A way's looks over all the entries are the sum of the numbers of its looks on each.": those of ours are the look count
+-- "A way's looks over all the entries are the sum of the numbers of its looks on each.": those of ours are the look count; order 6: "the comparison with
+-- other ways of working [is] about the entries still in the house"
 abbrev pub Demand3Count : Type 0
 Demand3Count =
     (b q : List ℕ) (i : Input) → Reads b q i → (order : List ℕ) → RunningOrder i order
-    → lookCount (taskOf i order) ≡ sumOf (λ e. length (probes (ours (treeValue i) order) (pattern i e) order)) (rowCount i)
+    → lookCount (taskOf i order) ≡ sumOf (λ e. ifPresent i e (length (probes (ours (treeValue i) order) (pattern i e) order))) (rowCount i)
 
 -- "For every accepted run and every such way for its question and order, the looks registered on an entry are among those the way makes there,
--- and the look count is at most the way's looks over all the entries."
+-- and the look count is at most the way's looks over all the entries.": order 6, over those still in the house, so a way that looks at withdrawn entries
+-- gains nothing by it
 abbrev pub Demand3Run : Type 0
 Demand3Run =
     (l : Lent) (i : Input) → Kept l i → (way : Strategy) → Right (treeValue i) (l .request .order) way
     → ((e c : ℕ) → e < rowCount i → c < predicateCount i → bit (looksLine i (after l .looks) c) e ≡ true → Among c (probes way (pattern i e) (l .request .order)))
-    × (after l .word / 2 ^ 40 ≤ sumOf (λ e. length (probes way (pattern i e) (l .request .order))) (rowCount i))
+    × (after l .word / 2 ^ 40 ≤ sumOf (λ e. ifPresent i e (length (probes way (pattern i e) (l .request .order)))) (rowCount i))

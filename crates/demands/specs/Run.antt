@@ -117,6 +117,6 @@ abbrev pub inputThen : Decoded Input → Lent → Ran
 inputThen (refused e) l = refuse e (l .listed) (l .looks) (l .tally)
 inputThen (accepted i) l = runOn i l
 
--- "Running: 1 to 14; .."
+-- "Running: 1 to 14; ..", and order 6's 23
 unfoldable pub runOf : Lent → Ran
 runOf l = inputThen (decodeInput (l .request .catalogue) (l .request .question)) l

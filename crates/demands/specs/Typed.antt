@@ -31,7 +31,7 @@ abbrev pub questionTyped : Decoded Query → (question output : List ℕ) → Wr
 questionTyped (refused e) q output = refuseWriting e output
 questionTyped (accepted Q) q output = checked (typedChecks q output) (λ e. refuseWriting e output) (acceptTyped q output)
 
--- "21, .. after 1 to 6 and before 7 to 14 for those bytes"
+-- "21, .. after 1 to 6 and before 7 to 14 for those bytes"; order 6's 23 is with 1 to 6
 abbrev pub textTyped : Catalogue → Typed → (output : List ℕ) → Written
 textTyped C misspelled output = refuseWriting textMisspelled output
 textTyped C (typed q) output = questionTyped (decodeQuery C q) q output

@@ -73,7 +73,7 @@ drop-past b at xs ys h = sym (drop-drop (length xs) at b) ∙ ap (drop (length x
 pub first-read : (b : List ℕ) (at x : ℕ) (xs : List ℕ) → drop at b ≡ x ∷ xs → getD b at 0 ≡ x
 first-read b at x xs h = let z : at ≡ at + 0 = omega arith in ap (λ i. getD b i 0) z ∙ sym (getD-drop at b 0 0) ∙ ap (λ l. getD l 0 0) h
 
-number-dropped : (b : List ℕ) (at w : ℕ) → numberAt b at w ≡ numberAt (drop at b) 0 w
+pub number-dropped : (b : List ℕ) (at w : ℕ) → numberAt b at w ≡ numberAt (drop at b) 0 w
 unfolding numberAt
 number-dropped b at zero = refl
 number-dropped b at (suc k) = rw (number-dropped b at k, zero-add k, getD-drop at b k 0)

@@ -1,7 +1,7 @@
 -- The probes of a row in the sequence of their turns: those that a table marks, and each of them once.
 use Prim.Native.Nat.{ℕ}
 use mathlib.Core.Path.{_≡_, refl, sym, ap, ap₂, _∙_, subst}
-use mathlib.Core.Bool.{Bool, true, false, _||_}
+use mathlib.Core.Bool.{Bool, true, false, _||_, cond}
 use mathlib.Core.Logic.{_⊎_, inl, inr}
 use mathlib.Core.List.{List, [], _∷_}
 use Rattle.bools.specs.Bools.{eqb-self, eqb-ne}
@@ -16,7 +16,8 @@ use Rattle.strategy.specs.Tree.{eval}
 use Rattle.bitmaps.specs.Sums.{digit}
 use Rattle.bitmaps.specs.Table.{lineBit}
 use Rattle.log.specs.MarkedLog.{markedAt}
-use Rattle.rows.specs.Task.{told, traceAt, madeAt, isProbed}
+use Rattle.catalogue.specs.Catalogue.{isWithdrawn}
+use Rattle.rows.specs.Task.{told, dueAt, traceAt, madeAt, isProbed}
 use Rattle.input.specs.Input.{Input}
 use Rattle.demands.specs.Run.{predicateCount, taskOf}
 use Rattle.demands.specs.Log.{EachProbeOnce}
@@ -38,6 +39,12 @@ module _ (f : Formula) (a : Assignment) (P : List ℕ) (row : ℕ) where
       go false here there rest =
           ap₂ (λ (b : Bool) (l : List ℕ). keepIf b c l) (here ∙ elem-no c (predicates (trace f a cs)) (λ m. once .0 (trace-among f a cs c m))) (rest there)
 
+-- no mark, no predicate
+none-marked : (P : List ℕ) (row : ℕ) (cs : List ℕ) → ((c : ℕ) → Among c cs → lineBit P c row ≡ false) → markedAt P row cs ≡ []
+unfolding markedAt
+none-marked P row [] h = refl
+none-marked P row (c ∷ cs) h = rw (h c (inl refl)) (none-marked P row cs (λ d m. h d (inr m)))
+
 once-occurs : (l : List ℕ) → Once l → (c : ℕ) → occurrences c l ≡ digit (elem c l)
 once-occurs l once c = go (among? c l)
   where
@@ -51,10 +58,17 @@ module _ (i : Input) (order : List ℕ) (ordered : isOrder (predicateCount i) or
 
   pub made-marked : (P : List ℕ) (row : ℕ) → ((c : ℕ) → Among c order → lineBit P c row ≡ isProbed (taskOf i order) c row)
       → madeAt (taskOf i order) row ≡ markedAt P row order
-  unfolding traceAt
-  made-marked P row marks = sym (marked-trace (eval (i .query .tree)) (told (taskOf i order) row) P row order order-once marks)
+  unfolding dueAt traceAt predicates elem
+  made-marked P row marks = go (isWithdrawn (i .catalogue) row) marks
+    where
+      go : (w : Bool) → ((c : ℕ) → Among c order → lineBit P c row ≡ elem c (predicates (cond w [] (dueAt (taskOf i order) row)))) → predicates (cond w [] (dueAt (taskOf i order) row)) ≡ markedAt P row order
+      go true none = sym (none-marked P row order none)
+      go false marks = sym (marked-trace (eval (i .query .tree)) (told (taskOf i order) row) P row order order-once marks)
 
   pub made-once : EachProbeOnce (taskOf i order) (madeAt (taskOf i order))
-  unfolding traceAt
-  made-once row l c =
-      once-occurs (madeAt (taskOf i order) row) (trace-once (eval (i .query .tree)) (told (taskOf i order) row) order order-once) c
+  unfolding dueAt traceAt predicates
+  made-once row l c = once-occurs (madeAt (taskOf i order) row) (go (isWithdrawn (i .catalogue) row)) c
+    where
+      go : (w : Bool) → Once (predicates (cond w [] (dueAt (taskOf i order) row)))
+      go true = tt
+      go false = trace-once (eval (i .query .tree)) (told (taskOf i order) row) order order-once

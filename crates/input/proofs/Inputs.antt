@@ -68,7 +68,7 @@ module _ (b q : List ℕ) (l : Layout) (tags : List ℕ) (same : tags ≡ take (
     stopped (accepted Q) k z w i = let y : _≡_ {A = ℕ} 0 1 = cc in absurd (omega arith)
 
     begun : (d : Decoded Query) (n : ℕ) → decodeTagged tags q ≡ d → QueryRead tags q d R T → R ≡ reading.Accepted n
-        → HasInput b q (record { refusal = 0; rows = l .rows; n = n; tags = l .tags; starts = l .starts }) T
+        → HasInput b q (record { refusal = 0; rows = l .rows; n = n; tags = l .tags; starts = l .starts; mark = l .mark }) T
     begun (refused x) n z w i = let y : _≡_ {A = ℕ} 0 1 = cc in absurd (omega arith)
     begun (accepted Q) n z w i =
         let y : length (Q .predicates) ≡ n = cc in
@@ -81,6 +81,7 @@ module _ (b q : List ℕ) (l : Layout) (tags : List ℕ) (same : tags ≡ take (
           tags = refl;
           starts = refl;
           rows = refl;
+          mark = refl;
           tabled = rw (← t, ← y) (w .1);
         }
 
@@ -96,5 +97,5 @@ module _ (b q : List ℕ) (l : Layout) (tags : List ℕ) (same : tags ≡ take (
     pub question-refuses : (k : ℕ) → R ≡ reading.Refused k → (decodeInput b q ≡ refused k) × (k < 256) × (0 < k)
     question-refuses k i = by-catalogue (λ C e v. stopped C e v (decodeTagged tags q) k refl w i)
 
-    pub input-accepted : (n : ℕ) → R ≡ reading.Accepted n → HasInput b q (record { refusal = 0; rows = l .rows; n = n; tags = l .tags; starts = l .starts }) T
+    pub input-accepted : (n : ℕ) → R ≡ reading.Accepted n → HasInput b q (record { refusal = 0; rows = l .rows; n = n; tags = l .tags; starts = l .starts; mark = l .mark }) T
     input-accepted n i = by-catalogue (λ C e v. begun C e v (decodeTagged tags q) n refl w i)

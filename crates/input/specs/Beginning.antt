@@ -20,6 +20,7 @@ pub record HasInput (b q : List ℕ) (r : Beginning) (T : Tables) : Type 0 where
   pub tags : r .tags ≡ layout .tags
   pub starts : r .starts ≡ layout .starts
   pub rows : r .rows ≡ layout .rows
+  pub mark : r .mark ≡ layout .mark
   pub tabled : Tabled (tagsOf (input .catalogue)) q (input .query) (r .n) T
 
 -- the same where the groups around the predicates don't matter

@@ -14,6 +14,6 @@ pub record Input : Type 0 where
 abbrev pub withQuery : Catalogue → Decoded Query → Decoded Input
 withQuery C d = mapped (λ Q. record { catalogue = C; query = Q }) d
 
--- "Checking a question first gives 1 to 6 for the catalogue, then walks the question."
+-- "Checking a question first gives 1 to 6 for the catalogue, then walks the question."; order 6's 23 is with 1 to 6
 unfoldable pub decodeInput : (catalogue question : List ℕ) → Decoded Input
 decodeInput b q = andThen (decodeCatalogue b) (λ C. withQuery C (decodeQuery C q))

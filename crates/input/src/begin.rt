@@ -1,6 +1,7 @@
 // How every call on a question begins: the catalogue laid out, the question read against it.
 use catalogue::format::Column;
 use reader::whole::Reading;
+ghost use mathlib.Core.Path.{_≡_};
 ghost use Rattle.reader.specs.Tables.{tables, HasTables};
 ghost use Rattle.input.specs.Beginning.{InputRead};
 
@@ -11,6 +12,20 @@ pub struct Beginning {
     pub n: usize,
     pub tags: [u8; Column::LIMIT],
     pub starts: [usize; Column::LIMIT],
+    pub mark: usize,
+}
+
+fn refuse(refusal: u8) -> Beginning
+    ensures { λ r. ⌜ r .refusal ≡ refusal ⌝ }
+{
+    Beginning {
+        refusal,
+        rows: 0,
+        n: 0,
+        tags: [0u8; Column::LIMIT],
+        starts: [0usize; Column::LIMIT],
+        mark: 0,
+    }
 }
 
 // Lays out the catalogue and reads the question against it, into the tables of the readers.
@@ -29,29 +44,19 @@ pub fn begin(
     let columns = layout.columns;
     let tags = layout.tags;
     let starts = layout.starts;
+    let mark = layout.mark;
     if refusal != 0 {
-        return Beginning {
-            refusal,
-            rows,
-            n: 0,
-            tags,
-            starts,
-        };
+        return refuse(refusal);
     }
     match reader::whole::read_query(&tags[..columns], question, offsets, ancestors) {
-        Reading::Refused(e) => Beginning {
-            refusal: e,
-            rows,
-            n: 0,
-            tags,
-            starts,
-        },
+        Reading::Refused(e) => refuse(e),
         Reading::Accepted { n } => Beginning {
             refusal: 0,
             rows,
             n,
             tags,
             starts,
+            mark,
         },
     }
 }

@@ -1,11 +1,12 @@
 -- How the layout of a catalogue shows the decoded one.
-use Prim.Native.Nat.{ℕ, _+_, _≤_, _<_}
+use Prim.Native.Nat.{ℕ, _+_, _≤_}
 use mathlib.Core.Path.{_≡_}
 use mathlib.Core.List.{List, [], _∷_}
-use lib.ListN.{length, getD}
+use lib.ListN.{length, getD, drop}
 use Rattle.fields.specs.Decoded.{Decoded, refused, accepted}
-use Rattle.catalogue.specs.Format.{rowLimit, columnLimit, bytesAfterColumns}
-use Rattle.catalogue.specs.Catalogue.{Column, Catalogue}
+use Rattle.bitmaps.specs.Bitmap.{bytesFor}
+use Rattle.catalogue.specs.Format.{rowLimit, columnLimit}
+use Rattle.catalogue.specs.Catalogue.{Column, Catalogue, markBytes}
 use Rattle.catalogue.specs.Decode.{Columns}
 use Rattle.catalogue.specs.Sound.{IsRefusal}
 use Rattle.catalogue.specs.InPlace.{Shows}
@@ -41,8 +42,11 @@ pub record Laid (b : List ℕ) (l : Layout) (C : Catalogue) : Type 0 where
   pub shown : ShowsAll b (C .rows) (l .tags) (l .starts) 0 (C .columns)
   pub tags-size : length (l .tags) ≡ columnLimit
   pub starts-size : length (l .starts) ≡ columnLimit
+  pub mark : drop (l .mark) b ≡ markBytes (C .mark)
+  pub mark-inside : l .mark ≤ length b
+  pub mark-short : length b ≤ l .mark + bytesFor (C .rows)
 
 -- a layout shows what was decoded
 abbrev pub LaidOut : List ℕ → Layout → Decoded Catalogue → Type 0
-LaidOut b l (refused e) = (l .refusal ≡ e) × (0 < e) × (e ≤ bytesAfterColumns) × (l .rows ≡ 0) × (l .columns ≡ 0)
+LaidOut b l (refused e) = (l .refusal ≡ e) × IsRefusal e × (l .rows ≡ 0) × (l .columns ≡ 0)
 LaidOut b l (accepted C) = Laid b l C

@@ -1,8 +1,8 @@
-// A whole catalogue checked, and where its columns lie.
+// A whole catalogue checked, and where its columns and its mark lie.
 use catalogue::column::ColumnField;
 use catalogue::first::First;
 use catalogue::format::Column;
-use catalogue::format::Refusal;
+use catalogue::mark::MarkField;
 ghost use mathlib.Core.Path.{_≡_};
 ghost use Prim.Native.Nat.{_≤_};
 ghost use lib.ListN.{length};
@@ -11,13 +11,14 @@ ghost use Rattle.catalogue.specs.Format.{rowLimit, columnLimit};
 ghost use Rattle.catalogue.specs.Decode.{columnsAt, catalogueOf, decodeCatalogue};
 ghost use Rattle.layout.specs.Layout.{ColumnsLaidOut, LaidOut};
 
-// A refusal, or 0 and the layout: of each column its tag and where its payload starts.
+// A refusal, or 0 and the layout: of each column its tag and where its payload starts, and where the bytes of the mark start, which go on to the end: at the end where there is none.
 pub struct Layout {
     pub refusal: u8,
     pub rows: usize,
     pub columns: usize,
     pub tags: [u8; Column::LIMIT],
     pub starts: [usize; Column::LIMIT],
+    pub mark: usize,
 }
 
 fn refuse(refusal: u8) -> Layout
@@ -29,6 +30,7 @@ fn refuse(refusal: u8) -> Layout
         columns: 0,
         tags: [0u8; Column::LIMIT],
         starts: [0usize; Column::LIMIT],
+        mark: 0,
     }
 }
 
@@ -80,7 +82,7 @@ fn lay_out_columns(b: &[u8], rows: usize, columns: usize, first: usize) -> Colum
     }
 }
 
-// The columns from a place on, and nothing after them.
+// The columns from a place on, then a mark or nothing.
 fn lay_out_from(b: &[u8], rows: usize, columns: usize, first: usize) -> Layout
     requires { ⌜ (rows ≤ rowLimit) × (columns ≤ columnLimit) × (first ≤ length (now b)) ⌝ }
     ensures { λ r. ⌜ LaidOut (now (b .entry)) r (andThen (columnsAt (now (b .entry)) rows columns first) (catalogueOf (now (b .entry)) rows)) ⌝ }
@@ -89,9 +91,11 @@ fn lay_out_from(b: &[u8], rows: usize, columns: usize, first: usize) -> Layout
     if laid.refusal != 0 {
         return refuse(laid.refusal);
     }
-    if laid.end != b.len() {
-        return refuse(Refusal::BYTES_AFTER_COLUMNS);
-    }
+    let mark = match catalogue::mark::read_mark(b, rows, laid.end) {
+        MarkField::Refused(e) => return refuse(e),
+        MarkField::Absent => b.len(),
+        MarkField::Marked { start } => start,
+    };
     let tags = laid.tags;
     let starts = laid.starts;
     Layout {
@@ -100,6 +104,7 @@ fn lay_out_from(b: &[u8], rows: usize, columns: usize, first: usize) -> Layout
         columns,
         tags,
         starts,
+        mark,
     }
 }
 

@@ -1,5 +1,6 @@
 pub mod MarkLines
 pub mod Blocks
 pub mod BlockLoop
+pub mod Withdrawn
 pub mod RowsLoop
 pub mod Prepared

@@ -1,15 +1,15 @@
 -- The loop over the blocks of a run: what its tables hold of the rows worked so far, and what one block more adds.
-use Prim.Native.Nat.{ℕ, _+_, _-_, _*_, _/_, _%_, _^_, _≤_, _<_, min}
-use native.Mathlib.Nat.{zero-div}
+use Prim.Native.Nat.{ℕ, _+_, _-_, _*_, _/_, _%_, _≤_, _<_, min}
 use native.Mathlib.Omega.{arith}
 use mathlib.Core.Path.{_≡_, refl, sym, ap, ap₂, _∙_, subst}
-use mathlib.Core.Bool.{Bool, true, false, _&&_, and-false}
+use mathlib.Core.Bool.{Bool, true, false, not, _&&_, and-assoc, and-false}
 use mathlib.Core.Logic.{_⊎_, inl, inr}
 use mathlib.Core.List.{List}
 use lib.Dec.{ltb}
-use lib.ListN.{length, getD, List·getD-eq-default}
+use lib.ListN.{length, drop}
 use Rattle.fields.specs.Numbers.{Bytes}
-use Rattle.bools.specs.Bools.{which, not-true, iff-eq, ltb-yes, ltb-no, ltb-lt, ltb-le}
+use Rattle.bools.specs.Bools.{which, not-true, and-right, ltb-yes, ltb-no, ltb-lt, ltb-le}
+use Rattle.strategy.specs.Assignment.{elem}
 use Rattle.strategy.specs.AssignmentLaws.{elem-among}
 use Rattle.strategy.specs.Order.{Order}
 use Rattle.strategy.specs.OrderLaws.{order-law}
@@ -20,18 +20,22 @@ use Rattle.strategy.specs.RowLaws.{work-row}
 use Rattle.sets.specs.Set.{has}
 use Rattle.sets.specs.SetLaws.{has-below}
 use Rattle.bitmaps.specs.Bit.{bit}
+use Rattle.bitmaps.specs.BitLaws.{bit-past}
 use Rattle.bitmaps.specs.Table.{lineSize, lineBits, lineBit, HoldsBits, within}
 use Rattle.bitmaps.specs.TableLaws.{holds-same, holds-bitmap, holds-bitmaps}
-use Rattle.bitmaps.specs.Word.{blockRows, wordSize, rowsSet, WordPut}
-use Rattle.bitmaps.specs.WordLaws.{rows-has}
+use Rattle.bitmaps.specs.Word.{blockRows, wordSize, WordPut}
+use Rattle.catalogue.specs.Catalogue.{isWithdrawn}
 use Rattle.query.specs.Format.{predicateLimit}
 use Rattle.rows.specs.declared.block.Block.{Block}
 use Rattle.rows.specs.declared.all.Extent.{Extent}
-use Rattle.rows.specs.Task.{Task, turnsOf, told, isSelected, traceAt, isProbed, isMet}
+use Rattle.rows.specs.Task.{Task, turnsOf, told, isSelected, dueAt, isProbed, isMet}
+use Rattle.present.specs.Present.{WithdrawnLine, presentSet}
 use Rattle.rows.specs.Ready.{Slices, Ready}
 use Rattle.marks.specs.Marks.{HasMarkLines, metLine, HasNoBits, HasEmptyMarks}
 use Rattle.rows.specs.Worked.{rowOf, BlockIn, HasNoMarks, BlockDone, BlockReady, BlockWorked, marking, ExtentOf, RowsReady, RowsWorked}
 use Rattle.rows.proofs.MarkLines.{probe-line, met-line}
+use Rattle.rows.proofs.Withdrawn.{probed-is}
+use Rattle.present.proofs.PresentLaws.{present-there, present-has}
 
 -- f at the rows before `base`
 abbrev pub before : (base : ℕ) → (ℕ → ℕ → Bool) → ℕ → ℕ → Bool
@@ -46,12 +50,13 @@ pub record Done (T : Task) (n base lines : ℕ) (S P : List ℕ) : Type 0 where
   pub marks : HoldsBits (before base (marking T n)) lines P
 
 -- the rows before `base` are worked; the table of marks at first and by now
-pub record Blocking (G : Slices) (E : Extent) (base : ℕ) (S P₀ P : List ℕ) : Type 0 where
+pub record Blocking (G : Slices) (E : Extent) (W : List ℕ) (base : ℕ) (S P₀ P : List ℕ) : Type 0 where
+  pub withdrawn : WithdrawnLine (drop (E .mark) (G .catalogue)) W
   pub whole : base % blockRows ≡ 0
   pub selected-size : length S ≡ lineSize
   pub sized : length P ≡ length P₀
   pub table-lines : HasMarkLines P
-  pub done : (n : ℕ) (T : Task) → Ready G n T → ExtentOf E n T → Done T n base (table-lines .lines) S P
+  pub done : (n : ℕ) (T : Task) → Ready G n T → ExtentOf G E n T → Done T n base (table-lines .lines) S P
 
 -- TABLES
 
@@ -107,68 +112,70 @@ module _ (f : ℕ → ℕ → Bool) (base : ℕ) {lines : ℕ} {t : List ℕ} (t
   pub holds-next : HoldsBits (before (base + blockRows) f) lines t′
   holds-next = record { size = size ∙ h .size; bytes = bytes (h .bytes); bits = λ c e l k. next-bit c e l k (which (ltb e base)) (which (ltb e (base + blockRows))) }
 
--- past the end of a table no bit is set
-bit-past : (t : List ℕ) (k : ℕ) → length t ≤ k / 8 → bit t k ≡ false
-unfolding bit
-bit-past t k h =
-    let z : getD t (k / 8) 0 ≡ 0 = List·getD-eq-default t 0 h in
-    let w : 0 / 2 ^ (k % 8) ≡ 0 = zero-div (2 ^ (k % 8)) in
-    rw (z, w)
-
 -- ONE BLOCK
 
--- the block at `base` of a run of so many rows
-abbrev pub blockAt : Extent → (base : ℕ) → Block
-blockAt E base = record { base = base; rows = rowsSet (E .rows - base); start = E .start }
+-- the block at `base` of a run of so many rows, some withdrawn
+abbrev pub blockAt : Extent → (withdrawn : List ℕ) → (base : ℕ) → Block
+blockAt E W base = record { base = base; rows = presentSet W (E .rows) base; start = E .start }
 
-module _ {G : Slices} {E : Extent} {base : ℕ} {S P₀ P : List ℕ} (W : Blocking G E base S P₀ P) (lt : base < E .rows) where
-  module _ {n : ℕ} {T : Task} (R : Ready G n T) (X : ExtentOf E n T) where
-    pub block-in : BlockIn (blockAt E base) (T .catalogue .rows)
-    block-in = record { block = record { whole = W .whole; inside = inside }; taking-part = part }
+module _ {G : Slices} {E : Extent} {W : List ℕ} {base : ℕ} {S P₀ P : List ℕ} (B : Blocking G E W base S P₀ P) (lt : base < E .rows) where
+  module _ {n : ℕ} {T : Task} (R : Ready G n T) (X : ExtentOf G E n T) where
+    pub block-in : BlockIn (blockAt E W base) (T .catalogue .rows)
+    block-in = record { block = record { whole = B .whole; inside = inside }; taking-part = part }
       where
         inside : base < lineBits
         inside = let s = R .short in let r = X .rows in omega arith
 
-        part : (d : ℕ) → has (rowsSet (E .rows - base)) d ≡ true → base + d < T .catalogue .rows
-        part d y = let r = X .rows in let l : d < min blockRows (E .rows - base) = ltb-lt d (min blockRows (E .rows - base)) (sym (has-below (min blockRows (E .rows - base)) d) ∙ y) in omega arith
+        part : (d : ℕ) → has (presentSet W (E .rows) base) d ≡ true → base + d < T .catalogue .rows
+        part d y =
+            let r = X .rows in
+            let l : d < min blockRows (E .rows - base) = ltb-lt d (min blockRows (E .rows - base)) (sym (has-below (min blockRows (E .rows - base)) d) ∙ present-there W (E .rows) base d y) in
+            omega arith
 
     held : Order (size (T .query .tree)) (turnsOf T)
     held = subst (λ (k : ℕ). Order k (turnsOf T)) (sym (R .leaves)) (subst (Order n) (R .turns) (order-law n (G .turns) .0 (R .ordered)))
 
-    -- whether row d of the block takes part
-    takes-part : (d : ℕ) → d < blockRows → has (rowsSet (E .rows - base)) d ≡ ltb (base + d) (T .catalogue .rows)
+    -- whether row d of the block takes part: it is there and in the house
+    takes-part : (d : ℕ) → d < blockRows → has (presentSet W (E .rows) base) d ≡ (ltb (base + d) (T .catalogue .rows) && not (isWithdrawn (T .catalogue) (base + d)))
     takes-part d l =
-        rows-has (E .rows - base) d l
-        ∙ iff-eq (ltb d (E .rows - base)) (ltb (base + d) (T .catalogue .rows))
-        (λ y. (let r = X .rows in let m : d < E .rows - base = ltb-lt d (E .rows - base) y in ltb-yes (base + d) (T .catalogue .rows) (omega arith)))
-        (λ y. (let r = X .rows in let m : base + d < T .catalogue .rows = ltb-lt (base + d) (T .catalogue .rows) y in ltb-yes d (E .rows - base) (omega arith)))
+        let r = X .rows in
+        let w = B .whole in
+        present-has W (E .rows) base d (B .withdrawn .bytes) w l lt
+        ∙ ap₂ (λ (a b : Bool). a && not b) (ap (ltb (base + d)) r) (B .withdrawn .bits (base + d) ∙ ap (λ (m : List ℕ). bit m (base + d)) (X .mark))
 
     all-live : (c : ℕ) → c < size (T .query .tree) → has (E .start) c ≡ true
     all-live c l = let z = R .leaves in ap (λ (x : ℕ). has x c) (X .start) ∙ has-below n c ∙ ltb-yes c n (omega arith)
 
-    row-selected : (d : ℕ) → d < blockRows → (rowOf T (blockAt E base) d) .selected ≡ (ltb (base + d) (T .catalogue .rows) && isSelected T (base + d))
+    row-selected : (d : ℕ) → d < blockRows → (rowOf T (blockAt E W base) d) .selected ≡ (ltb (base + d) (T .catalogue .rows) && isSelected T (base + d))
     unfolding isSelected
     row-selected d l =
-        work-row (T .query .tree) (R .numbered) (told T (base + d)) (R .full) (turnsOf T) held (has (E .start)) all-live (has (rowsSet (E .rows - base)) d) .0
+        work-row (T .query .tree) (R .numbered) (told T (base + d)) (R .full) (turnsOf T) held (has (E .start)) all-live (has (presentSet W (E .rows) base) d) .0
         ∙ ap (λ (b : Bool). b && eval (T .query .tree) (told T (base + d))) (takes-part d l)
+        ∙ and-assoc (ltb (base + d) (T .catalogue .rows)) (not (isWithdrawn (T .catalogue) (base + d))) (eval (T .query .tree) (told T (base + d)))
 
     -- a predicate that is probed is one of the n
     probed-few : (c e : ℕ) → (ltb c n && isProbed T c e) ≡ isProbed T c e
-    unfolding traceAt
+    unfolding dueAt
     probed-few c e = go (which (ltb c n))
       where
+        due : isProbed T c e ≡ true → elem c (predicates (dueAt T e)) ≡ true
+        due h = and-right (not (isWithdrawn (T .catalogue) e)) (elem c (predicates (dueAt T e))) (sym (probed-is T e c) ∙ h)
+
         go : (ltb c n ≡ true) ⊎ (ltb c n ≡ false) → (ltb c n && isProbed T c e) ≡ isProbed T c e
         go (inl y) = rw y
         go (inr y) =
             let z = R .leaves in
             let m : n ≤ c = ltb-le c n y in
-            rw y (sym (not-true (isProbed T c e) (λ h. (let k = held .inside c (trace-among (eval (T .query .tree)) (told T e) (turnsOf T) c (elem-among c (predicates (traceAt T e)) h)) in omega arith))))
+            rw y (sym (not-true (isProbed T c e) (λ h. (let k = held .inside c (trace-among (eval (T .query .tree)) (told T e) (turnsOf T) c (elem-among c (predicates (dueAt T e)) (due h))) in omega arith))))
 
-    row-probed : (c d : ℕ) → d < blockRows → (rowOf T (blockAt E base) d) .probed c ≡ within (isProbed T) n (T .catalogue .rows) c (base + d)
-    unfolding traceAt
+    row-probed : (c d : ℕ) → d < blockRows → (rowOf T (blockAt E W base) d) .probed c ≡ within (isProbed T) n (T .catalogue .rows) c (base + d)
+    unfolding dueAt
     row-probed c d l =
-        work-row (T .query .tree) (R .numbered) (told T (base + d)) (R .full) (turnsOf T) held (has (E .start)) all-live (has (rowsSet (E .rows - base)) d) .1 c
-        ∙ ap₂ (λ (a b : Bool). a && b) (takes-part d l) (sym (probed-few c (base + d))) ∙ swap (ltb (base + d) (T .catalogue .rows)) (ltb c n) (isProbed T c (base + d))
+        work-row (T .query .tree) (R .numbered) (told T (base + d)) (R .full) (turnsOf T) held (has (E .start)) all-live (has (presentSet W (E .rows) base) d) .1 c
+        ∙ ap (λ (b : Bool). b && elem c (predicates (dueAt T (base + d)))) (takes-part d l)
+        ∙ and-assoc (ltb (base + d) (T .catalogue .rows)) (not (isWithdrawn (T .catalogue) (base + d))) (elem c (predicates (dueAt T (base + d))))
+        ∙ ap (λ (b : Bool). ltb (base + d) (T .catalogue .rows) && b) (sym (probed-is T (base + d) c) ∙ sym (probed-few c (base + d)))
+        ∙ swap (ltb (base + d) (T .catalogue .rows)) (ltb c n) (isProbed T c (base + d))
       where
         swap : (p q r : Bool) → (p && (q && r)) ≡ (q && (p && r))
         swap true q r = refl
@@ -176,12 +183,12 @@ module _ {G : Slices} {E : Extent} {base : ℕ} {S P₀ P : List ℕ} (W : Block
         swap false false r = refl
 
     -- the marks of the block's rows
-    row-marks : {found : ℕ} {P′ : List ℕ} → length P′ ≡ length P → BlockDone T (blockAt E base) found P P′
-        → (c d : ℕ) → c < W .table-lines .lines → d < blockRows → lineBit P′ c (base + d) ≡ marking T n c (base + d)
+    row-marks : {found : ℕ} {P′ : List ℕ} → length P′ ≡ length P → BlockDone T (blockAt E W base) found P P′
+        → (c d : ℕ) → c < B .table-lines .lines → d < blockRows → lineBit P′ c (base + d) ≡ marking T n c (base + d)
     row-marks {found} {P′} sized D c d k l =
-        by-lines (λ c e. c < W .table-lines .lines → lineBit P′ c (base + d) ≡ marking T n c (base + d)) probes meets c d k
+        by-lines (λ c e. c < B .table-lines .lines → lineBit P′ c (base + d) ≡ marking T n c (base + d)) probes meets c d k
       where
-        probes : (c e : ℕ) → c < predicateLimit → c < W .table-lines .lines → lineBit P′ c (base + d) ≡ marking T n c (base + d)
+        probes : (c e : ℕ) → c < predicateLimit → c < B .table-lines .lines → lineBit P′ c (base + d) ≡ marking T n c (base + d)
         probes c e m k = D .probes c d m l ∙ row-probed c d l ∙ sym (probe-line T n c (base + d) m)
 
         met : (p q r t : Bool) → ((p && (q && r)) && t) ≡ (p && (q && (r && t)))
@@ -189,69 +196,71 @@ module _ {G : Slices} {E : Extent} {base : ℕ} {S P₀ P : List ℕ} (W : Block
         met true false r t = refl
         met false q r t = refl
 
-        meets : (c e : ℕ) → metLine c < W .table-lines .lines → lineBit P′ (metLine c) (base + d) ≡ marking T n (metLine c) (base + d)
+        meets : (c e : ℕ) → metLine c < B .table-lines .lines → lineBit P′ (metLine c) (base + d) ≡ marking T n (metLine c) (base + d)
         meets c e k =
-            let s = W .table-lines .size in
-            let f = W .table-lines .few in
+            let s = B .table-lines .size in
+            let f = B .table-lines .few in
             D .meets c d (omega arith) (omega arith) l
             ∙ ap (λ (b : Bool). b && told T (base + d) c) (row-probed c d l)
             ∙ met (ltb c n) (ltb (base + d) (T .catalogue .rows)) (isProbed T c (base + d)) (told T (base + d) c)
             ∙ sym (met-line T n c (base + d))
 
-  pub block-ready : RowsReady G E → BlockReady G (blockAt E base)
+  pub block-ready : RowsReady G E → BlockReady G (blockAt E W base)
   block-ready (n, T, R, X) = (n, T, R, block-in R X)
 
-  pub block-no-marks : RowsReady G E → HasNoMarks (blockAt E base) P
-  block-no-marks (n, T, R, X) = record { table-lines = W .table-lines; no-bits = λ c d l. go c d l (which (ltb c (W .table-lines .lines))) }
+  pub block-no-marks : RowsReady G E → HasNoMarks (blockAt E W base) P
+  block-no-marks (n, T, R, X) = record { table-lines = B .table-lines; no-bits = λ c d l. go c d l (which (ltb c (B .table-lines .lines))) }
     where
-      D : Done T n base (W .table-lines .lines) S P
-      D = W .done n T R X
+      D : Done T n base (B .table-lines .lines) S P
+      D = B .done n T R X
 
-      go : (c d : ℕ) → d < blockRows → (ltb c (W .table-lines .lines) ≡ true) ⊎ (ltb c (W .table-lines .lines) ≡ false) → lineBit P c (base + d) ≡ false
+      go : (c d : ℕ) → d < blockRows → (ltb c (B .table-lines .lines) ≡ true) ⊎ (ltb c (B .table-lines .lines) ≡ false) → lineBit P c (base + d) ≡ false
       go c d l (inl y) =
-          let w = W .whole in
+          let w = B .whole in
           let i = block-in R X .block .inside in
-          D .marks .bits c (base + d) (ltb-lt c (W .table-lines .lines) y) (omega arith)
+          D .marks .bits c (base + d) (ltb-lt c (B .table-lines .lines) y) (omega arith)
           ∙ ap (λ (b : Bool). b && marking T n c (base + d)) (ltb-no (base + d) base (omega arith))
       go c d l (inr y) =
-          let z : W .table-lines .lines ≤ c = ltb-le c (W .table-lines .lines) y in
-          let s = W .table-lines .size in
+          let z : B .table-lines .lines ≤ c = ltb-le c (B .table-lines .lines) y in
+          let s = B .table-lines .size in
           bit-past P (c * lineBits + (base + d)) (omega arith)
 
   pub block-room : RowsReady G E → base / 8 + wordSize ≤ length S
-  block-room (n, T, R, X) = let i = block-in R X .block .inside in let w = W .whole in let s = W .selected-size in omega arith
+  block-room (n, T, R, X) = let i = block-in R X .block .inside in let w = B .whole in let s = B .selected-size in omega arith
 
-  pub blocking-next : (found : ℕ) (S′ P′ : List ℕ) → length P′ ≡ length P → BlockWorked G (blockAt E base) found P P′ → WordPut S (base / 8) found S′ → Blocking G E (base + blockRows) S′ P₀ P′
+  pub blocking-next : (found : ℕ) (S′ P′ : List ℕ) → length P′ ≡ length P → BlockWorked G (blockAt E W base) found P P′ → WordPut S (base / 8) found S′ → Blocking G E W (base + blockRows) S′ P₀ P′
   blocking-next found S′ P′ sized K M = record {
-    whole = let w = W .whole in omega arith;
-    selected-size = M .size ∙ W .selected-size;
-    sized = sized ∙ W .sized;
-    table-lines = let t = W .table-lines in record { lines = t .lines; size = sized ∙ t .size; enough = t .enough; few = t .few };
-    done = λ n T R X. next n T R X (W .done n T R X) (K n T R (block-in R X));
+    withdrawn = B .withdrawn;
+    whole = let w = B .whole in omega arith;
+    selected-size = M .size ∙ B .selected-size;
+    sized = sized ∙ B .sized;
+    table-lines = let t = B .table-lines in record { lines = t .lines; size = sized ∙ t .size; enough = t .enough; few = t .few };
+    done = λ n T R X. next n T R X (B .done n T R X) (K n T R (block-in R X));
   }
     where
-      next : (n : ℕ) (T : Task) → Ready G n T → ExtentOf E n T → Done T n base (W .table-lines .lines) S P → BlockDone T (blockAt E base) found P P′
-          → Done T n (base + blockRows) (W .table-lines .lines) S′ P′
-      next n T R X D B = record {
+      next : (n : ℕ) (T : Task) → Ready G n T → ExtentOf G E n T → Done T n base (B .table-lines .lines) S P → BlockDone T (blockAt E W base) found P P′
+          → Done T n (base + blockRows) (B .table-lines .lines) S′ P′
+      next n T R X D Z = record {
         selected = holds-next (selection T) base S′ (D .selected) (M .size) (M .bytes) here other;
-        marks = holds-next (marking T n) base P′ (D .marks) (B .same .size) (B .same .bytes) (λ c d k l m. row-marks R X sized B c d k l) (λ c e k l w. B .same .beside c e l w);
+        marks = holds-next (marking T n) base P′ (D .marks) (Z .same .size) (Z .same .bytes) (λ c d k l m. row-marks R X sized Z c d k l) (λ c e k l w. Z .same .beside c e l w);
       }
         where
           here : (c d : ℕ) → c < 1 → d < blockRows → base + d < lineBits → lineBit S′ c (base + d) ≡ selection T c (base + d)
           here c d k l m =
-              let w = W .whole in
+              let w = B .whole in
               let p : base / 8 * 8 + d ≡ c * lineBits + (base + d) = omega arith in
-              ap (bit S′) (sym p) ∙ M .here d l ∙ B .selects d l ∙ row-selected R X d l
+              ap (bit S′) (sym p) ∙ M .here d l ∙ Z .selects d l ∙ row-selected R X d l
               ∙ sym (ap (λ (b : Bool). b && (ltb (base + d) (T .catalogue .rows) && isSelected T (base + d))) (ltb-yes c 1 k))
 
           other : (c e : ℕ) → c < 1 → e < lineBits → (e < base) ⊎ (base + blockRows ≤ e) → lineBit S′ c e ≡ lineBit S c e
-          other c e k l (inl x) = let w = W .whole in M .elsewhere (c * lineBits + e) (inl (omega arith))
-          other c e k l (inr x) = let w = W .whole in M .elsewhere (c * lineBits + e) (inr (omega arith))
+          other c e k l (inl x) = let w = B .whole in M .elsewhere (c * lineBits + e) (inl (omega arith))
+          other c e k l (inr x) = let w = B .whole in M .elsewhere (c * lineBits + e) (inr (omega arith))
 
 -- ALL BLOCKS
 
-pub blocking-start : {G : Slices} {E : Extent} {S P : List ℕ} → HasNoBits 1 S → HasEmptyMarks P → Blocking G E 0 S P P
-blocking-start s p = record {
+pub blocking-start : {G : Slices} {E : Extent} {W S P : List ℕ} → WithdrawnLine (drop (E .mark) (G .catalogue)) W → HasNoBits 1 S → HasEmptyMarks P → Blocking G E W 0 S P P
+blocking-start w s p = record {
+  withdrawn = w;
   whole = refl;
   selected-size = let z = s .size in omega arith;
   sized = refl;
@@ -262,14 +271,14 @@ blocking-start s p = record {
 pub rows-left : {base rows : ℕ} → base < rows → rows - (base + blockRows) < rows - base
 rows-left h = omega arith
 
-pub blocking-end : {G : Slices} {E : Extent} {base : ℕ} {S P₀ P : List ℕ} → E .rows ≤ base → Blocking G E base S P₀ P → RowsWorked G E S P
-blocking-end {G} {E} {base} {S} {P₀} {P} h W n T R X =
+pub blocking-end : {G : Slices} {E : Extent} {W : List ℕ} {base : ℕ} {S P₀ P : List ℕ} → E .rows ≤ base → Blocking G E W base S P₀ P → RowsWorked G E S P
+blocking-end {G} {E} {W} {base} {S} {P₀} {P} h B n T R X =
     let r = X .rows in
     let short = R .short in
     let few = R .few in
-    let t = W .table-lines in
+    let t = B .table-lines in
     record {
-      selected-size = W .selected-size;
+      selected-size = B .selected-size;
       selected-bitmap = holds-bitmap (isSelected T) (T .catalogue .rows) S (omega arith) all-selected;
       probed-bitmaps = holds-bitmaps (isProbed T) n (T .catalogue .rows) P (omega (arith, t .enough)) (omega arith) all-marks
           (λ c e l. probe-line T n c e (omega arith) ∙ ap (λ (b : Bool). b && (ltb e (T .catalogue .rows) && isProbed T c e)) (ltb-yes c n l));
@@ -279,7 +288,7 @@ blocking-end {G} {E} {base} {S} {P₀} {P} h W n T R X =
     all-selected : HoldsBits (selection T) 1 S
     all-selected =
         let r = X .rows in
-        all-before (selection T) (T .catalogue .rows) base (omega arith) (λ c e l. none-past (λ c. isSelected T) 1 (T .catalogue .rows) c e l) (W .done n T R X .selected)
+        all-before (selection T) (T .catalogue .rows) base (omega arith) (λ c e l. none-past (λ c. isSelected T) 1 (T .catalogue .rows) c e l) (B .done n T R X .selected)
 
-    all-marks : HoldsBits (marking T n) (W .table-lines .lines) P
-    all-marks = let r = X .rows in all-before (marking T n) (T .catalogue .rows) base (omega arith) (marking-past T n) (W .done n T R X .marks)
+    all-marks : HoldsBits (marking T n) (B .table-lines .lines) P
+    all-marks = let r = X .rows in all-before (marking T n) (T .catalogue .rows) base (omega arith) (marking-past T n) (B .done n T R X .marks)

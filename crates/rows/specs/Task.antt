@@ -1,9 +1,9 @@
 -- What a run gives of each row: demand 2 over decoded values.
 use Prim.Native.Nat.{ℕ}
-use mathlib.Core.Bool.{Bool, _&&_}
+use mathlib.Core.Bool.{Bool, not, _&&_, cond}
 use mathlib.Core.List.{List, []}
 use lib.ListN.{getD}
-use Rattle.catalogue.specs.Catalogue.{Catalogue}
+use Rattle.catalogue.specs.Catalogue.{Catalogue, isWithdrawn}
 use Rattle.predicate.specs.Meaning.{Predicate, outcome, truth}
 use Rattle.strategy.specs.Assignment.{Assignment, elem}
 use Rattle.strategy.specs.Strategy.{State, predicates}
@@ -32,14 +32,18 @@ turnsOf T = T .order
 abbrev pub told : Task → (row : ℕ) → Assignment
 told T row = assignmentAt (T .catalogue) (T .query) row
 
--- "An entry is listed exactly if the question's tree .. holds of it"
+-- "An entry is listed exactly if the question's tree .. holds of it"; order 6: a withdrawn one "is never listed .. whatever the question"
 unfoldable pub isSelected : Task → (row : ℕ) → Bool
-isSelected T row = eval (T .query .tree) (told T row)
+isSelected T row = not (isWithdrawn (T .catalogue) row) && eval (T .query .tree) (told T row)
 
--- the looks at a row with their outcomes, in running order: "A look is registered exactly if, with the conditions earlier in
+-- the looks due at a row with their outcomes, in running order: "A look is registered exactly if, with the conditions earlier in
 -- the order at their true outcomes, some outcomes of the later ones make this condition alone decide the tree."
+unfoldable pub dueAt : Task → (row : ℕ) → State
+dueAt T row = trace (eval (T .query .tree)) (told T row) (turnsOf T)
+
+-- order 6: a withdrawn entry is "never looked at, whatever the question"
 unfoldable pub traceAt : Task → (row : ℕ) → State
-traceAt T row = trace (eval (T .query .tree)) (told T row) (turnsOf T)
+traceAt T row = cond (isWithdrawn (T .catalogue) row) [] (dueAt T row)
 
 -- the predicates probed at a row
 abbrev pub madeAt : Task → (row : ℕ) → List ℕ

@@ -5,9 +5,10 @@ ghost use Rattle.rows.specs.Ready.{slices};
 ghost use Rattle.marks.specs.Marks.{HasNoBits, HasEmptyMarks};
 ghost use Rattle.rows.specs.Worked.{RowsReady, RowsWorked};
 
-// How many rows there are, and the predicates that are live at first.
+// How many rows there are, where in the catalogue the bytes of the mark start, and the predicates that are live at first.
 pub struct Extent {
     pub rows: usize,
+    pub mark: usize,
     pub start: u64,
 }
 
@@ -29,10 +30,11 @@ pub fn work_rows(
     let fold = predicate::fold::fold_table();
     let rows = extent.rows;
     let start = extent.start;
+    let mark = extent.mark;
+    let withdrawn = present::withdrawn_line(catalogue, mark);
     let mut base: usize = 0;
     while base < rows {
-        // The last block may have fewer rows.
-        let part = bitmaps::word::rows_of(rows - base);
+        let part = present::present_rows(&withdrawn, rows, base);
         let block = Block {
             base,
             rows: part,

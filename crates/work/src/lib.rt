@@ -37,6 +37,7 @@ pub fn work(
     let n = begun.n;
     let extent = Extent {
         rows: begun.rows,
+        mark: begun.mark,
         start: sets::below(fields::number::narrow(n)),
     };
     rows::all::work_rows(

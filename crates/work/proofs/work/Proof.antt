@@ -17,7 +17,7 @@ work-rows-requires c κs =
     let h = c .before .before .before .before .before .before .before .before .before .before .before .pre in
     let start = c .before .before .below .ensures ∙ ap belowSet (c .before .before .before .narrow .ensures) in
     let H = h .0 .0 in
-    (input-rows-ready (H .has-input) _ _ (h .0 .1) (H .size) (H .planned) _ refl start, h .1)
+    (input-rows-ready (H .has-input) _ _ (h .0 .1) (H .size) (H .planned) _ refl start refl, h .1)
 
 same-length : tie.Need-same-length
 same-length c = search needs
@@ -31,7 +31,7 @@ returns c =
     let a = c .before .before .before .before .before .before .before in
     let start = a .below .ensures ∙ ap belowSet (a .before .narrow .ensures) in
     let H = h .0 .0 in
-    input-worked (H .has-input) _ _ (h .0 .1) (H .size) (H .planned) _ refl start _ _ (c .before .before .before .before .work-rows .ensures)
+    input-worked (H .has-input) _ _ (h .0 .1) (H .size) (H .planned) _ refl start refl _ _ (c .before .before .before .before .work-rows .ensures)
 
 pub work-spec : {M : Type 1} → statement M
 work-spec = tie.close (tie.spec narrow-requires below-requires work-rows-requires same-length same-length-2 returns)

@@ -1,0 +1,18 @@
+-- A withdrawn row is not looked at; the looks at any other are those due.
+use Prim.Native.Nat.{ℕ}
+use mathlib.Core.Path.{_≡_, refl}
+use mathlib.Core.Bool.{Bool, true, false, not, _&&_, cond}
+use mathlib.Core.List.{[]}
+use Rattle.strategy.specs.Assignment.{elem}
+use Rattle.strategy.specs.Strategy.{predicates}
+use Rattle.catalogue.specs.Catalogue.{isWithdrawn}
+use Rattle.rows.specs.Task.{Task, dueAt, traceAt, isProbed}
+
+module _ (T : Task) (row : ℕ) where
+  pub probed-is : (c : ℕ) → isProbed T c row ≡ (not (isWithdrawn (T .catalogue) row) && elem c (predicates (dueAt T row)))
+  unfolding traceAt predicates elem
+  probed-is c = go (isWithdrawn (T .catalogue) row)
+    where
+      go : (w : Bool) → elem c (predicates (cond w [] (dueAt T row))) ≡ (not w && elem c (predicates (dueAt T row)))
+      go true = refl
+      go false = refl
