@@ -21,6 +21,10 @@
  *
  * Fields. Catalogues, questions and copies are made of fields: a one-byte tag, a two-byte length, then that many bytes, the
  * payload. All numbers are unsigned, most significant byte first. Entries, columns and conditions count from 0.
+ *
+ * Rows of bits. The mark of a catalogue and the tables of a run are made of rows of bits. A row for E entries takes
+ * searchroom_row_bytes(E) bytes, ceiling(E / 8): entry e is the bit of weight 2^(e mod 8) in byte e div 8 (searchroom_bit),
+ * unused bits are zero.
  */
 #ifndef SEARCHROOM_H
 #define SEARCHROOM_H
@@ -29,7 +33,7 @@
 #include <stdint.h>
 
 /* The release; the pkg-config file has the same. */
-#define SEARCHROOM_VERSION "0.5.0"
+#define SEARCHROOM_VERSION "0.6.0"
 
 #ifdef __cplusplus
 extern "C" {
@@ -37,18 +41,20 @@ extern "C" {
 
 /* Limits. */
 enum {
-    SEARCHROOM_MAX_ENTRIES = 2048,   /* entries of a catalogue */
-    SEARCHROOM_MAX_COLUMNS = 16,     /* columns of a catalogue, which has at least one */
-    SEARCHROOM_MAX_TEXT = 23,        /* bytes of a text in a catalogue, or of a text operand */
-    SEARCHROOM_MAX_CONDITIONS = 64,  /* conditions of a question, which has at least one */
-    SEARCHROOM_MAX_DEPTH = 8,        /* groups inside each other, the outermost being 1 */
-    SEARCHROOM_LISTED_BYTES = 256,   /* the most bytes that a run writes to the listed table */
-    SEARCHROOM_LOOKS_BYTES = 16384,  /* the most bytes that a run writes to the looks table */
-    SEARCHROOM_TALLY_BYTES = 8,      /* bytes of the house tally */
-    SEARCHROOM_COPY_FIELD_BYTES = 7, /* bytes that a copy writes for each look */
-    SEARCHROOM_COPY_BYTES = 917504,  /* the most bytes that a copy writes to its output */
-    SEARCHROOM_MAX_TYPED = 16384,    /* bytes of a typed question */
-    SEARCHROOM_TYPED_BYTES = 3139    /* the most bytes that searchroom_typed writes to its output */
+    SEARCHROOM_MAX_ENTRIES = 2048,       /* entries of a catalogue */
+    SEARCHROOM_MAX_COLUMNS = 16,         /* columns of a catalogue, which has at least one */
+    SEARCHROOM_MAX_TEXT = 23,            /* bytes of a text in a catalogue, or of a text operand */
+    SEARCHROOM_MARK_BYTES = 256,         /* the most bytes that the mark of a catalogue has, without its tag and length */
+    SEARCHROOM_CATALOGUE_BYTES = 786745, /* the most bytes that a catalogue has, its mark included */
+    SEARCHROOM_MAX_CONDITIONS = 64,      /* conditions of a question, which has at least one */
+    SEARCHROOM_MAX_DEPTH = 8,            /* groups inside each other, the outermost being 1 */
+    SEARCHROOM_LISTED_BYTES = 256,       /* the most bytes that a run writes to the listed table */
+    SEARCHROOM_LOOKS_BYTES = 16384,      /* the most bytes that a run writes to the looks table */
+    SEARCHROOM_TALLY_BYTES = 8,          /* bytes of the house tally */
+    SEARCHROOM_COPY_FIELD_BYTES = 7,     /* bytes that a copy writes for each look */
+    SEARCHROOM_COPY_BYTES = 917504,      /* the most bytes that a copy writes to its output */
+    SEARCHROOM_MAX_TYPED = 16384,        /* bytes of a typed question */
+    SEARCHROOM_TYPED_BYTES = 3139        /* the most bytes that searchroom_typed writes to its output */
 };
 
 /* Outcomes: what a condition answers at an entry. */
@@ -71,7 +77,7 @@ enum {
     SEARCHROOM_COLUMN_FORM = 4,
     /* Catalogue: a text slot has a length over 23, or a byte after its text that is not zero. */
     SEARCHROOM_TEXT_SLOT = 5,
-    /* Catalogue: bytes left over after the last column. */
+    /* Catalogue: after the last column a byte that is not the mark's tag 87, or bytes left over after the mark. */
     SEARCHROOM_CATALOGUE_LEFT_OVER = 6,
     /* Question: fewer than three bytes left in the enclosing payload where a field should start, or the field's length
        passes its end. */
@@ -104,7 +110,9 @@ enum {
     /* Typed question: the text is over 16,384 bytes, or is not spelled as searchroom_typed asks. */
     SEARCHROOM_MISSPELLED = 21,
     /* Typed question: the output is too short for the question's bytes. */
-    SEARCHROOM_SHORT_TYPED_OUTPUT = 22
+    SEARCHROOM_SHORT_TYPED_OUTPUT = 22,
+    /* Catalogue: the mark has a length that does not fit the number of entries, or a one bit after the last entry's. */
+    SEARCHROOM_BAD_MARK = 23
 };
 
 /* The refusal's number in a packed word, SEARCHROOM_ACCEPTED where the call is accepted. */
@@ -125,7 +133,7 @@ static inline const char *searchroom_refusal_text(unsigned refusal)
     case SEARCHROOM_CATALOGUE_LIMITS: return "the catalogue has over 2,048 entries, no column, or over 16 columns";
     case SEARCHROOM_COLUMN_FORM: return "a column has a wrong tag or length";
     case SEARCHROOM_TEXT_SLOT: return "a text slot has a length over 23 or a stray byte after its text";
-    case SEARCHROOM_CATALOGUE_LEFT_OVER: return "bytes are left over after the last column of the catalogue";
+    case SEARCHROOM_CATALOGUE_LEFT_OVER: return "bytes are left over after the last column or the mark of the catalogue";
     case SEARCHROOM_QUESTION_FIELD: return "a field of the question is cut short";
     case SEARCHROOM_UNKNOWN_TAG: return "a field of the question is neither a group nor a condition";
     case SEARCHROOM_EMPTY_GROUP: return "a group of the question has no member";
@@ -141,6 +149,7 @@ static inline const char *searchroom_refusal_text(unsigned refusal)
     case SEARCHROOM_SHORT_OUTPUT: return "the output is too short for the copy";
     case SEARCHROOM_MISSPELLED: return "the typed question is over 16,384 bytes or misspelled";
     case SEARCHROOM_SHORT_TYPED_OUTPUT: return "the output is too short for the typed question's bytes";
+    case SEARCHROOM_BAD_MARK: return "the mark of the catalogue has a wrong length or a stray bit";
     default: return "unknown refusal";
     }
 }
@@ -153,10 +162,18 @@ static inline const char *searchroom_refusal_text(unsigned refusal)
  *     tag 78, a number column: E numbers of four bytes; 4,294,967,295 is a blank;
  *     tag 84, a text column: E slots of 24 bytes, each a length 0 to 23, the text (any byte values), and zeros to the
  *     end; length 0 is a blank.
+ * It may end with one field more:
+ *     tag 87, the mark: a row of bits. A one bit marks a withdrawn entry.
+ *
+ * A withdrawn entry is never listed and never looked at, whatever the question: searchroom_run writes a zero bit for it in
+ * every row, and searchroom_copy writes no field for it. All else goes on as before: the entry keeps its number and its values,
+ * E counts it, the tables have a place for it, and searchroom_outcome works out a condition there as anywhere. To put an entry
+ * back, clear its bit. A mark of zeros gives the same results as no mark.
  *
  * Results: first E, second C (searchroom_entries, searchroom_columns).
- * Refusals: 1 to 6, met while walking from front to back: at each field expected 1; at the first field 2, then 3; at each
- * column 4, then 5; at the end 6.
+ * Refusals: 1 to 6 and 23, met while walking from front to back: at each field expected 1; at the first field 2, then 3; at
+ * each column 4, then 5; after the last column, where the catalogue goes on, 6 if the next byte is not 87; at the mark 1, then
+ * 23; at the end 6.
  * Writes nothing.
  */
 uint64_t searchroom_check_catalogue(const uint8_t *catalogue, size_t catalogue_len);
@@ -188,7 +205,7 @@ static inline unsigned searchroom_columns(uint64_t word) { return searchroom_sec
  * without folding: `Andre` and `Andr\E9` may stand in one question.
  *
  * Results: first the number of conditions n (searchroom_conditions).
- * Refusals: 1 to 6 for the catalogue; then 7 to 14, met while walking the question from front to back: at each field 7,
+ * Refusals: 1 to 6 and 23 for the catalogue; then 7 to 14, met while walking the question from front to back: at each field 7,
  * then 8; at a group 10, then 9; at a condition 12, then 11, then 13; at the end 14.
  * Writes nothing.
  */
@@ -201,8 +218,8 @@ static inline unsigned searchroom_conditions(uint64_t word) { return searchroom_
  * Works out one condition of a question at one entry of a catalogue.
  *
  * Results: first the outcome, SEARCHROOM_NO, SEARCHROOM_YES or SEARCHROOM_BLANK (searchroom_answer). Compare it with these:
- * a blank is not zero.
- * Refusals: 1 to 14 as for searchroom_check_question; then 18, the entry is not below the number of entries or the
+ * a blank is not zero. Whether the entry is withdrawn makes no difference.
+ * Refusals: 1 to 14 and 23 as for searchroom_check_question; then 18, the entry is not below the number of entries or the
  * condition not below the number of conditions. Any 64-bit numbers may be given.
  * Writes nothing.
  */
@@ -215,15 +232,14 @@ static inline unsigned searchroom_answer(uint64_t word) { return searchroom_firs
 /*
  * Runs a question over a catalogue in a running order.
  *
- * An entry is listed exactly if the question's tree holds of it, blank taken as no. On each entry the conditions are taken in
- * the running order, n bytes that hold each condition number once. A look at a condition is registered exactly if it is due:
- * with the conditions earlier in the order at their true outcomes, blank as no again, some outcomes of the later ones make
- * this condition alone decide the tree, its yes and its no giving the tree different values. Any way of working in the same
- * order that is right whatever the pattern of outcomes makes each of these looks, so none makes fewer.
+ * A withdrawn entry is not listed, and no look is registered there. Every other entry is listed exactly if the question's tree
+ * holds of it, blank taken as no. On each of these the conditions are taken in the running order, n bytes that hold each
+ * condition number once. A look at a condition is registered exactly if it is due: with the conditions earlier in the order at
+ * their true outcomes, blank as no again, some outcomes of the later ones make this condition alone decide the tree, its yes and
+ * its no giving the tree different values. Any way of working in the same order that is right whatever the pattern of outcomes
+ * makes each of these looks, so none makes fewer.
  *
- * With E entries, a row of bits takes searchroom_row_bytes(E) bytes: entry e is the bit of weight 2^(e mod 8) in byte
- * e div 8, unused bits are zero (searchroom_bit).
- *     listed  the listed table, at least one row; its first row is written: the listed entries
+ *     listed  the listed table, at least one row of bits; its first row is written: the listed entries
  *     looks   the looks table, at least n rows; its first n rows are written, one for each condition in condition-number
  *             order: the entries at which a look at it is registered
  *     tally   the house tally, eight bytes, a number; the look count is added to it
@@ -232,7 +248,7 @@ static inline unsigned searchroom_answer(uint64_t word) { return searchroom_firs
  *
  * Results: first the found count, the number of listed entries (searchroom_found); third the look count, the number of
  * registered looks (searchroom_look_count).
- * Refusals: 1 to 14 as for searchroom_check_question; then 15, then 16, then 17. Nothing is then written.
+ * Refusals: 1 to 14 and 23 as for searchroom_check_question; then 15, then 16, then 17. Nothing is then written.
  */
 uint64_t searchroom_run(const uint8_t *catalogue, size_t catalogue_len,
                         const uint8_t *question, size_t question_len,
@@ -254,7 +270,8 @@ static inline unsigned searchroom_bit(const uint8_t *row, unsigned entry) { retu
  * Writes the steward's copy of the register: each look that searchroom_run registers on the same catalogue, question and
  * order, with what it found.
  *
- * Each look has one field, and no other field is written. A field takes SEARCHROOM_COPY_FIELD_BYTES bytes:
+ * Each look has one field, and no other field is written; a withdrawn entry has none. A field takes
+ * SEARCHROOM_COPY_FIELD_BYTES bytes:
  *     byte 0         tag 76
  *     bytes 1 and 2  length 4
  *     bytes 3 and 4  the entry (searchroom_copied_entry)
@@ -269,7 +286,7 @@ static inline unsigned searchroom_bit(const uint8_t *row, unsigned entry) { retu
  * Further bytes of output stay as they are. SEARCHROOM_COPY_BYTES bytes are enough for any copy.
  *
  * Results: third the number of bytes written, SEARCHROOM_COPY_FIELD_BYTES times the look count (searchroom_written).
- * Refusals: 1 to 14 as for searchroom_check_question; then 15, then 20. Nothing is then written.
+ * Refusals: 1 to 14 and 23 as for searchroom_check_question; then 15, then 20. Nothing is then written.
  */
 uint64_t searchroom_copy(const uint8_t *catalogue, size_t catalogue_len,
                          const uint8_t *question, size_t question_len,
@@ -320,7 +337,7 @@ static inline unsigned searchroom_copied_outcome(const uint8_t *field) { return 
  * Further bytes of output stay as they are. SEARCHROOM_TYPED_BYTES bytes are enough for any typed question.
  *
  * Results: third the number of bytes written (searchroom_written).
- * Refusals: 1 to 6 for the catalogue; then 21, the text is too long or not so spelled; then 10 to 13 as
+ * Refusals: 1 to 6 and 23 for the catalogue; then 21, the text is too long or not so spelled; then 10 to 13 as
  * searchroom_check_question gives them for the bytes read, 11 for instance where there is no such column, it holds the other
  * sort of values, or between the quotes is nothing or over 23 bytes (7, 8, 9 and 14 cannot come); then 22. Nothing is then
  * written.

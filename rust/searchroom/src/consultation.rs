@@ -11,7 +11,8 @@ pub struct Consultation {
     looks: Vec<u8>,
 }
 
-/// Runs a question over a catalogue in a running order, and adds the look count to the tally.
+/// Runs a question over a catalogue in a running order, and adds the look count to the tally. A withdrawn entry is not listed
+/// and has no looks.
 ///
 /// ```
 /// // Years 1701, 1822 and a blank. Year from 1700 to 1799, or year blank.
@@ -26,7 +27,8 @@ pub struct Consultation {
 /// ```
 ///
 /// # Errors
-/// Refusals 1 to 15, and [`Refusal::BadTally`] where the sum would pass 2^64 − 1; the tally is then as it was.
+/// Those of [`run`], except [`Refusal::ShortTable`]. [`Refusal::BadTally`] comes only where the sum would pass 2^64 − 1. A refusal
+/// leaves the tally as it was.
 pub fn consult(catalogue: &[u8], question: &[u8], order: &[u8], tally: &mut u64) -> Result<Consultation, Refusal> {
     let row = usize::from(check_catalogue(catalogue)?.entries).div_ceil(8);
     let mut listed = vec![0; row];

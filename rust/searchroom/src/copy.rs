@@ -13,9 +13,9 @@ pub const COPY_BYTES: usize = FIELD * MAX_CONDITIONS * 2_048;
 /// order registers, with its outcome. Gives the number of bytes written, seven times the look count.
 ///
 /// Each look has one field: tag 76, length 4, the entry (two bytes, most significant first), the condition's number, and
-/// what [`outcome`](crate::outcome) gives there ([`Answer::number`]). Entries ascend; in which sequence the fields of one
-/// entry follow each other is left open. They stand at the front of `output`, whose further bytes stay as they are;
-/// [`COPY_BYTES`] bytes are enough for any copy. A refusal alters none. [`looks`] reads the fields.
+/// what [`outcome`](crate::outcome) gives there ([`Answer::number`]). A withdrawn entry has none. Entries ascend; in which
+/// sequence the fields of one entry follow each other is left open. They stand at the front of `output`, whose further bytes
+/// stay as they are; [`COPY_BYTES`] bytes are enough for any copy. A refusal alters none. [`looks`] reads the fields.
 ///
 /// [`copy_of`] does the same with memory of its own.
 ///
@@ -31,8 +31,7 @@ pub const COPY_BYTES: usize = FIELD * MAX_CONDITIONS * 2_048;
 /// ```
 ///
 /// # Errors
-/// Refusals 1 to 14 as for [`check_question`](crate::check_question), then [`Refusal::BadOrder`] and
-/// [`Refusal::ShortOutput`].
+/// Those of [`check_question`](crate::check_question), then [`Refusal::BadOrder`] and [`Refusal::ShortOutput`].
 pub fn copy(catalogue: &[u8], question: &[u8], order: &[u8], output: &mut [u8]) -> Result<usize, Refusal> {
     Ok(copy_word(catalogue, question, order, output).accepted()?.third() as usize)
 }
@@ -71,7 +70,7 @@ pub fn copy_word(catalogue: &[u8], question: &[u8], order: &[u8], output: &mut [
 /// ```
 ///
 /// # Errors
-/// Refusals 1 to 15.
+/// Those of [`copy`], except [`Refusal::ShortOutput`].
 pub fn copy_of(catalogue: &[u8], question: &[u8], order: &[u8]) -> Result<Vec<u8>, Refusal> {
     let entries = usize::from(check_catalogue(catalogue)?.entries);
     // An accepted order holds each condition once, so its length is their number.

@@ -41,7 +41,8 @@ impl Answer {
 /// ```
 ///
 /// # Errors
-/// Refusals 1 to 6 for the catalogue, then 7 to 14, from [`Refusal::QuestionField`] to [`Refusal::QuestionLeftOver`].
+/// Those of [`check_catalogue`](crate::check_catalogue), then 7 to 14, from [`Refusal::QuestionField`] to
+/// [`Refusal::QuestionLeftOver`].
 pub fn check_question(catalogue: &[u8], question: &[u8]) -> Result<u16, Refusal> {
     Ok(check_question_word(catalogue, question).accepted()?.first())
 }
@@ -54,8 +55,8 @@ pub fn check_question_word(catalogue: &[u8], question: &[u8]) -> Word {
     })
 }
 
-/// Works out one condition of a question at one entry of a catalogue. Texts are compared up to their case and their accents:
-/// "Andre" finds "André" and "ANDRÉ", and is found by them.
+/// Works out one condition of a question at one entry of a catalogue, withdrawn or not. Texts are compared up to their case and
+/// their accents: "Andre" finds "André" and "ANDRÉ", and is found by them.
 ///
 /// ```
 /// use searchroom::{Answer, Refusal, outcome};
@@ -70,7 +71,7 @@ pub fn check_question_word(catalogue: &[u8], question: &[u8]) -> Word {
 /// ```
 ///
 /// # Errors
-/// Refusals 1 to 14 as for [`check_question`], then [`Refusal::NoSuchPlace`].
+/// Those of [`check_question`], then [`Refusal::NoSuchPlace`].
 ///
 /// # Panics
 /// If the archive gives an answer that this wrapper does not know: the two are then not of the same release.

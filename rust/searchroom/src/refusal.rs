@@ -39,7 +39,7 @@ refusals! {
     CatalogueLimits = 3, "the catalogue has over 2,048 entries, no column, or over 16 columns";
     ColumnForm = 4, "a column has a wrong tag, or a length that does not fit the number of entries";
     TextSlot = 5, "a text slot has a length over 23, or a byte after its text that is not zero";
-    CatalogueLeftOver = 6, "bytes are left over after the last column of the catalogue";
+    CatalogueLeftOver = 6, "bytes are left over after the last column or the mark of the catalogue";
     QuestionField = 7, "the question has fewer than three bytes left in a payload where a field should start, or the field's length passes its end";
     UnknownTag = 8, "a field of the question is neither a group nor a condition";
     EmptyGroup = 9, "a group of the question has no member";
@@ -55,6 +55,7 @@ refusals! {
     ShortOutput = 20, "the output is too short for the copy";
     Misspelled = 21, "the typed question is over 16,384 bytes or misspelled";
     ShortTypedOutput = 22, "the output is too short for the typed question's bytes";
+    BadMark = 23, "the mark of the catalogue has a length that does not fit the number of entries, or a one bit after the last entry's";
 }
 
 impl Refusal {

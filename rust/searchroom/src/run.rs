@@ -10,7 +10,7 @@ pub struct Counts {
 }
 
 /// Runs a question over a catalogue in a running order, into tables of the caller's. It takes
-/// [`Answer::Blank`](crate::Answer::Blank) as no.
+/// [`Answer::Blank`](crate::Answer::Blank) as no. A withdrawn entry is not listed and has no looks.
 ///
 /// With E entries and n conditions, a row takes ceiling(E / 8) bytes: entry e is the bit of weight 2^(e mod 8) in byte
 /// e div 8, unused bits zero. `listed` receives one row, `looks` one row for each condition in condition-number order;
@@ -20,7 +20,7 @@ pub struct Counts {
 /// [`consult`](crate::consult) does the same with tables of its own.
 ///
 /// # Errors
-/// Refusals 1 to 14 as for [`check_question`](crate::check_question), then [`Refusal::BadOrder`], [`Refusal::ShortTable`] and
+/// Those of [`check_question`](crate::check_question), then [`Refusal::BadOrder`], [`Refusal::ShortTable`] and
 /// [`Refusal::BadTally`].
 pub fn run(
     catalogue: &[u8],

@@ -36,7 +36,7 @@ pub const TYPED_BYTES: usize = 3 + 64 * (7 * 3 + 28);
 /// ```
 ///
 /// # Errors
-/// Refusals 1 to 6 for the catalogue, then [`Refusal::Misspelled`], then 10 to 13 as
+/// Those of [`check_catalogue`](crate::check_catalogue), then [`Refusal::Misspelled`], then 10 to 13 as
 /// [`check_question`](crate::check_question) gives them for the bytes read, then [`Refusal::ShortTypedOutput`].
 pub fn typed(catalogue: &[u8], text: &[u8], output: &mut [u8]) -> Result<usize, Refusal> {
     Ok(typed_word(catalogue, text, output).accepted()?.third() as usize)
