@@ -1,4 +1,5 @@
 use crate::field::{Field, take_field};
+use crate::mark::read_mark;
 use crate::refusal::{self, Number};
 
 const CATALOGUE_TAG: u8 = 67;
@@ -17,6 +18,25 @@ pub const BLANK_NUMBER: u32 = 4_294_967_295;
 pub struct Catalogue {
     pub entries: usize,
     pub columns: Vec<Column>,
+    /// The mark, if there is one (order 6): for each entry, whether it is withdrawn.
+    pub mark: Option<Vec<bool>>,
+}
+
+impl Catalogue {
+    /// A catalogue that ends with its last column.
+    pub fn unmarked(entries: usize, columns: Vec<Column>) -> Catalogue {
+        Catalogue { entries, columns, mark: None }
+    }
+
+    /// Is an entry withdrawn? Without a mark none is.
+    pub fn is_withdrawn(&self, entry: usize) -> bool {
+        self.mark.as_ref().is_some_and(|mark| mark[entry])
+    }
+
+    /// The number of entries still in the house.
+    pub fn present(&self) -> usize {
+        (0..self.entries).filter(|&entry| !self.is_withdrawn(entry)).count()
+    }
 }
 
 /// A column holds one value for each entry. A number is blank at [`BLANK_NUMBER`], a text at length 0.
@@ -44,10 +64,8 @@ pub fn read_catalogue(bytes: &[u8]) -> Result<Catalogue, Number> {
         let field = take_field(&mut rest).ok_or(refusal::CATALOGUE_FIELD)?;
         columns.push(read_column(&field, entries)?);
     }
-    if !rest.is_empty() {
-        return Err(refusal::CATALOGUE_LEFT_OVER);
-    }
-    Ok(Catalogue { entries, columns })
+    let mark = read_mark(rest, entries)?;
+    Ok(Catalogue { entries, columns, mark })
 }
 
 fn read_column(field: &Field, entries: usize) -> Result<Column, Number> {

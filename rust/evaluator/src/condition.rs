@@ -76,7 +76,7 @@ fn read_text(operand: &[u8]) -> Option<Vec<u8>> {
     (1..=MAX_OPERAND).contains(&operand.len()).then(|| operand.to_vec())
 }
 
-/// Works out a condition at an entry. Both are there in the catalogue.
+/// Works out a condition at an entry. Both are there in the catalogue; whether the entry is withdrawn makes no difference.
 pub fn outcome(catalogue: &Catalogue, condition: &Condition, entry: usize) -> Answer {
     let (is_blank, met) = match &catalogue.columns[condition.column] {
         Column::Numbers(numbers) => (numbers[entry] == BLANK_NUMBER, number_meets(&condition.test, numbers[entry])),

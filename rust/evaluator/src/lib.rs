@@ -7,6 +7,7 @@ mod catalogue;
 mod condition;
 mod copy;
 mod field;
+mod mark;
 mod question;
 pub mod refusal;
 mod register;

@@ -13,7 +13,7 @@ pub const CATALOGUE_LIMITS: Number = 3;
 pub const COLUMN_FORM: Number = 4;
 /// A slot length over 23, or a non-zero byte after its text.
 pub const TEXT_SLOT: Number = 5;
-/// Bytes left over after the last column.
+/// A byte after the last column that does not start the mark, or bytes after the mark.
 pub const CATALOGUE_LEFT_OVER: Number = 6;
 /// Fewer than three bytes left in the enclosing payload, or a field's length passes its end.
 pub const QUESTION_FIELD: Number = 7;
@@ -48,3 +48,5 @@ pub const OUTPUT: Number = 20;
 pub const MISSPELLED: Number = 21;
 /// The lent output is too short for the question that was typed.
 pub const TYPED_OUTPUT: Number = 22;
+/// The mark's length is not ceiling(E / 8), or a bit after the last entry's is one.
+pub const MARK: Number = 23;

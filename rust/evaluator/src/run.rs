@@ -35,9 +35,11 @@ pub fn find(catalogue: &Catalogue, question: &Question, order: &[usize]) -> Foun
     for entry in 0..catalogue.entries {
         let pattern: Vec<bool> =
             question.conditions.iter().map(|condition| outcome(catalogue, condition, entry).truth()).collect();
-        found.listed.push(question.tree.value(&pattern));
+        // Order 6, a withdrawn entry: "never listed and never looked at, whatever the question".
+        let is_present = !catalogue.is_withdrawn(entry);
+        found.listed.push(is_present && question.tree.value(&pattern));
         for (turn, &condition) in order.iter().enumerate() {
-            found.looks[condition].push(is_due(&question.tree, order, turn, &pattern));
+            found.looks[condition].push(is_present && is_due(&question.tree, order, turn, &pattern));
         }
     }
     found

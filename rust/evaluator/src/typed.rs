@@ -23,7 +23,8 @@ pub fn typed(catalogue: &[u8], text: &[u8], output: &[u8]) -> Typed {
         .unwrap_or_else(|number| Typed { word: refused(number), output: output.to_vec() })
 }
 
-/// "Checks: 21 .. after 1 to 6 and before 7 to 14 for those bytes; 22, the output is too short, last."
+/// "Checks: 21 .. after 1 to 6 and before 7 to 14 for those bytes; 22, the output is too short, last." Since order 6 the
+/// catalogue's refusals are 1 to 6 and 23.
 fn accepted_typed(catalogue: &[u8], text: &[u8], output: &[u8]) -> Result<Typed, Number> {
     let catalogue = read_catalogue(catalogue)?;
     let question = read_typed(&catalogue, text)?;

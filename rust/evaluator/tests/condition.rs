@@ -4,11 +4,11 @@ use evaluator::{Answer, BLANK_NUMBER, Catalogue, Column, Condition, Test, fold, 
 use generator::{latin_1, plain_letter, twelve_kinds};
 
 fn years(numbers: &[u32]) -> Catalogue {
-    Catalogue { entries: numbers.len(), columns: vec![Column::Numbers(numbers.to_vec())] }
+    Catalogue::unmarked(numbers.len(), vec![Column::Numbers(numbers.to_vec())])
 }
 
 fn parishes(texts: &[&[u8]]) -> Catalogue {
-    Catalogue { entries: texts.len(), columns: vec![Column::Texts(texts.iter().map(|text| text.to_vec()).collect())] }
+    Catalogue::unmarked(texts.len(), vec![Column::Texts(texts.iter().map(|text| text.to_vec()).collect())])
 }
 
 /// The outcome at entry 0 of the condition with this kind and operand on column 0.
@@ -190,7 +190,7 @@ fn contains_as_rust_finds_it() {
 
 #[test]
 fn payloads_that_are_refused() {
-    let catalogue = Catalogue { entries: 0, columns: vec![Column::Numbers(vec![]), Column::Texts(vec![])] };
+    let catalogue = Catalogue::unmarked(0, vec![Column::Numbers(vec![]), Column::Texts(vec![])]);
     let refused = |payload: &[u8]| assert_eq!(read_condition(&catalogue, payload), Err(11), "{payload:?}");
     refused(&[]);
     refused(&[0]);
@@ -227,7 +227,7 @@ fn payloads_that_are_refused() {
 
 #[test]
 fn payloads_that_are_accepted() {
-    let catalogue = Catalogue { entries: 0, columns: vec![Column::Numbers(vec![]), Column::Texts(vec![])] };
+    let catalogue = Catalogue::unmarked(0, vec![Column::Numbers(vec![]), Column::Texts(vec![])]);
     let read = |payload: &[u8]| read_condition(&catalogue, payload).expect("a sound payload");
     let condition = |column, test, opposite| Condition { column, test, opposite };
     let (low, high) = (BLANK_NUMBER - 1, BLANK_NUMBER - 1);

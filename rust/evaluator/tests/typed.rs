@@ -122,7 +122,7 @@ fn misspelled_unless_spelled_so() {
     let mut misspelled = [0; Misspelling::ALL.len()];
     for seed in 0..8_000 {
         let mut rng = Rng::new(seed);
-        let made = Catalogue { entries: 0, columns: vec![Column::Numbers(vec![]), Column::Texts(vec![])] };
+        let made = Catalogue::unmarked(0, vec![Column::Numbers(vec![]), Column::Texts(vec![])]);
         let mut text = spelling(&typable_question(&mut rng, &made, 3)).expect("a typed form").into_bytes();
         let how = rng.below(misspelled.len());
         misspell(&mut rng, &mut text, Misspelling::ALL[how]);

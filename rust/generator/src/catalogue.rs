@@ -1,6 +1,6 @@
 use evaluator::{BLANK_NUMBER, Catalogue, Column};
 
-use crate::Rng;
+use crate::{Rng, mark};
 
 /// Parts of names, in ISO/IEC 8859-1. They share beginnings, ends and middles up to their case, so that conditions on
 /// texts made of them are met often enough.
@@ -35,14 +35,15 @@ pub fn catalogue(rng: &mut Rng) -> Catalogue {
 }
 
 /// A catalogue of `entries` and `columns`, each column of numbers or of texts. Of its values an eighth are blank, or more, or
-/// nearly all.
+/// nearly all. Some have a mark.
 pub fn catalogue_of(rng: &mut Rng, entries: usize, columns: usize) -> Catalogue {
     let mut blanked = || {
         let column = column(rng, entries);
         let percent = *rng.pick(&[0, 20, 50, 90]);
         with_blanks(column, |_| rng.chance(percent))
     };
-    Catalogue { entries, columns: (0..columns).map(|_| blanked()).collect() }
+    let columns = (0..columns).map(|_| blanked()).collect();
+    Catalogue { mark: mark(rng, entries), ..Catalogue::unmarked(entries, columns) }
 }
 
 /// The column, blank at these entries too.

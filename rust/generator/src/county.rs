@@ -31,8 +31,16 @@ pub fn county() -> (Catalogue, Question, Vec<u8>) {
         (0..2_048).map(|_| if rng.chance(12) { BLANK_NUMBER } else { rng.between(1_538, 1_911) as u32 }).collect();
     let mut rng = Rng::new(1_538);
     let parishes = (0..2_048).map(|_| if rng.chance(5) { Vec::new() } else { parish(&mut rng) }).collect();
-    let catalogue = Catalogue { entries: 2_048, columns: vec![Column::Numbers(years), Column::Texts(parishes)] };
+    let catalogue = Catalogue::unmarked(2_048, vec![Column::Numbers(years), Column::Texts(parishes)]);
     (catalogue, question(), vec![0, 4, 5, 8, 11, 10, 1, 2, 3, 6, 7, 9])
+}
+
+/// The same after about a tenth of the deeds were withdrawn.
+pub fn marked_county() -> (Catalogue, Question, Vec<u8>) {
+    let (catalogue, question, order) = county();
+    let mut rng = Rng::new(1_838);
+    let withdrawn = (0..catalogue.entries).map(|_| rng.chance(10)).collect();
+    (Catalogue { mark: Some(withdrawn), ..catalogue }, question, order)
 }
 
 fn parish(rng: &mut Rng) -> Vec<u8> {

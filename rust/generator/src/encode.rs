@@ -21,7 +21,15 @@ pub fn encode_catalogue(catalogue: &Catalogue) -> Vec<u8> {
             Column::Texts(texts) => field(84, &encode_texts(texts)),
         });
     }
+    if let Some(withdrawn) = &catalogue.mark {
+        bytes.extend(encode_mark(&encode_bits(withdrawn)));
+    }
     bytes
+}
+
+/// The bytes of a mark with this payload, sound or not.
+pub fn encode_mark(payload: &[u8]) -> Vec<u8> {
+    field(87, payload)
 }
 
 /// The slots of a text column.
@@ -34,6 +42,12 @@ pub fn encode_texts(texts: &[Vec<u8>]) -> Vec<u8> {
         bytes.extend(slot);
     }
     bytes
+}
+
+/// A row of bits, one for each entry.
+pub fn encode_bits(entries: &[bool]) -> Vec<u8> {
+    let byte = |eight: &[bool]| eight.iter().rev().fold(0, |byte, &bit| byte << 1 | u8::from(bit));
+    entries.chunks(8).map(byte).collect()
 }
 
 /// A question's bytes.

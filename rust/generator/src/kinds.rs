@@ -32,5 +32,5 @@ pub fn twelve_kinds() -> (Catalogue, [Kind; 12]) {
         let payload = [&[column, number], operand].concat();
         Kind { number, payload, answers }
     });
-    (Catalogue { entries: 3, columns: vec![years, parishes] }, kinds)
+    (Catalogue::unmarked(3, vec![years, parishes]), kinds)
 }

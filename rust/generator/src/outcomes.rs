@@ -109,5 +109,5 @@ pub fn with_outcomes(rng: &mut Rng, entries: usize, outcomes: &[Vec<bool>]) -> (
     let columns = numbers.into_iter().map(Column::Numbers).chain(texts.into_iter().map(Column::Texts));
     let columns =
         columns.zip(wanted).map(|(column, wanted)| with_blanks(column, |entry| !wanted[entry] && rng.chance(40)));
-    (Catalogue { entries, columns: columns.collect() }, conditions)
+    (Catalogue::unmarked(entries, columns.collect()), conditions)
 }

@@ -46,7 +46,7 @@ pub fn compare_condition(rng: &mut Rng, label: &str, column: Column, test: Test)
         let condition = Condition { column: 1, test: test.clone(), opposite };
         let pattern = *rng.pick(&Pattern::ALL);
         let gate = pattern.of(rng, size).into_iter().map(u32::from).collect();
-        let made = Catalogue { entries: size, columns: vec![Column::Numbers(gate), column.clone()] };
+        let made = Catalogue::unmarked(size, vec![Column::Numbers(gate), column.clone()]);
         let bare = Question { tree: Tree::Condition(0), conditions: vec![condition.clone()] };
         let ran = compare_both(rng, &format!("{label}, {condition:?}"), &made, &bare, &[0]);
         let gate = Condition { column: 0, test: Test::NumberFrom { low: 1, high: 1 }, opposite: rng.chance(50) };

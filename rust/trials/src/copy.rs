@@ -44,7 +44,7 @@ pub fn compare_copy(label: &str, given: &Copying) -> Copied {
         compare_outputs(label, given, &Copied { word, output: output.bytes().to_vec() }, &expected);
         let inputs = [catalogue, question, order].map(|input| input.bytes().to_vec());
         let unaltered = inputs.iter().zip(given.slices()).all(|(after, before)| after == before);
-        let unaltered = unaltered && lent.iter_mut().all(Lent::marks_stand);
+        let unaltered = unaltered && lent.iter_mut().all(Lent::margins_stand);
         assert!(unaltered, "{label}: the copy wrote to its inputs or beside its output\n{given}");
     }
     expected

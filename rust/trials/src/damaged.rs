@@ -1,4 +1,6 @@
-use generator::{Damage, Rng, catalogue_of, damage, encode_catalogue, faulty_question, running_order};
+use generator::{
+    Damage, MarkFault, Rng, catalogue_of, damage, encode_catalogue, faulty_mark, faulty_question, running_order,
+};
 
 /// A small catalogue, a question and a running order, as bytes, each of them damaged now and then.
 pub struct Damaged {
@@ -16,6 +18,10 @@ impl Damaged {
         let (entries, columns) = (rng.between(0, 10), rng.between(1, 4));
         let made = catalogue_of(rng, entries, columns);
         let mut catalogue = encode_catalogue(&made);
+        if rng.chance(4) {
+            let fault = *rng.pick(&MarkFault::ALL);
+            catalogue = faulty_mark(rng, &made, fault).unwrap_or(catalogue);
+        }
         let faults = *rng.pick(&[0, 0, 0, 5]);
         let mut question = faulty_question(rng, &made, faults);
         for (bytes, percent) in [(&mut catalogue, 8), (&mut question, 15)] {

@@ -7,8 +7,8 @@ use std::collections::HashSet;
 
 use evaluator::{question_word, read_catalogue, spelling};
 use generator::{
-    Damage, Misspelling, Rng, catalogue_of, damage, encode_catalogue, encode_question, field, misspell, question_of,
-    running_order,
+    Damage, MarkFault, Misspelling, Rng, catalogue_of, damage, encode_catalogue, encode_question, faulty_mark, field,
+    mark, misspell, question_of, running_order,
 };
 
 use searchroom::TYPED_BYTES;
@@ -24,7 +24,7 @@ const KEPT: usize = 4_000;
 const LONGEST: usize = 3_000;
 
 /// Bytes that mean something in some place.
-const TELLING: [u8; 20] = [0, 1, 2, 3, 4, 5, 7, 8, 22, 23, 24, 63, 64, 65, 67, 78, 79, 80, 84, 128];
+const TELLING: [u8; 21] = [0, 1, 2, 3, 4, 5, 7, 8, 22, 23, 24, 63, 64, 65, 67, 78, 79, 80, 84, 87, 128];
 
 /// What every call is made with.
 #[derive(Clone, Default)]
@@ -129,13 +129,14 @@ impl Fuzz {
     fn change(&mut self, Given { run: given, text }: &mut Given) {
         let rng = &mut self.rng;
         let Given { run: other, text: other_text } = rng.pick(&self.kept);
-        match rng.below(13) {
+        match rng.below(14) {
             0..3 => change_bytes(rng, &mut given.catalogue, &other.catalogue),
             3..6 => change_bytes(rng, &mut given.question, &other.question),
             6 => change_bytes(rng, &mut given.order, &other.order),
             7 => change_tables(rng, given),
             8 => given.catalogue.clone_from(&other.catalogue),
             9..12 => change_text(rng, text, other_text, &given.question),
+            12 => change_mark(rng, &mut given.catalogue),
             _ => {
                 // One group more round it, alone, beside another question, or beside a short condition.
                 let short = field(80, &[rng.below(3) as u8, rng.below(6) as u8, rng.byte()]);
@@ -179,6 +180,15 @@ fn change_bytes(rng: &mut Rng, bytes: &mut Vec<u8>, other: &[u8]) {
             damage(rng, bytes, how);
         }
     }
+}
+
+/// Gives an accepted catalogue another mark, or none, or a faulty one.
+fn change_mark(rng: &mut Rng, catalogue: &mut Vec<u8>) {
+    let Ok(mut read) = read_catalogue(catalogue) else { return };
+    read.mark = mark(rng, read.entries);
+    let fault = *rng.pick(&MarkFault::ALL);
+    let faulty = if rng.chance(20) { faulty_mark(rng, &read, fault) } else { None };
+    *catalogue = faulty.unwrap_or_else(|| encode_catalogue(&read));
 }
 
 /// Spoils a typed text, puts a group round it and another one, or takes that of the question if it has one.

@@ -1,7 +1,7 @@
-//! Bytes lent to the engine, with an unreadable page hard against one side and marked bytes on the other.
+//! Bytes lent to the engine, with an unreadable page hard against one side and a margin of known bytes on the other.
 //!
 //! A read or write past the guarded side is a memory fault, though the archive itself was built without any sanitizer.
-//! A write past the other side is found when the marks are looked at.
+//! A write past the other side is found when the margins are looked at.
 
 use std::cell::RefCell;
 use std::ffi::{c_int, c_void};
@@ -18,7 +18,8 @@ const PROT_READ_WRITE: c_int = 3;
 const MAP_PRIVATE_ANONYMOUS: c_int = 0x22;
 const PAGE: usize = 4_096;
 
-const MARK: u8 = 0xA5;
+/// What the margins are filled with.
+const MARGIN: u8 = 0xA5;
 
 /// The side of the bytes that lies against an unreadable page.
 #[derive(Clone, Copy, Debug)]
@@ -83,9 +84,9 @@ impl Lent {
         };
         let mut lent = Lent { pages, start, len: bytes.len() };
         let (before, inside, after) = lent.parts();
-        before.fill(MARK);
+        before.fill(MARGIN);
         inside.copy_from_slice(bytes);
-        after.fill(MARK);
+        after.fill(MARGIN);
         lent
     }
 
@@ -98,10 +99,10 @@ impl Lent {
         self.parts().1
     }
 
-    /// Are the marked bytes beside the lent ones as they were?
-    pub fn marks_stand(&mut self) -> bool {
+    /// Are the bytes beside the lent ones as they were?
+    pub fn margins_stand(&mut self) -> bool {
         let (before, _, after) = self.parts();
-        before.iter().chain(after.iter()).all(|&byte| byte == MARK)
+        before.iter().chain(after.iter()).all(|&byte| byte == MARGIN)
     }
 
     fn parts(&mut self) -> (&mut [u8], &mut [u8], &mut [u8]) {

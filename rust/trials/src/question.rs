@@ -28,7 +28,7 @@ fn read_only(label: &str, catalogue: &[u8], question: &[u8], expected: u64, call
         let input = || format!("catalogue: {}\nquestion: {}", hex(catalogue), hex(question));
         assert_eq!(word, expected, "{label}: the engine's word (left), the evaluator's (right)\n{}", input());
         let unaltered = lent[0].bytes() == catalogue && lent[1].bytes() == question;
-        let unaltered = unaltered && lent.iter_mut().all(Lent::marks_stand);
+        let unaltered = unaltered && lent.iter_mut().all(Lent::margins_stand);
         assert!(unaltered, "{label}: the call wrote to its inputs or beside them\n{}", input());
     }
 }

@@ -76,7 +76,7 @@ pub fn compare_run(label: &str, given: &Run) -> Ran {
         assert!(ran == expected, "{label}:\nthe engine gave {ran:?}\nthe evaluator {expected:?}\n{given}");
         let inputs = [catalogue, question, order].map(|input| input.bytes().to_vec());
         let unaltered = inputs.iter().zip(given.slices()).all(|(after, before)| after == before);
-        let unaltered = unaltered && lent.iter_mut().all(Lent::marks_stand);
+        let unaltered = unaltered && lent.iter_mut().all(Lent::margins_stand);
         assert!(unaltered, "{label}: the run wrote to its inputs or beside a table\n{given}");
     }
     expected

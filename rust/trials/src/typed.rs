@@ -3,7 +3,7 @@ use std::fmt;
 use evaluator::Typed;
 use searchroom::TYPED_BYTES;
 
-use crate::{Lent, Side, fault, hex};
+use crate::{FILL, Lent, Side, fault, hex};
 
 /// All that the reading of a typed question is given, the output as it is lent.
 #[derive(Clone, Copy, Debug)]
@@ -44,7 +44,7 @@ pub fn compare_typed(label: &str, given: &Typing) -> Typed {
             panic!("{label}: the engine's output is {engine}, the evaluator's {evaluator}\n{given}");
         }
         let unaltered = catalogue.bytes() == given.catalogue && text.bytes() == given.text;
-        let unaltered = unaltered && lent.iter_mut().all(Lent::marks_stand);
+        let unaltered = unaltered && lent.iter_mut().all(Lent::margins_stand);
         assert!(unaltered, "{label}: the call wrote to its inputs or beside its output\n{given}");
     }
     expected
@@ -54,7 +54,7 @@ pub fn compare_typed(label: &str, given: &Typing) -> Typed {
 pub fn compare_reading(catalogue: &[u8], text: impl AsRef<[u8]>) -> Result<Vec<u8>, u8> {
     let text = text.as_ref();
     let label = text[..text.len().min(100)].escape_ascii().to_string();
-    let typed = compare_typed(&label, &Typing { catalogue, text, output: &[0x5A; TYPED_BYTES] });
+    let typed = compare_typed(&label, &Typing { catalogue, text, output: &[FILL; TYPED_BYTES] });
     match typed.word as u8 {
         0 => Ok(typed.output[..(typed.word >> 40) as usize].to_vec()),
         number => Err(number),

@@ -5,7 +5,7 @@ use evaluator::{Catalogue, Column, Condition, Question, Test, Tree, pack, refuse
 use generator::{Rng, alike, encode_catalogue, encode_question, field, latin_1};
 use searchroom::{Answer, consult, copy_of, looks, outcome};
 use trials::{
-    Run, compare_condition, compare_copy, compare_outcome, compare_question, compare_reading, compare_run, fewer,
+    Run, compare_condition, compare_copy, compare_outcome, compare_question, compare_reading, compare_run, fewer, ones,
 };
 
 const KINDS: [fn(Vec<u8>) -> Test; 3] = [Test::Equals, Test::BeginsWith, Test::Contains];
@@ -40,7 +40,7 @@ const OTHERS: [&str; 7] = ["Ææ", "Ðð", "Øø", "Þþ", "×", "ß", "÷"];
 fn in_turn(names: &[impl AsRef<str>]) -> Catalogue {
     let entries = names.len() + 100;
     let texts = names.iter().cycle().take(entries).map(|name| latin_1(name.as_ref())).collect();
-    Catalogue { entries, columns: vec![Column::Texts(texts)] }
+    Catalogue::unmarked(entries, vec![Column::Texts(texts)])
 }
 
 /// The question of one condition on column 0.
@@ -163,10 +163,9 @@ fn two_conditions_that_differ_by_an_accent() {
         for order in [[0, 1], [1, 0]] {
             let (label, given) = (format!("{question:?} in order {order:?}"), Run::fitting(&made, &question, &order));
             let (looks, ran) = (105 + again, compare_run(&label, &given));
-            let ones = |row: &[u8]| row.iter().map(|byte| byte.count_ones() as usize).sum();
-            let of_each: Vec<usize> = ran.looks.chunks(14).map(ones).collect();
+            let of_each: Vec<u64> = ran.looks.chunks(14).map(ones).collect();
             assert_eq!(ran.word, pack(63, 0, looks), "{label}");
-            assert_eq!(order.map(|number| of_each[usize::from(number)]), [105, again], "{label}");
+            assert_eq!(order.map(|number| of_each[usize::from(number)]), [105, again as u64], "{label}");
             let copied = compare_copy(&label, &given.copying(&vec![0; 7 * looks]));
             assert_eq!(copied.word, pack(0, 0, 7 * looks), "{label}");
             assert_eq!(compare_question(&label, &given.catalogue, &given.question), pack(2, 0, 0), "{label}");
@@ -222,7 +221,7 @@ fn compare_at_each_place(rng: &mut Rng, operand: &[u8]) {
         let before = entry % places;
         [vec![b'.'; before], part, vec![b'.'; rng.below(places - before)]].concat()
     };
-    let made = Catalogue { entries: ENTRIES, columns: vec![Column::Texts((0..ENTRIES).map(text).collect())] };
+    let made = Catalogue::unmarked(ENTRIES, vec![Column::Texts((0..ENTRIES).map(text).collect())]);
     let [_, _, contains] = KINDS.map(|kind| {
         let given = Run::fitting(&made, &bare(kind(operand.to_vec())), &[0]);
         compare_run("at each place", &given).listed

@@ -47,7 +47,7 @@ fn entries_and_columns_at_their_limits() {
                 };
                 let columns = (0..columns).map(|_| column(&mut rng)).collect::<Vec<_>>();
                 let count = columns.len();
-                let word = compare_catalogue(&label, &encode_catalogue(&Catalogue { entries, columns }));
+                let word = compare_catalogue(&label, &encode_catalogue(&Catalogue::unmarked(entries, columns)));
                 let fits = entries <= 2_048 && (1..=16).contains(&count);
                 assert_eq!(word, if fits { pack(entries, count, 0) } else { refused(3) }, "{label}");
             }
@@ -165,24 +165,24 @@ fn stray_byte_anywhere_after_a_text() {
     }
 }
 
-/// In the largest catalogue, a stray byte in the very last slot, in the first, and one byte too many at the end.
+/// A stray byte in the very last slot, one byte too many at the end, and one too few.
 #[test]
-fn largest_catalogue() {
+fn most_columns_and_entries_without_a_mark() {
     let mut rng = Rng::new(2);
     let texts = (0..2_048).map(|_| generator::text(&mut rng)).collect::<Vec<_>>();
     let column = field(84, &encode_texts(&texts));
     let whole = [head(2_048, 16), column.repeat(16)].concat();
-    assert_eq!(compare_catalogue("largest", &whole), pack(2_048, 16, 0));
+    assert_eq!(compare_catalogue("most columns and entries", &whole), pack(2_048, 16, 0));
     let mut blank_end = whole.clone();
     let last_slot = whole.len() - 24;
     blank_end[last_slot..].fill(0);
     for at in 1..24 {
         blank_end[last_slot + at] = 1;
-        assert_eq!(compare_catalogue(&format!("largest, stray byte {at} in the last slot"), &blank_end), refused(5));
+        assert_eq!(compare_catalogue(&format!("stray byte {at} in the last slot"), &blank_end), refused(5));
         blank_end[last_slot + at] = 0;
     }
-    assert_eq!(compare_catalogue("largest and a byte", &[whole.as_slice(), &[0]].concat()), refused(6));
-    assert_eq!(compare_catalogue("largest, cut by a byte", &whole[..whole.len() - 1]), refused(1));
+    assert_eq!(compare_catalogue("most and a byte", &[whole.as_slice(), &[0]].concat()), refused(6));
+    assert_eq!(compare_catalogue("most, cut by a byte", &whole[..whole.len() - 1]), refused(1));
 }
 
 #[test]
@@ -211,6 +211,7 @@ fn damaged_catalogues_reach_every_refusal() {
         seen.count(compare_catalogue(&format!("damaged catalogue, seed {seed}"), &bytes));
     }
     seen.assert_each(0..=6, 100);
+    seen.assert_each(23..=23, 100);
 }
 
 #[test]

@@ -7,7 +7,9 @@ use evaluator::{Catalogue, Column, Condition, Question, Test, Tree, refused_regi
 use generator::{
     Rng, catalogue_of, encode_catalogue, encode_question, faulty_question, field, latin_1, question_of, running_order,
 };
-use trials::{ENTRIES_AT_ENDS, OUTSIDE_THE_CENTURY, PARISH_CATALOGUE, PARISH_ORDER, PARISH_QUESTION, Room, Seen};
+use trials::{
+    ENTRIES_AT_ENDS, OUTSIDE_THE_CENTURY, PARISH_CATALOGUE, PARISH_ORDER, PARISH_QUESTION, Room, Seen, marked_parish,
+};
 
 const FILES: [(&str, usize); 3] = [("catalogue.bin", 65_536), ("question.bin", 4_096), ("order.bin", 64)];
 
@@ -47,12 +49,23 @@ fn undated_entry_is_not_outside_the_century() {
 #[test]
 fn found_with_or_without_the_accent() {
     let names = ["Andre", "ANDRÉ", "Andrew", "André"].map(latin_1).to_vec();
-    let catalogue = encode_catalogue(&Catalogue { entries: 4, columns: vec![Column::Texts(names)] });
+    let catalogue = encode_catalogue(&Catalogue::unmarked(4, vec![Column::Texts(names)]));
     let expected = "consultation register\nfound 3\nentry 0\nentry 1\nentry 3\nlooks 4\ncondition 0 4\n";
     for name in ["andre", "André"].map(latin_1) {
         let question = field(80, &[&[0, 2], name.as_slice()].concat());
         assert_eq!(consult("accents", &catalogue, &question, &[0]), expected);
     }
+}
+
+/// A withdrawn entry is neither in the list nor in the looks.
+#[test]
+fn withdrawn_entry_is_not_in_the_register() {
+    let expected = "consultation register\nfound 1\nentry 2\nlooks 4\ncondition 0 2\ncondition 1 0\ncondition 2 2\n";
+    assert_eq!(consult("entry 0 withdrawn", &marked_parish(0b001), PARISH_QUESTION, PARISH_ORDER), expected);
+    let expected = "consultation register\nfound 0\nlooks 0\ncondition 0 0\ncondition 1 0\ncondition 2 0\n";
+    assert_eq!(consult("all withdrawn", &marked_parish(0b111), PARISH_QUESTION, PARISH_ORDER), expected);
+    let expected = include_str!("../../../examples/parish/expected");
+    assert_eq!(consult("none withdrawn", &marked_parish(0b000), PARISH_QUESTION, PARISH_ORDER), expected);
 }
 
 /// The tally starts at zero in each consultation, and none leaves anything behind.
@@ -73,13 +86,16 @@ fn each_refusal_that_files_can_cause() {
     let mut stray = c.to_vec();
     stray[95] = 1;
     type Case<'a> = (&'a [u8], &'a [u8], &'a [u8], u8);
-    let cases: [Case; 16] = [
+    let cases: [Case; 19] = [
         (b"", q, o, 1),
         (&field(66, &[0, 3, 2]), q, o, 2),
         (&field(67, &[8, 1, 1]), q, o, 3),
         (&[&c[..6], &field(79, &[0; 12])].concat(), q, o, 4),
         (&stray, q, o, 5),
         (&[c, &[0]].concat(), q, o, 6),
+        (&[c, &[87, 0, 1]].concat(), q, o, 1),
+        (&[c, &[87, 0, 1, 0b1000]].concat(), q, o, 23),
+        (&[c, &[87, 0, 1, 0b100, 0]].concat(), q, o, 6),
         (c, b"", o, 7),
         (c, &field(1, &[]), o, 8),
         (c, &field(65, &[]), o, 9),
@@ -138,28 +154,35 @@ fn files_at_their_limits_and_one_byte_over() {
     assert_eq!(room.consult(), refused_register(19), "19 comes before 1");
 }
 
-/// 655 entries in seven columns of numbers and three of texts fill 65,536 bytes.
+/// So many entries, in so many columns of numbers and so many of texts.
+fn catalogue_in(entries: usize, numbers: u32, texts: usize) -> Catalogue {
+    let numbers = (0..numbers).map(|c| Column::Numbers((0..entries as u32).map(|entry| entry % (c + 2)).collect()));
+    let text = |entry| vec![b'A' + (entry % 23) as u8; entry % 24];
+    let texts = (0..texts).map(|_| Column::Texts((0..entries).map(text).collect()));
+    Catalogue::unmarked(entries, numbers.chain(texts).collect())
+}
+
+/// 655 entries in seven columns of numbers and three of texts fill 65,536 bytes, and so do 654 in 13 and two with a mark.
 #[test]
 fn accepted_catalogue_of_exactly_65_536_bytes() {
     let mut rng = Rng::new(6);
-    let column = |c: u32| match c {
-        0..7 => Column::Numbers((0..655).map(|entry| entry % (c + 2)).collect()),
-        _ => Column::Texts((0..655).map(|entry| vec![b'A' + (entry % 23) as u8; entry % 24]).collect()),
-    };
-    let made = Catalogue { entries: 655, columns: (0..10).map(column).collect() };
-    let bytes = encode_catalogue(&made);
-    assert_eq!(bytes.len(), 65_536);
-    let asked = encode_question(&question_of(&mut rng, &made, 9, 3));
-    let order: Vec<u8> = (0..9).rev().collect();
-    assert!(consult("65,536 bytes", &bytes, &asked, &order).contains("\nfound "));
-    assert_eq!(Room::new(&[bytes, vec![0]].concat(), &asked, &order).consult(), refused_register(19));
+    let withdrawn = (0..654).map(|entry| entry % 3 == 1 || entry == 653).collect();
+    let marked = Catalogue { mark: Some(withdrawn), ..catalogue_in(654, 13, 2) };
+    for made in [catalogue_in(655, 7, 3), marked] {
+        let bytes = encode_catalogue(&made);
+        assert_eq!(bytes.len(), 65_536);
+        let asked = encode_question(&question_of(&mut rng, &made, 9, 3));
+        let order: Vec<u8> = (0..9).rev().collect();
+        assert!(consult("65,536 bytes", &bytes, &asked, &order).contains("\nfound "));
+        assert_eq!(Room::new(&[bytes, vec![0]].concat(), &asked, &order).consult(), refused_register(19));
+    }
 }
 
 /// 2,048 entries, all listed or none: the longest register that a file can cause.
 #[test]
 fn two_thousand_and_forty_eight_entries() {
     let texts = Column::Texts((0..2_048).map(|entry: usize| entry.to_string().into_bytes()).collect());
-    let made = Catalogue { entries: 2_048, columns: vec![Column::Numbers((0..2_048).collect()), texts] };
+    let made = Catalogue::unmarked(2_048, vec![Column::Numbers((0..2_048).collect()), texts]);
     let bytes = encode_catalogue(&made);
     let range = |low, opposite| Condition { column: 0, test: Test::NumberFrom { low, high: 9_999 }, opposite };
     for opposite in [false, true] {
@@ -193,13 +216,20 @@ fn no_entries() {
     assert_eq!(consult("P7", &nobody, &field(80, &[0, 1]), &[0]), expected);
 }
 
-/// 2,048 entries, twelve conditions three groups deep: `generator`'s second example.
+/// 2,048 entries, twelve conditions three groups deep: `generator`'s second example, without a mark and with one.
 #[test]
 fn county() {
-    let (catalogue, question, order) = generator::county();
-    let printed = consult("county", &encode_catalogue(&catalogue), &encode_question(&question), &order);
-    let looks: usize = printed.lines().find_map(|line| line.strip_prefix("looks ")).unwrap().parse().unwrap();
-    assert!(printed.lines().count() > 50 && looks < 12 * 2_048 / 2, "the example shows little:\n{printed}");
+    let [(_, all), (marked, found)] =
+        [generator::county(), generator::marked_county()].map(|(made, question, order)| {
+            let printed = consult("county", &encode_catalogue(&made), &encode_question(&question), &order);
+            let looks = numbers_after(&printed, "looks ")[0];
+            let most = order.len() * made.present();
+            assert!(printed.lines().count() > 50 && looks < most / 2, "the example shows little:\n{printed}");
+            (made, numbers_after(&printed, "entry "))
+        });
+    let present: Vec<usize> = all.iter().copied().filter(|&entry| !marked.is_withdrawn(entry)).collect();
+    assert_eq!(found, present);
+    assert!(found.len() < all.len(), "no deed that was found is withdrawn");
 }
 
 #[test]
@@ -245,7 +275,7 @@ fn counts_of_random_consultations() {
                 ["found ", "entry ", "looks ", "condition "].map(|word| numbers_after(&printed, word));
             assert_eq!((found, looks), (vec![entries.len()], vec![conditions.iter().sum()]), "{label}");
             assert_eq!(conditions.len(), count, "{label}");
-            skipped += size * count - conditions.iter().sum::<usize>();
+            skipped += made.present() * count - conditions.iter().sum::<usize>();
         }
     }
     assert!(skipped > 50_000, "{skipped} looks skipped");
@@ -255,7 +285,7 @@ fn counts_of_random_consultations() {
 #[test]
 fn counts_where_every_look_is_due() {
     for size in ENTRIES_AT_ENDS {
-        let made = Catalogue { entries: size, columns: vec![Column::Numbers((0..size as u32).collect())] };
+        let made = Catalogue::unmarked(size, vec![Column::Numbers((0..size as u32).collect())]);
         for count in [1, 7, 8, 20, 64] {
             for met in [true, false] {
                 let range = |above| Test::NumberFrom { low: 0, high: 2_048 + above as u32 };

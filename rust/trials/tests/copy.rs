@@ -8,10 +8,9 @@ use generator::{
 };
 use searchroom::{Answer, COPY_BYTES, Look, Refusal, consult, copy, copy_of, looks, outcome};
 use trials::{
-    Copying, Damaged, PARISH_CATALOGUE, PARISH_ORDER, PARISH_QUESTION, Run, Seen, compare_copy, fewer, seeds,
+    Copying, Damaged, FILL, PARISH_CATALOGUE, PARISH_ORDER, PARISH_QUESTION, Run, Seen, compare_copy, fewer,
+    marked_parish, seeds, sizes,
 };
-
-const FILL: u8 = 0x5A;
 
 /// The parish's looks in the order 0, 1, 2, worked by hand: at 1701 "Ash", at 1822 "ASHBY", at the blanks.
 const PARISH_FIELDS: [[u8; 7]; 6] = [
@@ -149,6 +148,7 @@ fn earlier_of_two_refusals_decides() {
     let bad = Copying { order: &[0, 1, 1], output: &[], ..short };
     expect(14, &Copying { question: &[question, &[0]].concat(), ..bad });
     expect(7, &Copying { question: &[80], ..bad });
+    expect(23, &Copying { catalogue: &marked_parish(0b1000), question: &[80], ..bad });
     expect(6, &Copying { catalogue: &[catalogue, &[0]].concat(), question: &[80], ..bad });
     expect(1, &Copying { catalogue: &[], question: &[], order: &[], output: &[] });
 }
@@ -196,7 +196,7 @@ fn condition_and_its_opposite() {
 #[test]
 fn most_looks_that_there_can_be() {
     let numbers = Column::Numbers((0..2_048).map(|entry| entry % 7).collect());
-    let made = Catalogue { entries: 2_048, columns: vec![numbers] };
+    let made = Catalogue::unmarked(2_048, vec![numbers]);
     let range = |number: u32| match number {
         0..32 => (0, 6 + number),
         32..63 => (7, number),
@@ -217,8 +217,7 @@ fn most_looks_that_there_can_be() {
 
 #[test]
 fn sizes_around_multiples_of_64() {
-    let sizes = [1, 7, 8, 9, 63, 64, 65, 127, 128, 129, 255, 256, 257, 2_047, 2_048];
-    for size in sizes.into_iter().filter(|&size| size < 2_000 || !fewer()) {
+    for size in sizes([1, 7, 8, 9, 63, 64, 65, 127, 128, 129, 255, 256, 257, 2_047, 2_048]) {
         for count in [1, 6, 13] {
             let mut rng = Rng::new((100 * size + count) as u64);
             let made = catalogue_of(&mut rng, size, 3);
@@ -283,4 +282,5 @@ fn random_and_damaged_copies_reach_every_refusal() {
     let times = if fewer() { 1 } else { 10 };
     seen.assert_each(0..=15, times);
     seen.assert_each(20..=20, times);
+    seen.assert_each(23..=23, times);
 }

@@ -11,7 +11,7 @@ use trials::PARISH_CATALOGUE;
 const HEADER: &str = include_str!("../../../include/searchroom.h");
 
 /// A constant of the header and the crates' constant that it repeats.
-const SAME: [(&str, &str); 29] = [
+const SAME: [(&str, &str); 30] = [
     ("MAX_ENTRIES", "Row::LIMIT"),
     ("MAX_COLUMNS", "Column::LIMIT"),
     ("MAX_TEXT", "Text::LIMIT"),
@@ -25,7 +25,7 @@ const SAME: [(&str, &str); 29] = [
     ("CATALOGUE_LIMITS", "Refusal::COUNTS_OUT_OF_RANGE"),
     ("COLUMN_FORM", "Refusal::NOT_COLUMN"),
     ("TEXT_SLOT", "Refusal::BAD_SLOT"),
-    ("CATALOGUE_LEFT_OVER", "Refusal::BYTES_AFTER_COLUMNS"),
+    ("CATALOGUE_LEFT_OVER", "Refusal::BYTES_LEFT_OVER"),
     ("QUESTION_FIELD", "Refusal::MEMBER_CUT"),
     ("UNKNOWN_TAG", "Refusal::UNKNOWN_TAG"),
     ("EMPTY_GROUP", "Refusal::EMPTY_GROUP"),
@@ -41,6 +41,7 @@ const SAME: [(&str, &str); 29] = [
     ("SHORT_OUTPUT", "Refusal::OUTPUT_TOO_SHORT"),
     ("MISSPELLED", "Refusal::TEXT_MISSPELLED"),
     ("SHORT_TYPED_OUTPUT", "Refusal::TYPED_OUTPUT_TOO_SHORT"),
+    ("BAD_MARK", "Refusal::BAD_MARK"),
 ];
 
 /// Refusal 19 is the program's, and no call of the library gives it.
@@ -91,12 +92,17 @@ fn header_has_the_constants_of_the_crates() {
     let mut expected: Constants = SAME.iter().map(|&(name, same)| (name.to_string(), of[same])).collect();
     let row = of["Row::LIMIT"].div_ceil(8);
     expected.insert("ACCEPTED".to_string(), 0);
+    expected.insert("MARK_BYTES".to_string(), row);
     expected.insert("LISTED_BYTES".to_string(), row);
     expected.insert("LOOKS_BYTES".to_string(), row * of["Predicate::LIMIT"]);
     let most_looks = of["Row::LIMIT"] * of["Predicate::LIMIT"];
     expected.insert("COPY_BYTES".to_string(), of["ProbeField::SIZE"] * most_looks);
-    // Each condition as long as can be, in groups of its own down to the deepest, all in the outermost.
+    // The first field, text columns alone, and the mark.
     let head = of["Header::SIZE"];
+    let column = head + of["Row::LIMIT"] * of["Text::SLOT_SIZE"];
+    let catalogue = head + of["FirstField::SIZE"] + of["Column::LIMIT"] * column + head + row;
+    expected.insert("CATALOGUE_BYTES".to_string(), catalogue);
+    // Each condition as long as can be, in groups of its own down to the deepest, all in the outermost.
     let condition = head + of["Payload::HEAD"] + of["Text::LIMIT"];
     let groups = head * (of["Group::DEPTH_LIMIT"] - 1);
     expected.insert("TYPED_BYTES".to_string(), head + of["Predicate::LIMIT"] * (groups + condition));

@@ -3,7 +3,7 @@
 use evaluator::{Catalogue, Column, Condition, Question, Test, Tree, outcome, pack, refused};
 use generator::{Damage, Rng, catalogue_of, damage, encode_catalogue, encode_question, field, question, twelve_kinds};
 use searchroom::{Answer, Refusal};
-use trials::{PARISH_CATALOGUE, PARISH_QUESTION, Seen, compare_outcome};
+use trials::{PARISH_CATALOGUE, PARISH_QUESTION, Seen, compare_outcome, marked_parish};
 
 const NO: u64 = 0;
 const YES: u64 = 1 << 8;
@@ -15,7 +15,7 @@ fn one_column(column: Column) -> Catalogue {
         Column::Numbers(numbers) => numbers.len(),
         Column::Texts(texts) => texts.len(),
     };
-    Catalogue { entries, columns: vec![column] }
+    Catalogue::unmarked(entries, vec![column])
 }
 
 /// A question of one condition on column 0.
@@ -99,6 +99,7 @@ fn last_entry_and_last_condition() {
 fn earlier_refusals_come_before_18() {
     let far = u64::MAX;
     assert_eq!(compare_outcome("no catalogue", b"", PARISH_QUESTION, far, far), refused(1));
+    assert_eq!(compare_outcome("stray bit in the mark", &marked_parish(0b1000), b"", far, far), refused(23));
     assert_eq!(compare_outcome("no question", PARISH_CATALOGUE, b"", far, far), refused(7));
     let over = [PARISH_QUESTION, &[0]].concat();
     assert_eq!(compare_outcome("bytes left over", PARISH_CATALOGUE, &over, far, far), refused(14));
@@ -228,5 +229,6 @@ fn random_calls_reach_every_refusal() {
     }
     seen.assert_each(0..=14, 20);
     seen.assert_each(18..=18, 20);
+    seen.assert_each(23..=23, 20);
     assert!(yes > 1_000 && blank > 1_000, "{yes} calls answered yes, {blank} blank");
 }

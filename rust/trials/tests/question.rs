@@ -6,7 +6,7 @@ use generator::{
     question_of,
 };
 use searchroom::{Refusal, check_question};
-use trials::{PARISH_CATALOGUE, PARISH_QUESTION, Seen, compare_question};
+use trials::{PARISH_CATALOGUE, PARISH_QUESTION, Seen, compare_question, marked_parish};
 
 /// A condition on the parish's years: from `low` to `high`.
 fn years(low: u32, high: u32) -> Vec<u8> {
@@ -215,6 +215,7 @@ fn catalogue_comes_first() {
         assert_eq!(compare_question("9 entries short", &[67, 0, 3, 0, 9, 1, 78, 0, 0], question), refused(4));
         let over = [PARISH_CATALOGUE, &[0]].concat();
         assert_eq!(compare_question("bytes left over", &over, question), refused(6));
+        assert_eq!(compare_question("stray bit in the mark", &marked_parish(0b1000), question), refused(23));
     }
 }
 
@@ -223,7 +224,7 @@ fn last_of_sixteen_columns() {
     let columns = [Column::Numbers(vec![]), Column::Texts(vec![])];
     for count in [1, 2, 15, 16] {
         let columns = columns.iter().cycle().take(count).cloned().collect::<Vec<_>>();
-        let catalogue = encode_catalogue(&Catalogue { entries: 0, columns });
+        let catalogue = encode_catalogue(&Catalogue::unmarked(0, columns));
         for column in 0..=17 {
             for kind in [1, 5] {
                 let fits = column < count && (kind == 1) == (column % 2 == 0);
@@ -297,6 +298,7 @@ fn faulty_and_damaged_inputs_reach_every_refusal() {
         seen.count(compare_question(&format!("faulty question, seed {seed}"), &catalogue, &question));
     }
     seen.assert_each(0..=14, 30);
+    seen.assert_each(23..=23, 30);
 }
 
 /// A damaged catalogue may still be accepted with other columns: the question is then read against those.

@@ -5,7 +5,10 @@ use generator::{
     Rng, catalogue, catalogue_of, encode_catalogue, field, question, question_of, running_order, twelve_kinds,
 };
 use searchroom::{Refusal, consult};
-use trials::{Damaged, OUTSIDE_THE_CENTURY, PARISH_CATALOGUE, PARISH_ORDER, PARISH_QUESTION, Run, Seen, compare_run};
+use trials::{
+    Damaged, OUTSIDE_THE_CENTURY, PARISH_CATALOGUE, PARISH_ORDER, PARISH_QUESTION, Run, Seen, compare_run,
+    marked_parish,
+};
 
 fn parish(order: &[u8]) -> Run {
     Run {
@@ -22,7 +25,7 @@ fn parish(order: &[u8]) -> Run {
 fn every_pattern(count: usize) -> (Catalogue, Vec<Condition>) {
     let column = |c: usize| Column::Numbers((0..1_u32 << count).map(|entry| entry >> c & 1).collect());
     let condition = |column| Condition { column, test: Test::NumberFrom { low: 1, high: 1 }, opposite: false };
-    let catalogue = Catalogue { entries: 1 << count, columns: (0..count).map(column).collect() };
+    let catalogue = Catalogue::unmarked(1 << count, (0..count).map(column).collect());
     (catalogue, (0..count).map(condition).collect())
 }
 
@@ -90,7 +93,7 @@ fn condition_and_its_opposite() {
 /// P7: with no entry, any accepted question finds 0 with 0 looks, in tables of no bytes, whatever the tally.
 #[test]
 fn proved_case_7_no_entries() {
-    let nobody = Catalogue { entries: 0, columns: vec![Column::Numbers(vec![])] };
+    let nobody = Catalogue::unmarked(0, vec![Column::Numbers(vec![])]);
     for (count, depth) in [(1, 1), (1, 8), (5, 2), (64, 8)] {
         let mut rng = Rng::new(count as u64);
         let asked = question_of(&mut rng, &nobody, count, depth);
@@ -239,6 +242,8 @@ fn earlier_of_two_refusals_decides() {
     assert_eq!(compare_run("7 before 15", &worse).word, refused(7));
     worse.catalogue.push(0);
     assert_eq!(compare_run("6 before 7", &worse).word, refused(6));
+    worse.catalogue = marked_parish(0b1000);
+    assert_eq!(compare_run("23 before 7", &worse).word, refused(23));
     worse.catalogue.clear();
     assert_eq!(compare_run("1 before all", &worse).word, refused(1));
     assert_eq!(compare_run("nothing at all", &Run::default()).word, refused(1));
@@ -305,7 +310,7 @@ fn mistakes_of_a_good_clerk() {
         }
     }
     // Year before 1700 and year after 1800 are unconnected: after one yes the other is still due.
-    let years = Catalogue { entries: 3, columns: vec![Column::Numbers(vec![1_650, 1_750, 1_850])] };
+    let years = Catalogue::unmarked(3, vec![Column::Numbers(vec![1_650, 1_750, 1_850])]);
     let before = Condition { column: 0, test: Test::NumberFrom { low: 0, high: 1_699 }, opposite: false };
     let after = Condition { column: 0, test: Test::NumberFrom { low: 1_801, high: 9_999 }, opposite: false };
     let asked = Question { tree: all(vec![leaf(0), leaf(1)]), conditions: vec![before, after] };
@@ -334,7 +339,7 @@ fn eight_nested_groups() {
 #[test]
 fn largest_run() {
     let numbers = Column::Numbers((0..2_048).map(|entry| entry % 7).collect());
-    let made = Catalogue { entries: 2_048, columns: vec![numbers] };
+    let made = Catalogue::unmarked(2_048, vec![numbers]);
     let condition = |low| Condition { column: 0, test: Test::NumberFrom { low, high: 9_000 }, opposite: low > 0 };
     let conditions: Vec<Condition> = (0..64).map(|n| condition(if n == 0 { 0 } else { 6 + n })).collect();
     let asked = Question { tree: Tree::AllOf((0..64).map(Tree::Condition).collect()), conditions };
@@ -388,7 +393,7 @@ fn random_runs_are_accepted() {
         let ran = compare_run(&format!("random run, seed {seed}"), &Run::fitting(&made, &asked, &order));
         assert_eq!(ran.word as u8, 0, "seed {seed}");
         listed += ran.word >> 8 & 0xFFFF;
-        skipped += (made.entries * count) as u64 - (ran.word >> 40);
+        skipped += (made.present() * count) as u64 - (ran.word >> 40);
     }
     assert!(listed > 10_000 && skipped > 10_000, "{listed} entries listed, {skipped} looks skipped");
 }
@@ -416,4 +421,5 @@ fn random_and_damaged_runs_reach_every_refusal() {
         seen.count(compare_run(&format!("seed {seed}"), &given).word);
     }
     seen.assert_each(0..=17, 10);
+    seen.assert_each(23..=23, 10);
 }

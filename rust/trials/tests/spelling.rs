@@ -158,7 +158,7 @@ fn parish_text_cut_and_with_any_byte_changed_or_removed() {
 /// Numbers and texts in turn.
 fn columns(count: usize) -> Vec<u8> {
     let column = |column| if column % 2 == 0 { Column::Numbers(vec![]) } else { Column::Texts(vec![]) };
-    encode_catalogue(&Catalogue { entries: 0, columns: (0..count).map(column).collect() })
+    encode_catalogue(&Catalogue::unmarked(0, (0..count).map(column).collect()))
 }
 
 /// A blank takes its kind from the column. Every number of a column is spelled well, and refused later if there is no such

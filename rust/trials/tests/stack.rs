@@ -76,10 +76,11 @@ extern "C" fn every_call(given: *mut c_void) -> *mut c_void {
     ptr::null_mut()
 }
 
-/// Eight groups deep, with 64 conditions on numbers and on texts, over 2,048 entries.
+/// Eight groups deep, with 64 conditions on numbers and on texts, over 2,048 entries of which none is withdrawn.
 fn largest() -> Given {
     let texts = vec![(1..=23).collect(); 2_048];
-    let made = Catalogue { entries: 2_048, columns: vec![Column::Numbers((0..2_048).collect()), Column::Texts(texts)] };
+    let columns = vec![Column::Numbers((0..2_048).collect()), Column::Texts(texts)];
+    let made = Catalogue { entries: 2_048, columns, mark: Some(vec![false; 2_048]) };
     let condition = |number: u8| {
         let on_number = Test::NumberFrom { low: number.into(), high: 2_000 };
         let (column, test) = if number % 2 == 0 { (0, on_number) } else { (1, Test::Contains(vec![number])) };

@@ -8,11 +8,9 @@ use generator::{
 };
 use searchroom::{MAX_TYPED, Refusal, TYPED_BYTES, check_question, consult, typed, typed_question};
 use trials::{
-    PARISH_CATALOGUE, PARISH_ORDER, PARISH_QUESTION, PARISH_TEXT, Seen, Typing, compare_reading, compare_typed, fewer,
-    seeds,
+    FILL, PARISH_CATALOGUE, PARISH_ORDER, PARISH_QUESTION, PARISH_TEXT, Seen, Typing, compare_reading, compare_typed,
+    fewer, marked_parish, seeds,
 };
-
-const FILL: u8 = 0x5A;
 
 /// Reads a text on the parish's columns into so many bytes, by the engine and by the evaluator: the word and the output.
 fn into_bytes(text: &str, length: usize) -> (u64, Vec<u8>) {
@@ -161,7 +159,7 @@ fn catalogue_comes_first() {
     let mut slot = PARISH_CATALOGUE.to_vec();
     slot[95] = 1;
     let over = [PARISH_CATALOGUE, &[0]].concat();
-    let catalogues: [(u8, &[u8]); 7] = [
+    let catalogues: [(u8, &[u8]); 8] = [
         (1, b""),
         (1, cut),
         (2, &[66, 0, 3, 0, 0, 1, 78, 0, 0]),
@@ -169,6 +167,7 @@ fn catalogue_comes_first() {
         (4, &[67, 0, 3, 0, 9, 1, 78, 0, 0]),
         (5, &slot),
         (6, &over),
+        (23, &marked_parish(0b1000)),
     ];
     let texts = ["", PARISH_TEXT, "c2 blank", "all(", &"all(".repeat(5_000), &nested(9, "c0 blank")];
     for (number, catalogue) in catalogues {
@@ -193,7 +192,7 @@ fn blank_on_other_columns() {
         (vec![numbers], Err(11)),
         (vec![texts], Err(11)),
     ] {
-        let catalogue = encode_catalogue(&Catalogue { entries: 0, columns });
+        let catalogue = encode_catalogue(&Catalogue::unmarked(0, columns));
         let expected = expected.map(|[a, b]| field(65, &[field(80, &[0, a]), field(80, &[1, b])].concat()));
         assert_eq!(compare_reading(&catalogue, "all(c0 blank,not c1 blank)"), expected);
     }
@@ -280,7 +279,7 @@ fn most_conditions_of_a_text() {
 fn longest_accepted_text() {
     let text = longest_accepted();
     assert_eq!((text.len(), TYPED_BYTES), (7_812, 3_139));
-    let catalogue = encode_catalogue(&Catalogue { entries: 0, columns: vec![Column::Texts(vec![]); 16] });
+    let catalogue = encode_catalogue(&Catalogue::unmarked(0, vec![Column::Texts(vec![]); 16]));
     let read = compare_reading(&catalogue, &text).expect("an accepted text");
     assert_eq!((read.len(), check_question(&catalogue, &read)), (TYPED_BYTES, Ok(64)));
     assert_eq!(spelling(&read).as_ref(), Some(&text));
@@ -342,7 +341,7 @@ fn random_and_damaged_inputs_reach_every_refusal() {
         let mut catalogue = encode_catalogue(&made);
         let faults = *rng.pick(&[0, 0, 3, 10]);
         let mut text = spelling(&typable_question(&mut rng, &made, faults)).expect("a typed form").into_bytes();
-        if rng.chance(8) {
+        if rng.chance(20) {
             let how = *rng.pick(&Damage::ALL);
             damage(&mut rng, &mut catalogue, how);
         }
@@ -363,7 +362,7 @@ fn random_and_damaged_inputs_reach_every_refusal() {
         seen.count(word);
     }
     let times = if fewer() { 1 } else { 10 };
-    for numbers in [0..=6, 10..=13, 21..=22] {
+    for numbers in [0..=6, 10..=13, 21..=23] {
         seen.assert_each(numbers, times);
     }
 }
