@@ -25,12 +25,16 @@ void give_back(uint8_t *lent, size_t len);
 /* The bytes of a file, which must be there; the caller frees them. */
 uint8_t *read_file(const char *path, size_t *len);
 
-/* The cases of each call. */
+/* Expects the fields that a copy of the parish in the order 0, 1, 2 has for these entries, given as a row of bits. */
+void expect_parish_fields(uint8_t entries, const uint8_t *fields);
+
+/* The cases of each call, and those of the mark. */
 void catalogue_cases(void);
 void question_cases(void);
 void run_cases(void);
 void blocks_cases(void);
 void copy_cases(void);
 void typed_cases(void);
+void withdrawn_cases(void);
 
 #endif

@@ -58,21 +58,26 @@ static void each_refusal(void)
     EXPECT_EQ(searchroom_columns(check(left_over, sizeof left_over - 1)), 1);
 }
 
-static void largest_catalogue(void)
+/* Without a mark, and with the mark that makes a catalogue the largest. */
+static void most_columns_and_entries(void)
 {
-    enum { column = 3 + 24 * SEARCHROOM_MAX_ENTRIES, size = 6 + SEARCHROOM_MAX_COLUMNS * column };
-    uint8_t *bytes = calloc(size, 1);
+    enum { column = 3 + 24 * SEARCHROOM_MAX_ENTRIES, unmarked = 6 + SEARCHROOM_MAX_COLUMNS * column };
+    static const size_t lengths[] = {unmarked, SEARCHROOM_CATALOGUE_BYTES};
+    uint8_t *bytes = calloc(SEARCHROOM_CATALOGUE_BYTES, 1);
     if (bytes == NULL)
         abort();
     memcpy(bytes, (const uint8_t[]){67, 0, 3, 0x08, 0x00, SEARCHROOM_MAX_COLUMNS}, 6);
     for (size_t c = 0; c < SEARCHROOM_MAX_COLUMNS; c++)
         memcpy(bytes + 6 + c * column, (const uint8_t[]){84, 0xC0, 0x00}, 3);
-    uint64_t word = check(bytes, size);
-    EXPECT_EQ(searchroom_refusal(word), SEARCHROOM_ACCEPTED);
-    EXPECT_EQ(searchroom_entries(word), SEARCHROOM_MAX_ENTRIES);
-    EXPECT_EQ(searchroom_columns(word), SEARCHROOM_MAX_COLUMNS);
-    bytes[size - 1] = 1;
-    EXPECT_EQ(check(bytes, size), SEARCHROOM_TEXT_SLOT);
+    memcpy(bytes + unmarked, (const uint8_t[]){87, 0x01, 0x00}, 3);
+    for (size_t i = 0; i < 2; i++) {
+        uint64_t word = check(bytes, lengths[i]);
+        EXPECT_EQ(searchroom_refusal(word), SEARCHROOM_ACCEPTED);
+        EXPECT_EQ(searchroom_entries(word), SEARCHROOM_MAX_ENTRIES);
+        EXPECT_EQ(searchroom_columns(word), SEARCHROOM_MAX_COLUMNS);
+    }
+    bytes[unmarked - 1] = 1;
+    EXPECT_EQ(check(bytes, unmarked), SEARCHROOM_TEXT_SLOT);
     free(bytes);
 }
 
@@ -88,7 +93,7 @@ static void packed_word_is_taken_apart(void)
 static void every_refusal_has_a_text(void)
 {
     enum { program_alone = 19 };
-    for (unsigned number = SEARCHROOM_ACCEPTED; number <= SEARCHROOM_SHORT_TYPED_OUTPUT; number++)
+    for (unsigned number = SEARCHROOM_ACCEPTED; number <= SEARCHROOM_BAD_MARK; number++)
         if (number != program_alone)
             EXPECT(strcmp(searchroom_refusal_text(number), searchroom_refusal_text(255)) != 0);
 }
@@ -98,7 +103,7 @@ void catalogue_cases(void)
     CASE(parish_is_accepted);
     CASE(parish_cut_is_refused);
     CASE(each_refusal);
-    CASE(largest_catalogue);
+    CASE(most_columns_and_entries);
     CASE(packed_word_is_taken_apart);
     CASE(every_refusal_has_a_text);
 }

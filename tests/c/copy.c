@@ -60,18 +60,26 @@ static int are_pair(const uint8_t *fields, const uint8_t *pair)
            (memcmp(fields, pair + FIELD, FIELD) == 0 && memcmp(fields + FIELD, pair, FIELD) == 0);
 }
 
-static void parish_copied(void)
+void expect_parish_fields(uint8_t entries, const uint8_t *fields)
 {
     static const uint8_t pairs[][2 * FIELD] = {
         {76, 0, 4, 0, 0, 0, 1, 76, 0, 4, 0, 0, 1, 1}, /* 1701 is in the century, "Ash" begins with "ash" */
         {76, 0, 4, 0, 1, 0, 0, 76, 0, 4, 0, 1, 2, 0}, /* 1822 is not, and is no blank */
         {76, 0, 4, 0, 2, 0, 2, 76, 0, 4, 0, 2, 2, 1}, /* the blank: neither in the century nor outside it */
     };
+    for (unsigned entry = 0; entry < 3; entry++)
+        if (searchroom_bit(&entries, entry)) {
+            EXPECT(are_pair(fields, pairs[entry]));
+            fields += 2 * FIELD;
+        }
+}
+
+static void parish_copied(void)
+{
     static const size_t lengths[] = {PARISH, PARISH + 1, PARISH + FIELD, SEARCHROOM_COPY_BYTES};
     for (size_t i = 0; i < sizeof lengths / sizeof *lengths; i++) {
         expect_accepted(copy(forward, sizeof forward, lengths[i]), PARISH);
-        for (size_t entry = 0; entry < 3; entry++)
-            EXPECT(are_pair(output + 2 * FIELD * entry, pairs[entry]));
+        expect_parish_fields(7, output);
     }
 }
 

@@ -69,6 +69,7 @@ int main(void)
     blocks_cases();
     copy_cases();
     typed_cases();
+    withdrawn_cases();
     printf("%u passed, %u failed\n", passed, failed);
     return failed == 0 ? 0 : 1;
 }
