@@ -1,5 +1,5 @@
 use evaluator::{Catalogue, Column, Condition, Question, Test, Tree};
-use generator::{Rng, column, encode_catalogue, encode_question, question_of, running_order};
+use generator::{Rng, column, county, encode_catalogue, encode_question, question_of, running_order};
 use searchroom::Counts;
 
 /// A catalogue and a question with its running order, as bytes.
@@ -18,12 +18,27 @@ impl Asked {
     /// The engine's run, into tables that stay the same from run to run.
     pub fn engine(&self) -> impl FnMut() -> Counts {
         let (mut listed, mut looks) = ([0; 256], [0; 16_384]);
-        move || {
-            let mut tally = [0; 8];
-            searchroom::run(&self.catalogue, &self.question, &self.order, &mut listed, &mut looks, &mut tally)
-                .expect("the benchmark's questions are accepted")
-        }
+        move || self.run(&mut listed, &mut looks)
     }
+
+    /// The listed table of the engine's run.
+    pub fn listed(&self) -> [u8; 256] {
+        let mut listed = [0; 256];
+        self.run(&mut listed, &mut [0; 16_384]);
+        listed
+    }
+
+    fn run(&self, listed: &mut [u8], looks: &mut [u8]) -> Counts {
+        searchroom::run(&self.catalogue, &self.question, &self.order, listed, looks, &mut [0; 8])
+            .expect("the benchmark's questions are accepted")
+    }
+}
+
+/// The county's 2,048 deeds and its question of twelve conditions, with these deeds withdrawn.
+pub fn county_with(mark: Option<Vec<bool>>) -> Asked {
+    let (catalogue, question, order) = county();
+    let catalogue = Catalogue { mark, ..catalogue };
+    Asked { catalogue: encode_catalogue(&catalogue), question: encode_question(&question), order }
 }
 
 /// Six columns, numbers and texts in turn, an eighth of their values blank.
@@ -35,7 +50,7 @@ pub fn mixed(rng: &mut Rng, entries: usize) -> Catalogue {
             columns.push(column);
         }
     }
-    Catalogue { entries, columns }
+    Catalogue::unmarked(entries, columns)
 }
 
 /// Questions of one to 64 conditions over a catalogue, with the number of their conditions and how deep their groups may be.

@@ -1,8 +1,8 @@
 use evaluator::{Catalogue, Column, Condition, Question, Test, Tree};
-use generator::Rng;
+use generator::{Pattern, Rng};
 use searchroom::{COPY_BYTES, Look, copy_of, looks};
 
-use crate::asked::{Asked, at_each_depth, mixed};
+use crate::asked::{Asked, at_each_depth, county_with, mixed};
 use crate::places;
 use crate::plain;
 use crate::table::Table;
@@ -29,6 +29,8 @@ pub fn report(table: &mut Table) {
     }
     // No condition is passed and each is cheap, so that most of the work is writing, which both have to do.
     rows(table, "copy, conditions: 64, every look", None, &every_look(&mut rng));
+    let half = Pattern::Half.of(&mut rng, 2_048);
+    rows(table, "copy, county, half withdrawn, scattered", TO_PLAIN, &county_with(Some(half)));
 }
 
 fn rows(table: &mut Table, what: &str, to_plain: Option<f64>, asked: &Asked) {
@@ -53,7 +55,7 @@ fn by_condition(copy: &[u8]) -> (usize, Vec<Look>) {
 
 /// All of 64 ranges in which every number lies.
 fn every_look(rng: &mut Rng) -> Asked {
-    let made = Catalogue { entries: 2_048, columns: vec![Column::Numbers((0..2_048).collect())] };
+    let made = Catalogue::unmarked(2_048, vec![Column::Numbers((0..2_048).collect())]);
     let within = |high| Condition { column: 0, test: Test::NumberFrom { low: 0, high }, opposite: false };
     let conditions = (2_048..2_112).map(within).collect();
     Asked::new(rng, &made, &Question { tree: Tree::AllOf((0..64).map(Tree::Condition).collect()), conditions })

@@ -45,7 +45,7 @@ pub fn report() {
 /// All of eight ranges, each on a column of its own and met at so many entries of a hundred.
 fn ranges(rng: &mut Rng, percent: u32) -> Asked {
     let mut column = || Column::Numbers((0..2_048).map(|_| rng.below(100) as u32).collect());
-    let made = Catalogue { entries: 2_048, columns: (0..8).map(|_| column()).collect() };
+    let made = Catalogue::unmarked(2_048, (0..8).map(|_| column()).collect());
     let test = Test::NumberFrom { low: 0, high: percent - 1 };
     let conditions = (0..8).map(|column| Condition { column, test: test.clone(), opposite: false }).collect();
     Asked::new(rng, &made, &Question { tree: Tree::AllOf((0..8).map(Tree::Condition).collect()), conditions })

@@ -11,7 +11,7 @@ pub fn catalogue(rng: &mut Rng) -> Catalogue {
         0 => Column::Numbers((0..2_048).map(|_| if rng.chance(10) { BLANK_NUMBER } else { year(rng) }).collect()),
         _ => Column::Texts((0..2_048).map(|_| if rng.chance(10) { Vec::new() } else { place(rng) }).collect()),
     };
-    Catalogue { entries: 2_048, columns: (0..4).map(|c| column(rng, c)).collect() }
+    Catalogue::unmarked(2_048, (0..4).map(|c| column(rng, c)).collect())
 }
 
 fn year(rng: &mut Rng) -> u32 {

@@ -8,7 +8,7 @@ use crate::table::Table;
 /// is the question's.
 pub fn report(table: &mut Table) {
     let mut rng = Rng::new(3);
-    let made = Catalogue { entries: 8, columns: (0..6).map(|_| column(&mut rng, 8)).collect() };
+    let made = Catalogue::unmarked(8, (0..6).map(|_| column(&mut rng, 8)).collect());
     let catalogue = encode_catalogue(&made);
     for (count, depth) in [(1, 1), (6, 3), (20, 3), (64, 1), (64, 8)] {
         let asked: Question = question_of(&mut rng, &made, count, depth);

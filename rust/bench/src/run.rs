@@ -1,7 +1,7 @@
 use evaluator::{Condition, Question, Test, Tree};
-use generator::{Rng, question_of};
+use generator::{Pattern, Rng, question_of};
 
-use crate::asked::{Asked, at_each_depth, mixed, settled_early};
+use crate::asked::{Asked, at_each_depth, county_with, mixed, settled_early};
 use crate::plain;
 use crate::table::Table;
 
@@ -36,14 +36,35 @@ pub fn report(table: &mut Table) {
         let asked = Asked::new(&mut rng, &made, &question);
         against_plain(table, &format!("run, 12 conditions, {entries} entries"), aim, &asked);
     }
+    withdrawn(table, &mut rng);
+}
+
+/// The county's run where some entries are withdrawn: half of them must make it faster.
+fn withdrawn(table: &mut Table, rng: &mut Rng) {
+    let none = county_with(None);
+    against_plain(table, "run, county, none withdrawn", AT_2048, &none);
+    let quarter = (0..2_048).map(|_| rng.chance(25)).collect();
+    let half = Pattern::Half.of(rng, 2_048);
+    let first_half = (0..2_048).map(|entry| entry < 1_024).collect();
+    for (what, aim, mark) in [
+        ("a quarter withdrawn, scattered", None, quarter),
+        ("half withdrawn, scattered", Some(1.0), half),
+        ("first half withdrawn", Some(1.0), first_half),
+    ] {
+        let (what, with) = (format!("run, county, {what}"), county_with(Some(mark)));
+        against_plain(table, &what, AT_2048, &with);
+        table.row(&what, "the same, none withdrawn", aim, with.engine(), none.engine());
+    }
 }
 
 fn against_plain(table: &mut Table, what: &str, aim: Option<f64>, asked: &Asked) {
-    let (mut first, mut second) = ([0; 256], [0; 256]);
-    let mut every = || plain::run_every_outcome(&asked.catalogue, &asked.question, &asked.order, &mut first).ok();
-    let mut in_order = || plain::run_in_tree_order(&asked.catalogue, &asked.question, &asked.order, &mut second).ok();
+    let Asked { catalogue, question, order } = asked;
+    let [mut first, mut second] = [[0; 256]; 2];
+    let mut every = || plain::run_every_outcome(catalogue, question, order, &mut first).ok();
+    let mut in_order = || plain::run_in_tree_order(catalogue, question, order, &mut second).ok();
     let found = Some(asked.engine()().found.into());
-    assert!(found == every() && found == in_order(), "{what}: the engines differ");
+    assert!(found == every() && found == in_order(), "{what}: the counts differ");
     table.row(what, "plain Rust, every outcome", aim, asked.engine(), every);
     table.row(what, "plain Rust, in tree order", None, asked.engine(), in_order);
+    assert!([first, second] == [asked.listed(); 2], "{what}: the listed entries differ");
 }

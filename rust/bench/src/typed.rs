@@ -12,13 +12,13 @@ const TO_PLAIN: Option<f64> = Some(1.0);
 /// the text's.
 pub fn report(table: &mut Table) {
     let mut rng = Rng::new(7);
-    let made = Catalogue { entries: 8, columns: (0..6).map(|_| column(&mut rng, 8)).collect() };
+    let made = Catalogue::unmarked(8, (0..6).map(|_| column(&mut rng, 8)).collect());
     for (count, depth) in [(1, 1), (6, 3), (20, 3), (64, 1), (64, 8)] {
         let asked: Question = question_of(&mut rng, &made, count, depth);
         let text = spelling(&encode_question(&asked)).expect("a typed form");
         row(table, &format!("typed, conditions: {count}, depth up to {depth}"), &made, &text);
     }
-    let texts = Catalogue { entries: 0, columns: vec![Column::Texts(vec![]); 16] };
+    let texts = Catalogue::unmarked(0, vec![Column::Texts(vec![]); 16]);
     row(table, "typed, the longest text that is accepted", &texts, &longest_accepted());
     // The second condition is refused, but only once the whole text is read.
     let ranges = vec!["c0 in 1700..1799"; 963].join(",");

@@ -1,7 +1,16 @@
-/// A catalogue that was checked, its columns still in its bytes.
+/// A catalogue that was checked, its columns and its mark still in its bytes.
 pub struct Catalogue<'a> {
     pub entries: usize,
     pub columns: Vec<Column<'a>>,
+    /// Empty where there is none.
+    mark: &'a [u8],
+}
+
+impl Catalogue<'_> {
+    /// Is an entry still in the house?
+    pub fn is_present(&self, entry: usize) -> bool {
+        self.mark.is_empty() || self.mark[entry / 8] >> (entry % 8) & 1 == 0
+    }
 }
 
 #[derive(Clone, Copy)]
@@ -36,7 +45,22 @@ pub fn check_catalogue(catalogue: &[u8]) -> Result<Catalogue<'_>, u8> {
         });
         rest = after;
     }
-    if rest.is_empty() { Ok(Catalogue { entries, columns }) } else { Err(6) }
+    Ok(Catalogue { entries, columns, mark: read_mark(rest, entries)? })
+}
+
+/// The bytes of the mark, if there is one after the last column.
+fn read_mark(after_columns: &[u8], entries: usize) -> Result<&[u8], u8> {
+    match after_columns.first() {
+        None => return Ok(&[]),
+        Some(87) => {}
+        Some(_) => return Err(6),
+    }
+    let (_, mark, rest) = field(after_columns).ok_or(1)?;
+    let has_stray_bit = || entries % 8 != 0 && mark[entries / 8] >> (entries % 8) != 0;
+    if mark.len() != entries.div_ceil(8) || has_stray_bit() {
+        return Err(23);
+    }
+    if rest.is_empty() { Ok(mark) } else { Err(6) }
 }
 
 /// The tag and payload of the field at the front, and what follows it.

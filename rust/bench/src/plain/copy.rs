@@ -3,15 +3,15 @@ use searchroom::Answer;
 use super::question::{Question, Tree};
 use super::run::checked;
 
-/// Checks as a copy does, works out every condition at every entry, and writes a field for each look that is due, an entry's
-/// looks in the running order.
+/// Checks as a copy does, works out every condition at every entry still in the house, and writes a field for each look that is
+/// due, an entry's looks in the running order.
 pub fn copy_every_outcome(catalogue: &[u8], question: &[u8], order: &[u8], output: &mut [u8]) -> Result<usize, u8> {
     let (catalogue, question) = checked(catalogue, question, order)?;
     let groups = Groups::of(&question);
     let mut answers = [Answer::No; 64];
     let mut open = groups.members.clone();
     let mut fields = Vec::with_capacity(7 * catalogue.entries * order.len());
-    for entry in 0..catalogue.entries {
+    for entry in (0..catalogue.entries).filter(|&entry| catalogue.is_present(entry)) {
         for (answer, condition) in answers.iter_mut().zip(&question.conditions) {
             *answer = condition.answer(entry);
         }

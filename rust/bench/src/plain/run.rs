@@ -1,8 +1,8 @@
 use super::catalogue::{Catalogue, check_catalogue};
 use super::question::{Question, read_question};
 
-/// Checks as a run does, works out every condition at every entry, and then the tree. It lists; it registers no looks,
-/// which would only cost it more.
+/// Checks as a run does, works out every condition at every entry still in the house, and then the tree. It lists; it registers
+/// no looks, which would only cost it more.
 pub fn run_every_outcome(catalogue: &[u8], question: &[u8], order: &[u8], listed: &mut [u8]) -> Result<u32, u8> {
     let (catalogue, question) = checked(catalogue, question, order)?;
     let mut outcomes = [false; 64];
@@ -38,7 +38,7 @@ pub fn checked<'a>(catalogue: &'a [u8], question: &'a [u8], order: &[u8]) -> Res
     Ok((catalogue, question))
 }
 
-/// Fills the listed table, if it is long enough, and counts its ones.
+/// Fills the listed table, if it is long enough, and counts its ones. Withdrawn entries are not asked for.
 fn list(catalogue: &Catalogue, listed: &mut [u8], mut is_listed: impl FnMut(usize) -> bool) -> Result<u32, u8> {
     if listed.len() < catalogue.entries.div_ceil(8) {
         return Err(16);
@@ -47,7 +47,7 @@ fn list(catalogue: &Catalogue, listed: &mut [u8], mut is_listed: impl FnMut(usiz
     for (byte, first) in listed.iter_mut().zip((0..catalogue.entries).step_by(8)) {
         *byte = 0;
         for entry in first..catalogue.entries.min(first + 8) {
-            *byte |= u8::from(is_listed(entry)) << (entry - first);
+            *byte |= u8::from(catalogue.is_present(entry) && is_listed(entry)) << (entry - first);
         }
         found += byte.count_ones();
     }
