@@ -2,9 +2,8 @@
 #include <searchroom.h>
 #include <stdio.h>
 
-/* The largest catalogue: 16 text columns of 2,048 entries. One byte more shows that a file is longer. */
-enum { LARGEST = 6 + SEARCHROOM_MAX_COLUMNS * (3 + 24 * SEARCHROOM_MAX_ENTRIES) };
-static uint8_t catalogue[LARGEST + 1];
+/* The largest catalogue, and a byte that shows that there is more. */
+static uint8_t catalogue[SEARCHROOM_CATALOGUE_BYTES + 1];
 
 int main(int argc, char **argv)
 {

@@ -24,7 +24,7 @@ static File read_file(const char *folder, const char *name)
         fprintf(stderr, "%s: the folder's name is too long\n", folder);
         exit(2);
     }
-    enum { most = 1 << 20 }; /* more than the largest catalogue, which has 786,486 bytes */
+    enum { most = SEARCHROOM_CATALOGUE_BYTES + 1 }; /* the largest catalogue, and a byte that shows that there is more */
     FILE *stream = fopen(path, "rb");
     File file = {malloc(most), 0};
     if (stream == NULL || file.bytes == NULL) {
@@ -60,6 +60,39 @@ static unsigned ones(const uint8_t *row, unsigned entries)
     return count;
 }
 
+/* The number of withdrawn entries of an accepted catalogue: the ones of the mark, if one follows the last column. */
+static unsigned withdrawn(File catalogue, unsigned entries, unsigned columns)
+{
+    enum { head = 3 };
+    size_t at = head + 3; /* after the first field */
+    for (unsigned c = 0; c < columns; c++)
+        at += head + catalogue.bytes[at + 1] * 256u + catalogue.bytes[at + 2];
+    return at == catalogue.len ? 0 : ones(catalogue.bytes + at + head, entries);
+}
+
+/* Prints the number of entries and columns, and of withdrawn entries if there are any. */
+static void print_size(unsigned entries, unsigned columns, unsigned present)
+{
+    printf("%u entries in %u columns", entries, columns);
+    if (present < entries)
+        printf(", %u withdrawn", entries - present);
+    printf("\n");
+}
+
+/* Prints the listed entries of a run, and at how many entries each condition was looked at. */
+static void print_run(uint64_t ran, unsigned entries, unsigned present, unsigned conditions,
+                      const uint8_t *listed, const uint8_t *looks)
+{
+    printf("%u found:", searchroom_found(ran));
+    for (unsigned e = 0; e < entries; e++)
+        if (searchroom_bit(listed, e))
+            printf(" %u", e);
+    printf("\n%u looks instead of %u:\n", (unsigned)searchroom_look_count(ran), present * conditions);
+    size_t row = searchroom_row_bytes(entries);
+    for (unsigned c = 0; c < conditions; c++)
+        printf("  condition %u at %u entries\n", c, ones(looks + c * row, entries));
+}
+
 /* Prints the looks of a copy, a line for each entry. How the looks of one entry follow each other is left open, so they are
    gathered first and printed by condition number. */
 static void print_copy(const uint8_t *copy, size_t len)
@@ -92,8 +125,9 @@ int main(int argc, char **argv)
     File order = read_file(argv[1], "order.bin");
 
     uint64_t size = accepted("catalogue", searchroom_check_catalogue(catalogue.bytes, catalogue.len));
-    unsigned entries = searchroom_entries(size);
-    printf("%u entries in %u columns\n", entries, searchroom_columns(size));
+    unsigned entries = searchroom_entries(size), columns = searchroom_columns(size);
+    unsigned present = entries - withdrawn(catalogue, entries, columns);
+    print_size(entries, columns, present);
 
     uint64_t asked = accepted("question", searchroom_check_question(catalogue.bytes, catalogue.len,
                                                                     question.bytes, question.len));
@@ -104,15 +138,7 @@ int main(int argc, char **argv)
     uint64_t ran = accepted("run", searchroom_run(catalogue.bytes, catalogue.len, question.bytes, question.len,
                                                   order.bytes, order.len, listed, sizeof listed, looks, sizeof looks,
                                                   tally, sizeof tally));
-
-    printf("%u found:", searchroom_found(ran));
-    for (unsigned e = 0; e < entries; e++)
-        if (searchroom_bit(listed, e))
-            printf(" %u", e);
-    printf("\n%u looks instead of %u:\n", (unsigned)searchroom_look_count(ran), entries * conditions);
-    size_t row = searchroom_row_bytes(entries);
-    for (unsigned c = 0; c < conditions; c++)
-        printf("  condition %u at %u entries\n", c, ones(looks + c * row, entries));
+    print_run(ran, entries, present, conditions, listed, looks);
 
     static uint8_t copy[SEARCHROOM_COPY_BYTES];
     uint64_t copied = accepted("copy", searchroom_copy(catalogue.bytes, catalogue.len, question.bytes, question.len,
