@@ -81,6 +81,18 @@ has-binary b zero d = has-none d ∙ sym (ap (λ (x : Bool). x && b d) (ltb-no d
 has-binary b (suc n) d =
     digit-has n (binary b n) (b n) d (binary-lt b n) ∙ ap (λ (x : Bool). x || (b n && eqb d n)) (has-binary b n d) ∙ below-more b n d
 
+-- the converse of `has-high`: a number of n bits that has none from k on is below 2 ^ k
+pub below-high : (n x k : ℕ) → x < 2 ^ n → k ≤ n → ((d : ℕ) → k ≤ d → d < n → has x d ≡ false) → x < 2 ^ k
+below-high n x k l few h = rw same (binary-lt (has x) k)
+  where
+    bits : (d : ℕ) → (ltb d k ≡ true) ⊎ (ltb d k ≡ false) → (ltb d n ≡ true) ⊎ (ltb d n ≡ false) → has x d ≡ (ltb d k && has x d)
+    bits d (inl y) z = rw y
+    bits d (inr y) (inl z) = rw y (h d (ltb-le d k y) (ltb-lt d n z))
+    bits d (inr y) (inr z) = rw y (has-high n x d l (ltb-le d n z))
+
+    same : x ≡ binary (has x) k
+    same = same-set n x (binary (has x) k) l (lt-of-lt-of-le (binary-lt (has x) k) (pow-mono few)) (λ d. bits d (which (ltb d k)) (which (ltb d n)) ∙ sym (has-binary (has x) k d))
+
 ones-binary : (b : ℕ → Bool) (n : ℕ) → ones (binary b n) ≡ countOf b n
 unfolding sumOf
 ones-binary b zero = ones-zero

@@ -15,7 +15,7 @@ use Rattle.strategy.specs.Live.{Live, Step, inSpan, without, meets, through}
 use Rattle.strategy.specs.LiveLaws.{inSpan-yes, inSpan-of, inSpan-no, meets-gives, meets-yes, meets-no, through-settles, through-asks, through-stopped}
 use Rattle.strategy.specs.Propagation.{Ancestor}
 use Rattle.sets.specs.Set.{has, setMinus}
-use Rattle.sets.specs.SetLaws.{has-and, has-or, has-none, minus-has}
+use Rattle.sets.specs.SetLaws.{has-and, has-or, has-none, minus-has, minus-and}
 use Rattle.blocks.specs.Block.{rowLive, rowStep, TakenOut, SettledRows, Passed}
 
 -- THE LOOP OVER THE WORDS OF A GROUP
@@ -87,13 +87,7 @@ pub settled-any : (k : Bool) (active met : ℕ) → k ≡ true → SettledRows k
 settled-any k active met e d = rw e (has-and active met d)
 
 pub settled-all : (k : Bool) (active met r : ℕ) → k ≡ false → r ≡ setMinus active met → SettledRows k active met r
-settled-all k active met r e f d = rw (e, f) (minus-has active met d ∙ bits (has active d) (has met d))
-  where
-    bits : (p v : Bool) → cond v false p ≡ (p && not v)
-    bits true true = refl
-    bits true false = refl
-    bits false true = refl
-    bits false false = refl
+settled-all k active met r e f d = rw (e, f) (minus-and active met d)
 
 -- ONE GROUP, AT EVERY ROW
 

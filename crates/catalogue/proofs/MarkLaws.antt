@@ -1,15 +1,15 @@
 -- The withdrawal mark: its stray bits, what its reader finds, and its bytes there and back.
 use Prim.Native.Nat.{ℕ, _+_, _-_, _*_, _/_, _%_, _^_, _≤_, _<_}
-use native.Mathlib.Nat.{mod-lt, one-mul, lt-of-lt-of-le}
+use native.Mathlib.Nat.{mod-lt, one-mul}
 use native.Mathlib.Omega.{arith}
 use mathlib.Core.Path.{_≡_, refl, sym, ap, _∙_}
 use mathlib.Core.Bool.{Bool, true, false, not, _&&_, cond}
 use mathlib.Core.Logic.{_⊎_, inl, inr}
 use mathlib.Core.List.{List, [], _++_, append-nil}
 use lib.ListN.{length, getD, take, drop, length-drop, drop-of-length-le, List·getD-eq-default}
-use lib.Seq.{take-all, take-length}
+use lib.Seq.{take-length}
 use lib.Dec.{leb, eqb, ltb, lit<}
-use lib.Pow.{shl-exact, pow-mono}
+use lib.Pow.{shl-exact}
 use borrow.Author.Tests.{eq-eqb, ne-eqb, eqb-true, leb-false, lt-leb}
 use Rattle.fields.specs.declared.header.Header.{Header}
 use Rattle.fields.specs.declared.header.Header.the-variants.{Cut, Field}
@@ -17,13 +17,14 @@ use Rattle.fields.specs.Decoded.{Decoded, refused, accepted}
 use Rattle.fields.specs.Numbers.{bytesOf, Bytes}
 use Rattle.fields.specs.Header.{headerAt, headerSize, fieldOf}
 use Rattle.fields.proofs.ByteLaws.{bytes-drop}
+use Rattle.fields.proofs.Parts.{part-rest}
 use Rattle.fields.proofs.FieldLaws.{HeaderIs, header-is, field-written, first-read, payload-read, field-inside, header-read}
 use Rattle.bools.specs.Bools.{which, ltb-lt, ltb-le}
 use Rattle.sets.specs.Set.{has}
-use Rattle.sets.specs.SetLaws.{has-none, same-set}
+use Rattle.sets.specs.SetLaws.{has-none}
 use Rattle.bitmaps.specs.Bit.{bit}
-use Rattle.bitmaps.specs.Bitmap.{bytesFor, binary}
-use Rattle.bitmaps.specs.BitLaws.{bit-at, bit-past, has-high, has-binary, binary-lt}
+use Rattle.bitmaps.specs.Bitmap.{bytesFor}
+use Rattle.bitmaps.specs.BitLaws.{bit-at, bit-past, has-high, below-high}
 use Rattle.catalogue.specs.declared.mark.MarkField.{MarkField}
 use Rattle.catalogue.specs.declared.mark.MarkField.the-variants.{Refused, Absent, Marked}
 use Rattle.catalogue.specs.Format.{markTag, rowLimit, bytesLeftOver, badMark}
@@ -48,18 +49,6 @@ stray-last m rows =
     let s : 1 * 2 ^ (rows % 8) % 2 ^ 8 ≡ 2 ^ (rows % 8) = shl-exact {a = 1} 1 (rows % 8) 8 (lit< tt) (omega arith) ∙ one-mul (2 ^ (rows % 8)) in
     ap (λ (x : ℕ). leb x (getD m (rows / 8) 0)) s
 
--- a byte without a bit from k on is below 2 ^ k
-byte-below : (x k : ℕ) → x < 256 → k ≤ 8 → ((d : ℕ) → k ≤ d → d < 8 → has x d ≡ false) → x < 2 ^ k
-byte-below x k l few h = rw same (binary-lt (has x) k)
-  where
-    bits : (d : ℕ) → (ltb d k ≡ true) ⊎ (ltb d k ≡ false) → (ltb d 8 ≡ true) ⊎ (ltb d 8 ≡ false) → has x d ≡ (ltb d k && has x d)
-    bits d (inl y) z = rw y
-    bits d (inr y) (inl z) = rw y (h d (ltb-le d k y) (ltb-lt d 8 z))
-    bits d (inr y) (inr z) = rw y (has-high 8 x d l (ltb-le d 8 z))
-
-    same : x ≡ binary (has x) k
-    same = same-set 8 x (binary (has x) k) l (lt-of-lt-of-le (binary-lt (has x) k) (pow-mono few)) (λ d. bits d (which (ltb d k)) (which (ltb d 8)) ∙ sym (has-binary (has x) k d))
-
 module _ (m : List ℕ) (rows : ℕ) where
   pub stray-unused : length m ≡ bytesFor rows → strayBit m rows ≡ false → (k : ℕ) → rows ≤ k → bit m k ≡ false
   unfolding strayBit
@@ -83,7 +72,7 @@ module _ (m : List ℕ) (rows : ℕ) where
   pub unused-stray : FormedBits rows m → strayBit m rows ≡ false
   unfolding strayBit
   unused-stray f =
-      lt-leb _ _ (byte-below (getD m (rows / 8) 0) (rows % 8) (f .bytes (rows / 8)) (omega arith)
+      lt-leb _ _ (below-high 8 (getD m (rows / 8) 0) (rows % 8) (f .bytes (rows / 8)) (omega arith)
       (λ d l k. sym (bit-at m (rows / 8) d k) ∙ f .unused (rows / 8 * 8 + d) (omega arith)))
 
 -- WITHDRAWN ROWS
@@ -142,9 +131,6 @@ module _ (b : List ℕ) (bytes : Bytes b) (rows at : ℕ) where
   field-is (Field tag start stop) s t =
       go (eqb (stop - start) (bytesFor rows)) refl (strayBit (take (stop - start) (drop start b)) rows) refl (eqb stop (length b)) refl
     where
-      whole : take (length b - start) (drop start b) ≡ drop start b
-      whole = take-all (length b - start) (drop start b) (omega (arith, length-drop start b))
-
       go : (x : Bool) → eqb (stop - start) (bytesFor rows) ≡ x → (y : Bool) → strayBit (take (stop - start) (drop start b)) rows ≡ y → (z : Bool) → eqb stop (length b) ≡ z
           → MarkIs (cond (x && not y) (cond z (Marked start) (Refused bytesLeftOver)) (Refused badMark))
       go false e y f z g = tt
@@ -154,7 +140,7 @@ module _ (b : List ℕ) (bytes : Bytes b) (rows at : ℕ) where
           let p : stop ≡ length b = eqb-true _ _ g in
           let n : stop - start ≡ bytesFor rows = eqb-true _ _ e in
           let size : length (drop start b) ≡ bytesFor rows = rw length-drop (omega arith) in
-          let stray : strayBit (drop start b) rows ≡ false = rw (p, whole) at f in
+          let stray : strayBit (drop start b) rows ≡ false = rw (p, part-rest b start) at f in
           let none : drop stop b ≡ [] = drop-of-length-le b {i = stop} (omega arith) in
           let k : markTag ≡ tag = sym t ∙ s .tagged in
           let w : drop at b ≡ fieldOf tag (drop start b) ++ drop stop b =

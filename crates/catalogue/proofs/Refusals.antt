@@ -17,22 +17,25 @@ use Rattle.catalogue.specs.declared.column.ColumnField.the-variants as c
 use Rattle.catalogue.specs.declared.first.First.{First}
 use Rattle.catalogue.specs.declared.first.First.the-variants as first
 use Rattle.catalogue.specs.declared.mark.MarkField.the-variants as mark
-use Rattle.catalogue.specs.Catalogue.{Column, Mark, Catalogue}
 use Rattle.catalogue.specs.Format.{firstTag, firstSize, numberTag, numberSize, textTag, markTag, rowLimit, columnLimit, notCatalogue, countsOutOfRange, notColumn, badSlot, bytesLeftOver, badMark}
 use Rattle.slots.specs.Slots.{slotSize, validSlots}
 use Rattle.bitmaps.specs.Bitmap.{bytesFor}
 use Rattle.catalogue.specs.Mark.{strayBit, markFieldOf, markFieldAt, markOf}
-use Rattle.catalogue.specs.Decode.{countsAt, firstFieldOf, columnOf, Columns, columnBefore, columnThen, columnsAt, catalogueOf, firstThen, decodeCatalogue}
+use Rattle.catalogue.specs.Decode.{countsAt, firstFieldOf, columnOf, Columns, columnThen, columnsAt, catalogueOf, firstThen, decodeCatalogue}
 
-abbrev Refusal : ℕ → Type 0
-Refusal e = ((1 ≤ e) × (e ≤ 6)) ⊎ (e ≡ 23)
+abbrev pub CatalogueRefusal : ℕ → Type 0
+CatalogueRefusal e = ((1 ≤ e) × (e ≤ 6)) ⊎ (e ≡ 23)
 
 abbrev Refusing : {A : Type 0} → Decoded A → Type 0
-Refusing (refused e) = Refusal e
+Refusing (refused e) = CatalogueRefusal e
 Refusing (accepted x) = Unit {0}
 
+mapped-refusing : {A B : Type 0} (f : A → B) (d : Decoded A) → Refusing d → Refusing (mapped f d)
+mapped-refusing f (refused e) s = s
+mapped-refusing f (accepted x) s = tt
+
 abbrev ColumnSound : ColumnField → Type 0
-ColumnSound (column.Refused e) = Refusal e
+ColumnSound (column.Refused e) = CatalogueRefusal e
 ColumnSound (column.Numbers start end) = Unit {0}
 ColumnSound (column.Texts start end) = Unit {0}
 
@@ -54,14 +57,10 @@ columns-refusing b rows zero at = tt
 columns-refusing b rows (suc n) at =
     go (columnOf b rows (headerAt b at (length b))) (column-sound b rows (headerAt b at (length b))) (λ next. columns-refusing b rows n next)
   where
-    before : (c : Column) (d : Decoded Columns) → Refusing d → Refusing (mapped (columnBefore c) d)
-    before c (refused e) s = s
-    before c (accepted cs) s = tt
-
     go : (f : ColumnField) → ColumnSound f → ((next : ℕ) → Refusing (columnsAt b rows n next)) → Refusing (columnThen b rows f (λ next. columnsAt b rows n next))
     go (column.Refused e) s ih = s
-    go (column.Numbers start end) s ih = before _ (columnsAt b rows n end) (ih end)
-    go (column.Texts start end) s ih = before _ (columnsAt b rows n end) (ih end)
+    go (column.Numbers start end) s ih = mapped-refusing _ (columnsAt b rows n end) (ih end)
+    go (column.Texts start end) s ih = mapped-refusing _ (columnsAt b rows n end) (ih end)
 
 mark-refusing : (b : List ℕ) (rows at : ℕ) → Refusing (markOf b (markFieldAt b rows at))
 unfolding markFieldAt markFieldOf
@@ -86,13 +85,9 @@ catalogue-refusing : (b : List ℕ) → Refusing (decodeCatalogue b)
 unfolding decodeCatalogue firstFieldOf countsAt
 catalogue-refusing b = go (headerAt b 0 (length b))
   where
-    with-mark : (f : Mark → Catalogue) (d : Decoded Mark) → Refusing d → Refusing (mapped f d)
-    with-mark f (refused e) s = s
-    with-mark f (accepted m) s = tt
-
     columns-then : (rows : ℕ) (d : Decoded Columns) → Refusing d → Refusing (andThen d (catalogueOf b rows))
     columns-then rows (refused e) s = s
-    columns-then rows (accepted c) s = with-mark _ (markOf b (markFieldAt b rows (c .end))) (mark-refusing b rows (c .end))
+    columns-then rows (accepted c) s = mapped-refusing _ (markOf b (markFieldAt b rows (c .end))) (mark-refusing b rows (c .end))
 
     counts : (rows n next : ℕ) (x : Bool) → Refusing (firstThen b (cond x (first.Counts rows n next) (first.Refused countsOutOfRange)))
     counts rows n next true = columns-then rows (columnsAt b rows n next) (columns-refusing b rows n next)
@@ -110,5 +105,5 @@ catalogue-refusing b = go (headerAt b 0 (length b))
         tagged (eqb tag firstTag && eqb (end - start) firstSize) (countsAt rows n end)
         (counts rows n end (leb rows rowLimit && (leb 1 n && leb n columnLimit)))
 
-pub catalogue-refusal : (b : List ℕ) (e : ℕ) → decodeCatalogue b ≡ refused e → ((1 ≤ e) × (e ≤ 6)) ⊎ (e ≡ 23)
+pub catalogue-refusal : (b : List ℕ) (e : ℕ) → decodeCatalogue b ≡ refused e → CatalogueRefusal e
 catalogue-refusal b e h = rw h at (catalogue-refusing b)

@@ -19,9 +19,11 @@ pub record Catalogue : Type 0 where
   pub columns : List Column
   pub mark : Mark
 
+-- the same catalogue with another mark
 abbrev pub withMark : Catalogue → Mark → Catalogue
 withMark C m = record { rows = C .rows; columns = C .columns; mark = m }
 
+-- without the field, none
 abbrev pub markBytes : Mark → List ℕ
 markBytes unmarked = []
 markBytes (marked m) = m

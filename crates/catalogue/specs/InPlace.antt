@@ -1,12 +1,13 @@
--- A column in its place in the bytes, and the value of a row there: what every reader of a row relies on.
+-- A column in its place in the bytes, and the value of a row there: what every reader of a row relies on; and the mark in its place.
 use Prim.Native.Nat.{ℕ, _+_, _*_, _≤_, _<_}
 use mathlib.Core.Path.{_≡_}
 use mathlib.Core.Bool.{true}
 use mathlib.Core.List.{List, []}
-use lib.ListN.{length, getD}
+use lib.ListN.{length, getD, drop}
 use Rattle.slots.specs.Slots.{slotSize, textsAt, validSlots}
+use Rattle.bitmaps.specs.Bitmap.{bytesFor}
 use Rattle.catalogue.specs.Format.{numberTag, numberSize, textTag}
-use Rattle.catalogue.specs.Catalogue.{Column, numbers, texts}
+use Rattle.catalogue.specs.Catalogue.{Column, numbers, texts, Catalogue, markBytes}
 use Rattle.catalogue.specs.Decode.{numbersAt}
 
 -- the bytes from `start` on are a checked payload of this tag, and show the column's values
@@ -25,3 +26,9 @@ NumberIs b start row r = (rows : ℕ) (ns : List ℕ) → Shows b rows numberTag
 
 abbrev pub TextIs : List ℕ → (start row : ℕ) → List ℕ → Type 0
 TextIs b start row t = (rows : ℕ) (ts : List (List ℕ)) → Shows b rows textTag start (texts ts) → row < rows → t ≡ getD ts row []
+
+-- the mark's bytes go from `at` to the end; at the end where there is none
+pub record ShowsMark (b : List ℕ) (at : ℕ) (C : Catalogue) : Type 0 where
+  pub bytes : drop at b ≡ markBytes (C .mark)
+  pub inside : at ≤ length b
+  pub short : length b ≤ at + bytesFor (C .rows)

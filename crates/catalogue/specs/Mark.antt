@@ -7,20 +7,12 @@ use lib.Dec.{leb, eqb}
 use Rattle.fields.specs.declared.header.Header.{Header}
 use Rattle.fields.specs.declared.header.Header.the-variants.{Cut, Field}
 use Rattle.fields.specs.Decoded.{Decoded, refused, accepted}
-use Rattle.fields.specs.Numbers.{numberAt}
-use Rattle.fields.specs.Header.{headerAt, headerSize}
+use Rattle.fields.specs.Header.{headerAt}
 use Rattle.bitmaps.specs.Bitmap.{bytesFor}
 use Rattle.catalogue.specs.declared.mark.MarkField.{MarkField}
 use Rattle.catalogue.specs.declared.mark.MarkField.the-variants.{Refused, Absent, Marked}
 use Rattle.catalogue.specs.Format.{markTag, fieldCut, bytesLeftOver, badMark}
 use Rattle.catalogue.specs.Catalogue.{Mark, unmarked, marked}
-
--- of bytes that begin with a field, the length that its header declares, and the payload of that length
-abbrev pub declaredSize : (bytes : List ℕ) → ℕ
-declaredSize bytes = numberAt bytes 1 2
-
-abbrev pub declaredPayload : (bytes : List ℕ) → List ℕ
-declaredPayload bytes = take (declaredSize bytes) (drop headerSize bytes)
 
 -- "a stray bit": the byte that holds the bit behind the last row's has a one there or higher; past the last byte there is none
 unfoldable pub strayBit : (mark : List ℕ) → (rows : ℕ) → Bool

@@ -3,36 +3,35 @@ use Prim.Native.Nat.{ℕ, _+_, _-_, _≤_, _<_}
 use native.Mathlib.Omega.{arith}
 use mathlib.Core.Path.{_≡_, refl, sym, ap, _∙_}
 use mathlib.Core.Bool.{Bool, true, false, not, _&&_, cond}
-use mathlib.Core.Logic.{_⊎_, inl, inr}
 use mathlib.Core.List.{List, [], _∷_, _++_, append-assoc, append-nil}
 use lib.ListN.{length, getD, take, drop, length-drop}
-use lib.Seq.{take-all, drop-drop, getD-drop, length-take-le}
-use lib.Dec.{eqb, ltb}
-use borrow.Author.Tests.{eq-eqb, ne-eqb, eqb-true, lt-ltb, le-ltb}
-use Rattle.fields.specs.declared.header.Header.the-variants.{Cut, Field}
+use lib.Seq.{take-all, drop-drop, length-take-le}
+use lib.Dec.{eqb}
+use borrow.Author.Tests.{eq-eqb, ne-eqb, eqb-true}
+use Rattle.fields.specs.declared.header.Header.the-variants.{Field}
 use Rattle.fields.specs.Decoded.{Decoded, refused, accepted, mapped}
 use Rattle.fields.specs.Numbers.{numberAt, Bytes}
-use Rattle.fields.specs.Header.{headerAt, headerSize, fieldEnd, fieldOf}
+use Rattle.fields.specs.Header.{headerAt, headerSize, fieldOf}
 use Rattle.fields.proofs.ByteLaws.{bytes-take, bytes-drop}
-use Rattle.fields.proofs.FieldLaws.{number-dropped}
-use Rattle.bools.specs.Bools.{which, ltb-le}
+use Rattle.fields.proofs.FieldLaws.{header-whole, header-cut, first-dropped, number-dropped}
 use Rattle.bitmaps.specs.Bitmap.{bytesFor}
 use Rattle.catalogue.specs.declared.mark.MarkField.the-variants.{Refused, Marked}
 use Rattle.catalogue.specs.Format.{firstTag, markTag, fieldCut, bytesLeftOver, badMark}
 use Rattle.catalogue.specs.Catalogue.{Mark, unmarked, marked, Catalogue, withMark}
-use Rattle.catalogue.specs.Mark.{declaredSize, declaredPayload, strayBit, markFieldOf, markFieldAt, markOf}
+use Rattle.catalogue.specs.Mark.{strayBit, markFieldOf, markFieldAt, markOf}
 use Rattle.catalogue.specs.Decode.{decodeCatalogue}
 use Rattle.catalogue.specs.Encode.{encodeCounts, encodeColumns, encodeCatalogue}
 use Rattle.catalogue.specs.Formed.{FormedBits, Formed}
 use Rattle.catalogue.proofs.MarkLaws.{stray-unused, unused-stray}
 use Rattle.catalogue.proofs.DecodeLaws.{columnsEnd, after-stands, after-inside, decode-columns}
+use Rattle.demands.specs.Demands.{declaredSize, declaredPayload}
 
 module _ (b : List ℕ) (rows at : ℕ) (tail : List ℕ) (stands : drop at b ≡ tail) (inside : at ≤ length b) where
   tail-length : length b ≡ at + length tail
   tail-length = let n : length b - at ≡ length tail = sym (length-drop at b) ∙ ap length stands in omega arith
 
   tag-there : getD b at 0 ≡ getD tail 0 0
-  tag-there = let z : at ≡ at + 0 = omega arith in ap (λ i. getD b i 0) z ∙ sym (getD-drop at b 0 0) ∙ ap (λ l. getD l 0 0) stands
+  tag-there = first-dropped b at ∙ ap (λ l. getD l 0 0) stands
 
   size-there : numberAt b (at + 1) 2 ≡ declaredSize tail
   size-there =
@@ -41,25 +40,8 @@ module _ (b : List ℕ) (rows at : ℕ) (tail : List ℕ) (stands : drop at b �
   bytes-there : drop (at + headerSize) b ≡ drop headerSize tail
   bytes-there = sym (drop-drop headerSize at b) ∙ ap (drop headerSize) stands
 
-  header-cut : length tail < headerSize + declaredSize tail → headerAt b at (length b) ≡ Cut
-  unfolding headerAt
-  header-cut l = go (which (ltb (length b - at) headerSize))
-    where
-      go : (ltb (length b - at) headerSize ≡ true) ⊎ (ltb (length b - at) headerSize ≡ false)
-          → cond (ltb (length b - at) headerSize) Cut (cond (ltb (length b - (at + headerSize)) (numberAt b (at + 1) 2)) Cut (Field (getD b at 0) (at + headerSize) (fieldEnd b at))) ≡ Cut
-      go (inl y) = rw y
-      go (inr y) =
-          let n = tail-length in
-          let s = size-there in
-          let k : headerSize ≤ length b - at = ltb-le (length b - at) headerSize y in
-          rw (y, lt-ltb (length b - (at + headerSize)) (numberAt b (at + 1) 2) (omega arith))
-
-  header-whole : headerSize + declaredSize tail ≤ length tail → headerAt b at (length b) ≡ Field (getD b at 0) (at + headerSize) (at + headerSize + declaredSize tail)
-  unfolding headerAt
-  header-whole l =
-      let n = tail-length in
-      let s = size-there in
-      rw (le-ltb (length b - at) headerSize (omega arith), le-ltb (length b - (at + headerSize)) (numberAt b (at + 1) 2) (omega arith), s)
+  field-there : headerSize + declaredSize tail ≤ length tail → headerAt b at (length b) ≡ Field (getD b at 0) (at + headerSize) (at + headerSize + declaredSize tail)
+  field-there l = header-whole b at (length b) (omega (arith, tail-length, size-there)) ∙ rw size-there
 
   -- another byte
   other : 0 < length tail → (getD tail 0 0 ≡ markTag → ⊥) → markFieldAt b rows at ≡ Refused bytesLeftOver
@@ -73,7 +55,7 @@ module _ (b : List ℕ) (rows at : ℕ) (tail : List ℕ) (stands : drop at b �
 
     cut : length tail < headerSize + declaredSize tail → markFieldAt b rows at ≡ Refused fieldCut
     unfolding markFieldOf
-    cut l = tagged ∙ rw (header-cut l)
+    cut l = tagged ∙ rw (header-cut b at (length b) (omega (arith, tail-length, size-there)))
 
     module _ (l : headerSize + declaredSize tail ≤ length tail) where
       size-is : length (declaredPayload tail) ≡ declaredSize tail
@@ -82,7 +64,7 @@ module _ (b : List ℕ) (rows at : ℕ) (tail : List ℕ) (stands : drop at b �
       whole : markFieldAt b rows at
           ≡ cond (eqb (declaredSize tail) (bytesFor rows) && not (strayBit (declaredPayload tail) rows)) (cond (eqb (at + headerSize + declaredSize tail) (length b)) (Marked (at + headerSize)) (Refused bytesLeftOver)) (Refused badMark)
       unfolding markFieldOf
-      whole = let z : at + headerSize + declaredSize tail - (at + headerSize) ≡ declaredSize tail = omega arith in tagged ∙ rw (header-whole l, z, bytes-there)
+      whole = let z : at + headerSize + declaredSize tail - (at + headerSize) ≡ declaredSize tail = omega arith in tagged ∙ rw (field-there l, z, bytes-there)
 
       bad : Bytes tail → (FormedBits rows (declaredPayload tail) → ⊥) → markFieldAt b rows at ≡ Refused badMark
       bad bytes unformed = whole ∙ go (eqb (declaredSize tail) (bytesFor rows)) refl (strayBit (declaredPayload tail) rows) refl
@@ -130,7 +112,7 @@ module _ (c : Catalogue) (formed : Formed c) (plain : c .mark ≡ unmarked) (tai
   unfolding first
   decode-after f found =
       let b : List ℕ = encodeCatalogue c ++ tail in
-      decode-columns c formed b tail written ∙ rw (found b (columnsEnd c formed b tail written) (after-stands c formed b tail written) (after-inside c formed b tail written))
+      decode-columns c formed b tail written ∙ rw (found b (columnsEnd c) (after-stands c formed b tail written) (after-inside c formed b tail written))
 
   pub after-other : 0 < length tail → (getD tail 0 0 ≡ markTag → ⊥) → decodeCatalogue (encodeCatalogue c ++ tail) ≡ refused bytesLeftOver
   after-other some n = decode-after (refused bytesLeftOver) (λ b at h l. ap (markOf b) (other b (c .rows) at tail h l some n))

@@ -1,5 +1,5 @@
 -- A copy breaks nothing, or there is a first check that fails: the tests of `logOf` are the page's sentences, and decide what it leaves.
-use Prim.Native.Nat.{ℕ, _≤_, _<_}
+use Prim.Native.Nat.{ℕ}
 use native.Mathlib.Omega.{arith}
 use mathlib.Core.Path.{_≡_, refl, ap, _∙_}
 use mathlib.Core.Bool.{Bool, true, false}
@@ -9,6 +9,7 @@ use lib.ListN.{length}
 use lib.Dec.{leb}
 use Rattle.fields.specs.Output.{putFront}
 use Rattle.bools.specs.Bools.{not-true, clash, leb-yes, leb-le}
+use Rattle.catalogue.specs.Sound.{IsRefusal}
 use Rattle.strategy.specs.Order.{isOrder}
 use Rattle.input.specs.Input.{Input}
 use Rattle.answers.specs.declared.word.Answer.the-variants.{Refused, Accepted}
@@ -43,7 +44,7 @@ module _ (r : Request) (output : List ℕ) where
       forms (inl x) = orders (x .0) (x .1) (isOrder (predicateCount (x .0)) (r .order)) refl
       forms (inr x) = inr (x .0, copyForm (x .1))
 
-  pub broken-number : (e : ℕ) → CopyBroken r output e → (1 ≤ e) × (e < 256)
+  pub broken-number : (e : ℕ) → CopyBroken r output e → IsRefusal e
   broken-number e (copyForm x) = let s = broken-range (r .catalogue) (r .question) e x in omega arith
   broken-number e (copyOrder i f n z) = omega arith
   broken-number e (copyShort i f o n z) = omega arith

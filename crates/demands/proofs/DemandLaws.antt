@@ -1,5 +1,5 @@
 -- What reads is accepted, and what is accepted of bytes reads; the refusals of both decoders have room in the word; the word taken apart.
-use Prim.Native.Nat.{ℕ, _≤_, _<_}
+use Prim.Native.Nat.{ℕ}
 use native.Mathlib.Omega.{arith}
 use mathlib.Core.Path.{_≡_, refl}
 use mathlib.Core.Logic.{_⊎_, inl, inr}
@@ -8,6 +8,7 @@ use Rattle.fields.specs.Decoded.{Decoded, refused, accepted}
 use Rattle.fields.specs.Numbers.{Bytes}
 use Rattle.catalogue.specs.Catalogue.{Catalogue}
 use Rattle.catalogue.specs.Decode.{decodeCatalogue}
+use Rattle.catalogue.specs.Sound.{IsRefusal}
 use Rattle.catalogue.proofs.DecodeLaws.{decode-written}
 use Rattle.catalogue.proofs.Exactly.{accepted-exactly as catalogue-exactly}
 use Rattle.query.specs.Query.{Query}
@@ -18,7 +19,7 @@ use Rattle.answers.specs.declared.word.Answer.{Answer}
 use Rattle.answers.specs.declared.word.Answer.the-variants.{Refused, Accepted}
 use Rattle.answers.specs.Word.{packed, numberOf, firstOf as firstResult, secondOf, thirdOf, FitsWord}
 use Rattle.demands.specs.Demands.{Gives, IsCatalogue, IsQuestion, Reads, FormBroken}
-use Rattle.catalogue.proofs.Refusals.{catalogue-refusal}
+use Rattle.catalogue.proofs.Refusals.{CatalogueRefusal, catalogue-refusal}
 use Rattle.query.proofs.Refusals.{query-refusal}
 
 -- CATALOGUE AND QUESTION
@@ -31,10 +32,10 @@ pub is-question : (C : Catalogue) (q : List ℕ) (Q : Query) → IsQuestion C q 
 is-question C q Q (formed, written) = rw written (decode-encoded C Q formed)
 
 -- a refusal has room in the word
-pub catalogue-range : (b : List ℕ) (e : ℕ) → decodeCatalogue b ≡ refused e → (1 ≤ e) × (e < 256)
+pub catalogue-range : (b : List ℕ) (e : ℕ) → decodeCatalogue b ≡ refused e → IsRefusal e
 catalogue-range b e h = go (catalogue-refusal b e h)
   where
-    go : ((1 ≤ e) × (e ≤ 6)) ⊎ (e ≡ 23) → (1 ≤ e) × (e < 256)
+    go : CatalogueRefusal e → IsRefusal e
     go (inl r) = omega arith
     go (inr r) = omega arith
 
@@ -74,7 +75,7 @@ module _ (b q : List ℕ) where
       go (inl (i, d)) = inl (i, (catalogue-exactly b (i .catalogue) bytes .0 (d .0), question-exactly (i .catalogue) q (i .query) bytes′ .0 (d .1)))
       go (inr x) = inr x
 
-  pub broken-range : (e : ℕ) → FormBroken b q e → (1 ≤ e) × (e < 256)
+  pub broken-range : (e : ℕ) → FormBroken b q e → IsRefusal e
   broken-range e (inl x) = catalogue-range b e x
   broken-range e (inr x) = let s = query-refusal (x .0) q e (x .2) in omega arith
 

@@ -1,5 +1,5 @@
 -- A run breaks nothing, or there is a first check that fails: the tests of `runOf` are the page's sentences, and decide what it leaves.
-use Prim.Native.Nat.{ℕ, _+_, _*_, _^_, _≤_, _<_}
+use Prim.Native.Nat.{ℕ, _+_, _*_, _^_}
 use native.Mathlib.Omega.{arith}
 use mathlib.Core.Path.{_≡_, refl, ap, _∙_}
 use mathlib.Core.Bool.{Bool, true, false}
@@ -9,6 +9,7 @@ use lib.ListN.{length}
 use lib.Dec.{eqb, ltb, leb}
 use Rattle.fields.specs.Numbers.{numberAt}
 use Rattle.bools.specs.Bools.{not-true, both, and-parts, clash, eqb-eq, eqb-self, leb-yes, leb-le, ltb-yes, ltb-lt}
+use Rattle.catalogue.specs.Sound.{IsRefusal}
 use Rattle.strategy.specs.Order.{isOrder}
 use Rattle.bitmaps.specs.Bitmap.{bytesFor}
 use Rattle.rows.specs.Task.{isSelected}
@@ -76,7 +77,7 @@ module _ (l : Lent) where
         z,
       )
 
-  pub broken-number : (e : ℕ) → FirstBroken l e → (1 ≤ e) × (e < 256)
+  pub broken-number : (e : ℕ) → FirstBroken l e → IsRefusal e
   broken-number e (badForm x) = let r = broken-range (l .request .catalogue) (l .request .question) e x in omega arith
   broken-number e (badOrder i r n z) = omega arith
   broken-number e (badTables i r o n z) = omega arith

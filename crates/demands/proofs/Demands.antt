@@ -8,17 +8,20 @@ use mathlib.Core.Logic.{_↔_, inl, inr}
 use mathlib.Core.List.{List, [], _∷_}
 use lib.ListN.{length}
 use lib.Dec.{ltb}
+use Rattle.fields.specs.Decoded.{Decoded, refused, accepted}
 use Rattle.fields.specs.Numbers.{numberAt}
 use Rattle.fields.proofs.Laws.{number-of-bytes}
-use Rattle.catalogue.specs.Catalogue.{marked, isWithdrawn}
+use Rattle.catalogue.specs.Catalogue.{marked, withMark, isWithdrawn}
 use Rattle.catalogue.specs.Encode.{encodeCatalogue}
 use Rattle.catalogue.specs.Formed.{FormedBits}
 use Rattle.catalogue.proofs.MarkLaws.{withdrawn-marked, withdrawn-unmarked}
+use Rattle.catalogue.proofs.FrontLaws.{decode-front}
 use Rattle.catalogue.proofs.EncodedBytes.{catalogue-bytes}
 use Rattle.catalogue.proofs.Exactly as catalogue
 use Rattle.catalogue.proofs.Refusals.{catalogue-refusal}
 use Rattle.query.specs.Encode.{encode, payloads}
-use Rattle.query.specs.Decode.{payloadOf}
+use Rattle.query.specs.Query.{Query}
+use Rattle.query.specs.Decode.{payloadOf, decodeQuery}
 use Rattle.query.specs.WellFormed.{ValidPredicate}
 use Rattle.query.proofs.Payloads.{payload-again}
 use Rattle.query.proofs.ValidLaws.{valid-passes, passes-valid}
@@ -42,14 +45,15 @@ use Rattle.bitmaps.specs.Sums.{sumOf, countOf}
 use Rattle.bitmaps.specs.SumLaws.{sum-same}
 use Rattle.bitmaps.specs.Bit.{bit}
 use Rattle.rows.specs.Task.{predicateAt, isSelected, isProbed}
-use Rattle.input.specs.Input.{Input}
+use Rattle.input.specs.Input.{Input, withQuery, decodeInput}
 use Rattle.answers.specs.declared.word.Answer.the-variants.{Refused, Accepted}
 use Rattle.answers.specs.Refusals.{noSuchRowOrPredicate}
-use Rattle.answers.specs.Answers.{outcomeNumber}
+use Rattle.answers.specs.Word.{packed}
+use Rattle.answers.specs.Answers.{questionAnswer, outcomeNumber, outcomeAnswer}
 use Rattle.answers.proofs.Outcomes.{outcome-small}
 use Rattle.demands.specs.Run.{rowCount, predicateCount, taskOf, selection, probeBitmaps, foundCount, lookCount}
 use Rattle.demands.specs.Demands.{after, Reads, RunningOrder, lineBytes, Kept, FirstBroken, Present, ifPresent, pattern, treeValue, LineOf, listedLine, looksLine}
-use Rattle.demands.specs.Demands.{Demand1CatalogueForm, Demand1QuestionForm, Demand1Payload, Demand1FormsWritten, Demand1WrittenOnce, Demand1Mark, Demand1AfterColumns, Demand1Number, Demand1Refused, Demand1Accepted, Demand1Limits, Demand1Catalogue, Demand1Question, Demand1Outcome}
+use Rattle.demands.specs.Demands.{Demand1CatalogueForm, Demand1QuestionForm, Demand1Payload, Demand1FormsWritten, Demand1WrittenOnce, Demand1Mark, Demand1AfterColumns, Demand1FrontToBack, Demand1Number, Demand1Refused, Demand1Accepted, Demand1Limits, Demand1Catalogue, Demand1Question, Demand1Outcome}
 use Rattle.demands.specs.Demands.{Gives, outcomeWord, Reads, conditionOf, Demand2Blank, Demand2AsNo, Demand2Opposite, Demand2AsBefore, Demand2Tree, Demand2Listed, Demand2Looks, Demand2Withdrawn, Demand2Further, Demand2Counts, Demand2Tally, Demand3, Demand3Ours, Demand3Count, Demand3Run}
 use Rattle.demands.proofs.AfterColumns.{after-other, after-cut, after-bad, after-more, after-mark}
 use Rattle.demands.proofs.DemandLaws.{catalogue-range, is-catalogue, is-question, reads-input, broken-input, broken-range, unpacked}
@@ -97,15 +101,18 @@ demand-1-mark C formed = (shown, withdrawn-unmarked C)
         record { size = f .size; bytes = f .bytes; bits = λ e l. let q = withdrawn-marked C m h e in (λ x. q ∙ x, λ x. sym q ∙ x); unused = f .unused }
 
 pub demand-1-after-columns : Demand1AfterColumns
-demand-1-after-columns C formed plain more bytes = (
-  after-other C formed plain more,
+demand-1-after-columns C formed plain tail bytes = (
+  after-other C formed plain tail,
   λ tag. (
-    after-cut C formed plain more tag,
-    λ l n. after-bad C formed plain more tag l bytes n,
-    after-more C formed plain more tag,
-    after-mark C formed plain more tag,
+    after-cut C formed plain tail tag,
+    λ l n. after-bad C formed plain tail tag l bytes n,
+    after-more C formed plain tail tag,
+    after-mark C formed plain tail tag,
   ),
 )
+
+pub demand-1-front-to-back : Demand1FrontToBack
+demand-1-front-to-back b tail e uncut = decode-front b tail e uncut
 
 -- DEMAND 1: THE CALLS
 
@@ -196,7 +203,20 @@ demand-2-opposite column kind o e l = rw (opposite-of column kind o e l) (
 )
 
 pub demand-2-as-before : Demand2AsBefore
-demand-2-as-before C m p e = refl
+unfolding decodeInput decodeQuery
+demand-2-as-before b b′ C m f f′ = rw (is-catalogue b C f, is-catalogue b′ (withMark C m) f′) (
+  refl,
+  λ q. checked-alike (decodeQuery C q),
+  λ q entry c. answered-alike (decodeQuery C q) entry c,
+)
+  where
+    checked-alike : (d : Decoded Query) → packed (questionAnswer (withQuery C d)) ≡ packed (questionAnswer (withQuery (withMark C m) d))
+    checked-alike (refused e) = refl
+    checked-alike (accepted Q) = refl
+
+    answered-alike : (d : Decoded Query) (entry c : ℕ) → packed (outcomeAnswer (withQuery C d) entry c) ≡ packed (outcomeAnswer (withQuery (withMark C m) d) entry c)
+    answered-alike (refused e) entry c = refl
+    answered-alike (accepted Q) entry c = refl
 
 pub demand-2-tree : Demand2Tree
 unfolding eval
@@ -297,13 +317,13 @@ demand-3-run l i k way R = (looks, count)
         optimal (treeValue i) (l .request .order) (held i (l .request .order) (k .order) .once) way R (pattern i e) c
         (traced-due i (l .request .order) (k .order) (pattern i e) c .1 (demand-2-looks l i k c n .bits e m .0 h .1))
 
-    in-house : (w : Bool) {x y : ℕ} → x ≤ y → cond w 0 x ≤ cond w 0 y
-    in-house true h = omega arith
-    in-house false h = h
+    present-le : (w : Bool) {x y : ℕ} → x ≤ y → cond w 0 x ≤ cond w 0 y
+    present-le true h = omega arith
+    present-le false h = h
 
     count : after l .word / 2 ^ 40 ≤ sumOf (λ e. ifPresent i e (length (probes way (pattern i e) (l .request .order)))) (rowCount i)
     count =
         subst (λ (x : ℕ). x ≤ sumOf (λ e. ifPresent i e (length (probes way (pattern i e) (l .request .order)))) (rowCount i))
         (sym (kept-gives l i k .4 ∙ look-count-rows i (l .request .order) (k .order)))
         (sum-le (λ e. ifPresent i e (length (predicates (trace (treeValue i) (pattern i e) (l .request .order))))) (λ e. ifPresent i e (length (probes way (pattern i e) (l .request .order)))) (rowCount i)
-        (λ e m. in-house (isWithdrawn (i .catalogue) e) (counted i (l .request .order) (k .order) way R (pattern i e))))
+        (λ e m. present-le (isWithdrawn (i .catalogue) e) (counted i (l .request .order) (k .order) way R (pattern i e))))

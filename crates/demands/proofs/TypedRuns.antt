@@ -1,5 +1,5 @@
 -- A typed question breaks nothing, or there is a first check that fails: the tests of `typedOf` are the page's sentences, and decide what it leaves.
-use Prim.Native.Nat.{ℕ, _≤_, _<_}
+use Prim.Native.Nat.{ℕ, _≤_}
 use native.Mathlib.Omega.{arith}
 use mathlib.Core.Path.{_≡_, refl, sym, ap, subst}
 use mathlib.Core.Bool.{Bool, true, false, cond}
@@ -12,6 +12,7 @@ use Rattle.fields.specs.Decoded.{Decoded, refused, accepted}
 use Rattle.fields.specs.Numbers.{Bytes}
 use Rattle.catalogue.specs.Catalogue.{Catalogue}
 use Rattle.catalogue.specs.Decode.{decodeCatalogue}
+use Rattle.catalogue.specs.Sound.{IsRefusal}
 use Rattle.catalogue.proofs.Exactly.{accepted-exactly as catalogue-exactly}
 use Rattle.predicate.specs.Payload.{tagsOf}
 use Rattle.query.specs.Query.{Query}
@@ -78,7 +79,7 @@ module _ (b text output : List ℕ) where
       catalogues (refused e) h = inr (e, typedCatalogue h)
       catalogues (accepted C) h = texts C (catalogue-exactly b C bytes .0 h) (takenText C text) refl
 
-  pub broken-number : (e : ℕ) → TypedBroken b text output e → (1 ≤ e) × (e < 256)
+  pub broken-number : (e : ℕ) → TypedBroken b text output e → IsRefusal e
   broken-number e (typedCatalogue h) = catalogue-range b e h
   broken-number e (typedText C f n z) = omega arith
   broken-number e (typedForm C q f l s h) = let r = query-refusal C q e h in omega arith

@@ -1,8 +1,8 @@
 -- THE THREE DEMANDS, sentence by sentence, over the definitions; proofs/Demands.antt proves each statement of this page.
 -- It speaks of the definitions `catalogueAnswer`, `questionAnswer`, `outcomeAnswer`, `runOf`; an exported call is tied to its definition by its
 -- contract, for any bytes lent, and a contract is one of total correctness: the call finishes. `Due`, `Strategy`, its working and `Right` stand on
--- one screen in crates/strategy/specs/Strategy.antt; what document 01 and order 6 allow as a catalogue, and what 01 allows as a question, in crates/catalogue/specs/Formed.antt
--- and crates/query/specs/WellFormed.antt, their bytes in Encode.antt beside them.
+-- one screen in crates/strategy/specs/Strategy.antt; what document 01 and order 6 allow as a catalogue in crates/catalogue/specs/Formed.antt, what
+-- document 01 allows as a question in crates/query/specs/WellFormed.antt, their bytes in Encode.antt beside them.
 use Prim.Native.Nat.{ℕ, _+_, _*_, _/_, _%_, _^_, _≤_, _<_}
 use mathlib.Core.Path.{_≡_}
 use mathlib.Core.Bool.{true, false, not, _&&_, _||_, cond}
@@ -12,7 +12,6 @@ use lib.ListN.{length, getD, take, drop}
 use Rattle.fields.specs.Decoded.{refused, accepted}
 use Rattle.fields.specs.Numbers.{numberAt, bytesOf, Bytes}
 use Rattle.catalogue.specs.Catalogue.{Catalogue, Column, numbers, texts, Mark, unmarked, marked, withMark, isWithdrawn}
-use Rattle.catalogue.specs.Mark.{declaredSize, declaredPayload}
 use Rattle.catalogue.specs.Decode.{decodeCatalogue}
 use Rattle.catalogue.specs.Encode.{encodeCatalogue}
 use Rattle.catalogue.specs.Formed.{FormedBits, Formed}
@@ -110,6 +109,13 @@ pub data FirstBroken (l : Lent) (e : ℕ) : Type 0 where
       → e ≡ 16 → FirstBroken l e
   badTally : (i : Input) → Reads (l .request .catalogue) (l .request .question) i → RunningOrder i (l .request .order) → TablesFit i (l .listed) (l .looks)
       → (TallyFits i (l .request .order) (l .tally) → ⊥) → e ≡ 17 → FirstBroken l e
+
+-- of bytes that begin with a field the length that it declares, and the payload of that length
+abbrev pub declaredSize : (bytes : List ℕ) → ℕ
+declaredSize bytes = numberAt bytes 1 2
+
+abbrev pub declaredPayload : (bytes : List ℕ) → List ℕ
+declaredPayload bytes = take (declaredSize bytes) (drop 3 bytes)
 
 -- a condition of the question
 abbrev pub conditionOf : Input → (c : ℕ) → Predicate
@@ -215,14 +221,19 @@ Demand1Mark =
 -- mark": whatever bytes follow the columns of a catalogue, this comes of them
 abbrev pub Demand1AfterColumns : Type 0
 Demand1AfterColumns =
-    (C : Catalogue) → Formed C → C .mark ≡ unmarked → (more : List ℕ) → Bytes more
-    → (0 < length more → (getD more 0 0 ≡ 87 → ⊥) → decodeCatalogue (encodeCatalogue C ++ more) ≡ refused 6)
-    × (getD more 0 0 ≡ 87
-    → (length more < 3 + declaredSize more → decodeCatalogue (encodeCatalogue C ++ more) ≡ refused 1)
-    × (3 + declaredSize more ≤ length more → (FormedBits (C .rows) (declaredPayload more) → ⊥) → decodeCatalogue (encodeCatalogue C ++ more) ≡ refused 23)
-    × (3 + declaredSize more < length more → FormedBits (C .rows) (declaredPayload more) → decodeCatalogue (encodeCatalogue C ++ more) ≡ refused 6)
-    × (3 + declaredSize more ≡ length more → FormedBits (C .rows) (declaredPayload more)
-    → decodeCatalogue (encodeCatalogue C ++ more) ≡ accepted (withMark C (marked (declaredPayload more)))))
+    (C : Catalogue) → Formed C → C .mark ≡ unmarked → (tail : List ℕ) → Bytes tail
+    → (0 < length tail → (getD tail 0 0 ≡ 87 → ⊥) → decodeCatalogue (encodeCatalogue C ++ tail) ≡ refused 6)
+    × (getD tail 0 0 ≡ 87
+    → (length tail < 3 + declaredSize tail → decodeCatalogue (encodeCatalogue C ++ tail) ≡ refused 1)
+    × (3 + declaredSize tail ≤ length tail → (FormedBits (C .rows) (declaredPayload tail) → ⊥) → decodeCatalogue (encodeCatalogue C ++ tail) ≡ refused 23)
+    × (3 + declaredSize tail < length tail → FormedBits (C .rows) (declaredPayload tail) → decodeCatalogue (encodeCatalogue C ++ tail) ≡ refused 6)
+    × (3 + declaredSize tail ≡ length tail → FormedBits (C .rows) (declaredPayload tail)
+    → decodeCatalogue (encodeCatalogue C ++ tail) ≡ accepted (withMark C (marked (declaredPayload tail)))))
+
+-- "Checking a catalogue walks front to back.", "The first failing check in the stated order decides.": every refusal but 1, a field that is cut, is the
+-- same whatever bytes follow; so a slot's 5 comes before a mark's 23, and that before 6
+abbrev pub Demand1FrontToBack : Type 0
+Demand1FrontToBack = (b tail : List ℕ) (e : ℕ) → (e ≡ 1 → ⊥) → decodeCatalogue b ≡ refused e → decodeCatalogue (b ++ tail) ≡ refused e
 
 -- DEMAND 1: THE CALLS
 
@@ -255,7 +266,7 @@ Demand1Question =
     → ((e : ℕ) → FormBroken b q e → Gives (questionWord b q) e 0 0 0)
     × ((i : Input) → Reads b q i → Gives (questionWord b q) 0 (predicateCount i) 0 0)
 
--- "one condition 1 (yes) or 0", order 2's "2 for blank"; "1 to 14, then 18, no such entry or condition"
+-- "one condition 1 (yes) or 0", order 2's "2 for blank"; "1 to 14, then 18, no such entry or condition", order 6's 23 with 1 to 14
 abbrev pub Demand1Outcome : Type 0
 Demand1Outcome =
     (b q : List ℕ) (entry c : ℕ)
@@ -264,7 +275,8 @@ Demand1Outcome =
     × ((i : Input) → Reads b q i → entry < rowCount i → c < predicateCount i
     → Gives (outcomeWord b q entry c) 0 (outcomeNumber (outcome (i .catalogue) (conditionOf i c) entry)) 0 0)
 
--- the numbers of the forms are 1 to 6 or order 6's 23 and 7 to 14, never 0, and what is accepted keeps the limits: entries, columns, conditions, depth
+-- the numbers of a catalogue are 1 to 6 and order 6's 23, those of a question 7 to 14, and what is accepted keeps the limits: entries, columns,
+-- conditions, depth
 abbrev pub Demand1Limits : Type 0
 Demand1Limits =
     ((b : List ℕ) (e : ℕ) → decodeCatalogue b ≡ refused e → ((1 ≤ e) × (e ≤ 6)) ⊎ (e ≡ 23))
@@ -294,9 +306,13 @@ Demand2Opposite =
     → (BlankField column e × MayAnswerBlank kind → (truth (outcomeOf column kind o e) ≡ false) × (truth (outcomeOf column (kind + 128) o e) ≡ false))
     × ((BlankField column e × MayAnswerBlank kind → ⊥) → truth (outcomeOf column (kind + 128) o e) ≡ not (truth (outcomeOf column kind o e)))
 
--- order 6: "Working out a single condition there goes on as before.": the mark makes no difference to it
+-- order 6: "Working out a single condition there goes on as before.": on catalogues that differ in the mark alone, with any question, entry and
+-- condition, both checks and the outcome give the same word
 abbrev pub Demand2AsBefore : Type 0
-Demand2AsBefore = (C : Catalogue) (m : Mark) (p : Predicate) (e : ℕ) → outcome (withMark C m) p e ≡ outcome C p e
+Demand2AsBefore =
+    (b b′ : List ℕ) (C : Catalogue) (m : Mark) → IsCatalogue b C → IsCatalogue b′ (withMark C m)
+    → (catalogueWord b ≡ catalogueWord b′) × ((q : List ℕ) → questionWord b q ≡ questionWord b′ q)
+    × ((q : List ℕ) (entry c : ℕ) → outcomeWord b q entry c ≡ outcomeWord b′ q entry c)
 
 -- "the question's tree, read as document 000 reads a boolean formula": each member of an all-of group, some member of an any-of group
 abbrev pub Demand2Tree : Type 0
@@ -314,7 +330,7 @@ Demand2Listed =
     → LineOf (λ e. Present i e × (treeValue i (pattern i e) ≡ true)) (rowCount i) (listedLine i (after l .listed))
 
 -- "A look is registered exactly if, with the conditions earlier in the order at their true outcomes, some outcomes of the later ones make
--- this condition alone decide the tree."
+-- this condition alone decide the tree."; order 6: a withdrawn entry is "never looked at"
 abbrev pub Demand2Looks : Type 0
 Demand2Looks =
     (l : Lent) (i : Input) → Kept l i → (c : ℕ) → c < predicateCount i
@@ -377,8 +393,8 @@ Demand3Count =
     → lookCount (taskOf i order) ≡ sumOf (λ e. ifPresent i e (length (probes (ours (treeValue i) order) (pattern i e) order))) (rowCount i)
 
 -- "For every accepted run and every such way for its question and order, the looks registered on an entry are among those the way makes there,
--- and the look count is at most the way's looks over all the entries.": order 6, over those still in the house, so a way that looks at withdrawn entries
--- gains nothing by it
+-- and the look count is at most the way's looks over all the entries.": order 6, over those still in the house; what a way looks at on a withdrawn
+-- entry does not count for it
 abbrev pub Demand3Run : Type 0
 Demand3Run =
     (l : Lent) (i : Input) → Kept l i → (way : Strategy) → Right (treeValue i) (l .request .order) way

@@ -37,8 +37,8 @@ pub record TypedKept (catalogue text output question : List ℕ) (i : Input) : T
   pub forms : Reads catalogue question i
   pub room : length question ≤ length output
 
--- the first check that fails: 1 to 6 and 23 for the catalogue, "21, the text is over 16,384 bytes or isn't so spelled, after 1 to 6 and before 7 to 14 for those
--- bytes; 22, the output is too short, last"
+-- the first check that fails: 1 to 6 and 23 for the catalogue, "21, the text is over 16,384 bytes or isn't so spelled, after 1 to 6 and before 7
+-- to 14 for those bytes; 22, the output is too short, last"
 pub data TypedBroken (catalogue text output : List ℕ) (e : ℕ) : Type 0 where
   typedCatalogue : decodeCatalogue catalogue ≡ refused e → TypedBroken catalogue text output e
   typedText : (C : Catalogue) → IsCatalogue catalogue C → ((length text ≤ 16384) × ((q : List ℕ) × Spells C text q) → ⊥) → e ≡ 21

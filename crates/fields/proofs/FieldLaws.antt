@@ -8,7 +8,7 @@ use mathlib.Core.List.{List, [], _∷_, _++_, append-assoc}
 use lib.ListN.{length, getD, drop, length-append, length-drop, List·getD-append}
 use lib.Seq.{drop-cons, drop-drop, drop-append-seam, getD-drop}
 use lib.Dec.{ltb}
-use borrow.Author.Tests.{ltb-false, le-ltb}
+use borrow.Author.Tests.{ltb-false, lt-ltb, le-ltb}
 use Rattle.fields.specs.declared.header.Header.{Header}
 use Rattle.fields.specs.declared.header.Header.the-variants.{Cut, Field}
 use Rattle.fields.specs.Numbers.{numberAt, bytesOf, Bytes}
@@ -44,6 +44,23 @@ header-is b at end = short (ltb (end - at) headerSize) refl
     short true e = tt
     short false e = long (ltb (end - (at + headerSize)) (numberAt b (at + 1) 2)) refl (ltb-false _ _ e)
 
+-- a field is read where there is room for it before the end, and is else cut
+module _ (b : List ℕ) (at end : ℕ) where
+  pub header-whole : at + headerSize + numberAt b (at + 1) 2 ≤ end → headerAt b at end ≡ Field (getD b at 0) (at + headerSize) (at + headerSize + numberAt b (at + 1) 2)
+  unfolding headerAt
+  header-whole l = rw (le-ltb (end - at) headerSize (omega arith), le-ltb (end - (at + headerSize)) (numberAt b (at + 1) 2) (omega arith))
+
+  pub header-cut : end < at + headerSize + numberAt b (at + 1) 2 → headerAt b at end ≡ Cut
+  unfolding headerAt
+  header-cut l = go (ltb (end - at) headerSize) refl
+    where
+      go : (x : Bool) → ltb (end - at) headerSize ≡ x
+          → cond x Cut (cond (ltb (end - (at + headerSize)) (numberAt b (at + 1) 2)) Cut (Field (getD b at 0) (at + headerSize) (at + headerSize + numberAt b (at + 1) 2))) ≡ Cut
+      go true e = refl
+      go false e =
+          let k : headerSize ≤ end - at = ltb-false _ _ e in
+          rw (lt-ltb (end - (at + headerSize)) (numberAt b (at + 1) 2) (omega arith))
+
 -- what is read is written: the bytes from a field on are the field, then the bytes after it
 module _ (b : List ℕ) (bytes : Bytes b) (at end tag start stop : ℕ) (stands : FieldAt b at end tag start stop) (inside : end ≤ length b) where
   header-written : drop at b ≡ tag ∷ (bytesOf 2 (stop - start) ++ drop start b)
@@ -70,22 +87,25 @@ module _ (b : List ℕ) (bytes : Bytes b) (at end tag start stop : ℕ) (stands 
 pub drop-past : (b : List ℕ) (at : ℕ) (xs ys : List ℕ) → drop at b ≡ xs ++ ys → drop (at + length xs) b ≡ ys
 drop-past b at xs ys h = sym (drop-drop (length xs) at b) ∙ ap (drop (length xs)) h ∙ drop-append-seam xs ys
 
+pub first-dropped : (b : List ℕ) (at : ℕ) → getD b at 0 ≡ getD (drop at b) 0 0
+first-dropped b at = let z : at ≡ at + 0 = omega arith in ap (λ i. getD b i 0) z ∙ sym (getD-drop at b 0 0)
+
 pub first-read : (b : List ℕ) (at x : ℕ) (xs : List ℕ) → drop at b ≡ x ∷ xs → getD b at 0 ≡ x
-first-read b at x xs h = let z : at ≡ at + 0 = omega arith in ap (λ i. getD b i 0) z ∙ sym (getD-drop at b 0 0) ∙ ap (λ l. getD l 0 0) h
+first-read b at x xs h = first-dropped b at ∙ ap (λ l. getD l 0 0) h
 
 pub number-dropped : (b : List ℕ) (at w : ℕ) → numberAt b at w ≡ numberAt (drop at b) 0 w
 unfolding numberAt
 number-dropped b at zero = refl
 number-dropped b at (suc k) = rw (number-dropped b at k, zero-add k, getD-drop at b k 0)
 
-number-first : (xs ys : List ℕ) (w : ℕ) → w ≤ length xs → numberAt (xs ++ ys) 0 w ≡ numberAt xs 0 w
+pub number-front : (xs ys : List ℕ) (at w : ℕ) → at + w ≤ length xs → numberAt (xs ++ ys) at w ≡ numberAt xs at w
 unfolding numberAt
-number-first xs ys zero l = refl
-number-first xs ys (suc k) l = rw (number-first xs ys k (omega arith), zero-add k, List·getD-append xs ys 0 k (omega arith))
+number-front xs ys at zero l = refl
+number-front xs ys at (suc k) l = rw (number-front xs ys at k (omega arith), List·getD-append xs ys 0 (at + k) (omega arith))
 
 pub number-read : (b : List ℕ) (at w x : ℕ) (rest : List ℕ) → x < 256 ^ w → drop at b ≡ bytesOf w x ++ rest → numberAt b at w ≡ x
 number-read b at w x rest l h =
-    number-dropped b at w ∙ ap (λ s. numberAt s 0 w) h ∙ number-first (bytesOf w x) rest w (omega (arith, length-bytes w x)) ∙ number-of-bytes w x l
+    number-dropped b at w ∙ ap (λ s. numberAt s 0 w) h ∙ number-front (bytesOf w x) rest 0 w (omega (arith, length-bytes w x)) ∙ number-of-bytes w x l
 
 pub field-length : (tag : ℕ) (payload : List ℕ) → length (fieldOf tag payload) ≡ headerSize + length payload
 unfolding fieldOf bytesOf
@@ -115,8 +135,7 @@ module _ (b : List ℕ) (at tag : ℕ) (payload rest : List ℕ) (h : drop at b 
   -- "a two-byte length": of a payload under 65,536 bytes
   pub header-read : (end : ℕ) → length payload < 65536 → at + headerSize + length payload ≤ end
       → headerAt b at end ≡ Field tag (at + headerSize) (at + headerSize + length payload)
-  unfolding headerAt
   header-read end l i =
       let t : getD b at 0 ≡ tag = first-read b at tag (bytesOf 2 (length payload) ++ (payload ++ rest)) parts in
       let n : numberAt b (at + 1) 2 ≡ length payload = number-read b (at + 1) 2 (length payload) (payload ++ rest) l after-tag in
-      rw (le-ltb (end - at) headerSize (omega arith), n, le-ltb (end - (at + headerSize)) (length payload) (omega arith), t)
+      header-whole b at end (omega arith) ∙ rw (n, t)

@@ -1,7 +1,7 @@
 -- The probes of a row in the sequence of their turns: those that a table marks, and each of them once.
 use Prim.Native.Nat.{ℕ}
 use mathlib.Core.Path.{_≡_, refl, sym, ap, ap₂, _∙_, subst}
-use mathlib.Core.Bool.{Bool, true, false, _||_, cond}
+use mathlib.Core.Bool.{Bool, true, false, _||_}
 use mathlib.Core.Logic.{_⊎_, inl, inr}
 use mathlib.Core.List.{List, [], _∷_}
 use Rattle.bools.specs.Bools.{eqb-self, eqb-ne}
@@ -9,15 +9,15 @@ use Rattle.strategy.specs.Assignment.{Assignment, Among, elem, Once, keepIf}
 use Rattle.strategy.specs.AssignmentLaws.{among?, elem-yes, elem-no}
 use Rattle.strategy.specs.Order.{occurrences, isOrder}
 use Rattle.strategy.specs.OrderLaws.{occurs-none, occurs-once, order-law}
-use Rattle.strategy.specs.Strategy.{Formula, predicates}
+use Rattle.strategy.specs.Strategy.{Formula, State, predicates}
 use Rattle.strategy.specs.Trace.{due, trace}
 use Rattle.strategy.specs.TraceLaws.{trace-among, trace-once}
 use Rattle.strategy.specs.Tree.{eval}
 use Rattle.bitmaps.specs.Sums.{digit}
 use Rattle.bitmaps.specs.Table.{lineBit}
 use Rattle.log.specs.MarkedLog.{markedAt}
-use Rattle.catalogue.specs.Catalogue.{isWithdrawn}
-use Rattle.rows.specs.Task.{told, dueAt, traceAt, madeAt, isProbed}
+use Rattle.rows.specs.Task.{told, dueAt, madeAt, isProbed}
+use Rattle.rows.proofs.Withdrawn.{trace-holds}
 use Rattle.input.specs.Input.{Input}
 use Rattle.demands.specs.Run.{predicateCount, taskOf}
 use Rattle.demands.specs.Log.{EachProbeOnce}
@@ -39,7 +39,7 @@ module _ (f : Formula) (a : Assignment) (P : List ℕ) (row : ℕ) where
       go false here there rest =
           ap₂ (λ (b : Bool) (l : List ℕ). keepIf b c l) (here ∙ elem-no c (predicates (trace f a cs)) (λ m. once .0 (trace-among f a cs c m))) (rest there)
 
--- no mark, no predicate
+-- of an order a table that marks none of it leaves none
 none-marked : (P : List ℕ) (row : ℕ) (cs : List ℕ) → ((c : ℕ) → Among c cs → lineBit P c row ≡ false) → markedAt P row cs ≡ []
 unfolding markedAt
 none-marked P row [] h = refl
@@ -58,17 +58,15 @@ module _ (i : Input) (order : List ℕ) (ordered : isOrder (predicateCount i) or
 
   pub made-marked : (P : List ℕ) (row : ℕ) → ((c : ℕ) → Among c order → lineBit P c row ≡ isProbed (taskOf i order) c row)
       → madeAt (taskOf i order) row ≡ markedAt P row order
-  unfolding dueAt traceAt predicates elem
-  made-marked P row marks = go (isWithdrawn (i .catalogue) row) marks
-    where
-      go : (w : Bool) → ((c : ℕ) → Among c order → lineBit P c row ≡ elem c (predicates (cond w [] (dueAt (taskOf i order) row)))) → predicates (cond w [] (dueAt (taskOf i order) row)) ≡ markedAt P row order
-      go true none = sym (none-marked P row order none)
-      go false marks = sym (marked-trace (eval (i .query .tree)) (told (taskOf i order) row) P row order order-once marks)
+  unfolding dueAt predicates elem
+  made-marked P row marks =
+      trace-holds (taskOf i order) row (λ (s : State). ((c : ℕ) → Among c order → lineBit P c row ≡ elem c (predicates s)) → predicates s ≡ markedAt P row order)
+      (λ none. sym (none-marked P row order none))
+      (λ due. sym (marked-trace (eval (i .query .tree)) (told (taskOf i order) row) P row order order-once due))
+      marks
 
   pub made-once : EachProbeOnce (taskOf i order) (madeAt (taskOf i order))
-  unfolding dueAt traceAt predicates
-  made-once row l c = once-occurs (madeAt (taskOf i order) row) (go (isWithdrawn (i .catalogue) row)) c
-    where
-      go : (w : Bool) → Once (predicates (cond w [] (dueAt (taskOf i order) row)))
-      go true = tt
-      go false = trace-once (eval (i .query .tree)) (told (taskOf i order) row) order order-once
+  unfolding dueAt predicates
+  made-once row l c =
+      once-occurs (madeAt (taskOf i order) row)
+      (trace-holds (taskOf i order) row (λ (s : State). Once (predicates s)) tt (trace-once (eval (i .query .tree)) (told (taskOf i order) row) order order-once)) c

@@ -67,9 +67,7 @@ module _ (b : List ℕ) (rows columns from : ℕ) (l : ColumnsLayout) (o : Colum
           shown = k .shown;
           tags-size = k .tags-size;
           starts-size = k .starts-size;
-          mark = shown;
-          mark-inside = inside;
-          mark-short = near;
+          mark = record { bytes = shown; inside = inside; short = near };
         })
 
     pub laid-all : (at : ℕ) → rows ≤ rowLimit → columns ≤ columnLimit → ((f ≡ mark.Absent) × (at ≡ length b)) ⊎ (f ≡ mark.Marked at)

@@ -2,14 +2,13 @@
 use Prim.Native.Nat.{ℕ, _+_, _≤_}
 use mathlib.Core.Path.{_≡_}
 use mathlib.Core.List.{List, [], _∷_}
-use lib.ListN.{length, getD, drop}
+use lib.ListN.{length, getD}
 use Rattle.fields.specs.Decoded.{Decoded, refused, accepted}
-use Rattle.bitmaps.specs.Bitmap.{bytesFor}
 use Rattle.catalogue.specs.Format.{rowLimit, columnLimit}
-use Rattle.catalogue.specs.Catalogue.{Column, Catalogue, markBytes}
+use Rattle.catalogue.specs.Catalogue.{Column, Catalogue}
 use Rattle.catalogue.specs.Decode.{Columns}
 use Rattle.catalogue.specs.Sound.{IsRefusal}
-use Rattle.catalogue.specs.InPlace.{Shows}
+use Rattle.catalogue.specs.InPlace.{Shows, ShowsMark}
 use Rattle.layout.specs.declared.ColumnsLayout.{ColumnsLayout}
 use Rattle.layout.specs.declared.Layout.{Layout}
 
@@ -42,9 +41,7 @@ pub record Laid (b : List ℕ) (l : Layout) (C : Catalogue) : Type 0 where
   pub shown : ShowsAll b (C .rows) (l .tags) (l .starts) 0 (C .columns)
   pub tags-size : length (l .tags) ≡ columnLimit
   pub starts-size : length (l .starts) ≡ columnLimit
-  pub mark : drop (l .mark) b ≡ markBytes (C .mark)
-  pub mark-inside : l .mark ≤ length b
-  pub mark-short : length b ≤ l .mark + bytesFor (C .rows)
+  pub mark : ShowsMark b (l .mark) C
 
 -- a layout shows what was decoded
 abbrev pub LaidOut : List ℕ → Layout → Decoded Catalogue → Type 0

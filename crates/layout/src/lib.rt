@@ -11,7 +11,8 @@ ghost use Rattle.catalogue.specs.Format.{rowLimit, columnLimit};
 ghost use Rattle.catalogue.specs.Decode.{columnsAt, catalogueOf, decodeCatalogue};
 ghost use Rattle.layout.specs.Layout.{ColumnsLaidOut, LaidOut};
 
-// A refusal, or 0 and the layout: of each column its tag and where its payload starts, and where the bytes of the mark start, which go on to the end: at the end where there is none.
+// A refusal, or 0 and the layout: of each column its tag and where its payload starts, and where the bytes of the mark start, which go on to
+// the end. Where there is no mark that is the end.
 pub struct Layout {
     pub refusal: u8,
     pub rows: usize,

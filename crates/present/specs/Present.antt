@@ -11,7 +11,7 @@ use Rattle.bitmaps.specs.Table.{lineSize}
 use Rattle.bitmaps.specs.Word.{wordSize, rowsSet}
 
 -- a line of bits with those of a mark, and no others
-pub record WithdrawnLine (mark line : List ℕ) : Type 0 where
+pub record WithdrawnFor (mark line : List ℕ) : Type 0 where
   pub size : length line ≡ lineSize
   pub bytes : Bytes line
   pub bits : (e : ℕ) → bit line e ≡ bit mark e

@@ -5,12 +5,12 @@ ghost use Prim.Native.Nat.{_+_, _≤_, _<_};
 ghost use lib.ListN.{length, drop};
 ghost use Rattle.bitmaps.specs.Table.{lineSize};
 ghost use Rattle.bitmaps.specs.Word.{BlockAt};
-ghost use Rattle.present.specs.Present.{WithdrawnLine, presentSet};
+ghost use Rattle.present.specs.Present.{WithdrawnFor, presentSet};
 
 // The mark that starts there, with zeros behind it, so that each block has a word of it.
 pub fn withdrawn_line(catalogue: &[u8], mark: usize) -> [u8; Line::SIZE]
     requires { ⌜ (mark ≤ length (now catalogue)) × (length (now catalogue) ≤ mark + lineSize) ⌝ }
-    ensures { λ r. ⌜ WithdrawnLine (drop mark (now (catalogue .entry))) r ⌝ }
+    ensures { λ r. ⌜ WithdrawnFor (drop mark (now (catalogue .entry))) r ⌝ }
 {
     let mut line = [0u8; Line::SIZE];
     fields::output::put(&mut line, 0, &catalogue[mark..catalogue.len()]);

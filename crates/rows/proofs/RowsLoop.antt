@@ -29,7 +29,7 @@ use Rattle.query.specs.Format.{predicateLimit}
 use Rattle.rows.specs.declared.block.Block.{Block}
 use Rattle.rows.specs.declared.all.Extent.{Extent}
 use Rattle.rows.specs.Task.{Task, turnsOf, told, isSelected, dueAt, isProbed, isMet}
-use Rattle.present.specs.Present.{WithdrawnLine, presentSet}
+use Rattle.present.specs.Present.{WithdrawnFor, presentSet}
 use Rattle.rows.specs.Ready.{Slices, Ready}
 use Rattle.marks.specs.Marks.{HasMarkLines, metLine, HasNoBits, HasEmptyMarks}
 use Rattle.rows.specs.Worked.{rowOf, BlockIn, HasNoMarks, BlockDone, BlockReady, BlockWorked, marking, ExtentOf, RowsReady, RowsWorked}
@@ -51,7 +51,7 @@ pub record Done (T : Task) (n base lines : ℕ) (S P : List ℕ) : Type 0 where
 
 -- the rows before `base` are worked; the table of marks at first and by now
 pub record Blocking (G : Slices) (E : Extent) (W : List ℕ) (base : ℕ) (S P₀ P : List ℕ) : Type 0 where
-  pub withdrawn : WithdrawnLine (drop (E .mark) (G .catalogue)) W
+  pub withdrawn : WithdrawnFor (drop (E .mark) (G .catalogue)) W
   pub whole : base % blockRows ≡ 0
   pub selected-size : length S ≡ lineSize
   pub sized : length P ≡ length P₀
@@ -141,7 +141,7 @@ module _ {G : Slices} {E : Extent} {W : List ℕ} {base : ℕ} {S P₀ P : List 
         let r = X .rows in
         let w = B .whole in
         present-has W (E .rows) base d (B .withdrawn .bytes) w l lt
-        ∙ ap₂ (λ (a b : Bool). a && not b) (ap (ltb (base + d)) r) (B .withdrawn .bits (base + d) ∙ ap (λ (m : List ℕ). bit m (base + d)) (X .mark))
+        ∙ ap₂ (λ (a b : Bool). a && not b) (ap (ltb (base + d)) r) (B .withdrawn .bits (base + d) ∙ ap (λ (m : List ℕ). bit m (base + d)) (X .mark .bytes))
 
     all-live : (c : ℕ) → c < size (T .query .tree) → has (E .start) c ≡ true
     all-live c l = let z = R .leaves in ap (λ (x : ℕ). has x c) (X .start) ∙ has-below n c ∙ ltb-yes c n (omega arith)
@@ -258,7 +258,7 @@ module _ {G : Slices} {E : Extent} {W : List ℕ} {base : ℕ} {S P₀ P : List 
 
 -- ALL BLOCKS
 
-pub blocking-start : {G : Slices} {E : Extent} {W S P : List ℕ} → WithdrawnLine (drop (E .mark) (G .catalogue)) W → HasNoBits 1 S → HasEmptyMarks P → Blocking G E W 0 S P P
+pub blocking-start : {G : Slices} {E : Extent} {W S P : List ℕ} → WithdrawnFor (drop (E .mark) (G .catalogue)) W → HasNoBits 1 S → HasEmptyMarks P → Blocking G E W 0 S P P
 blocking-start w s p = record {
   withdrawn = w;
   whole = refl;

@@ -4,7 +4,7 @@ use mathlib.Core.Path.{_≡_, refl}
 use mathlib.Core.Bool.{Bool, true, false, not, _&&_, cond}
 use mathlib.Core.List.{[]}
 use Rattle.strategy.specs.Assignment.{elem}
-use Rattle.strategy.specs.Strategy.{predicates}
+use Rattle.strategy.specs.Strategy.{State, predicates}
 use Rattle.catalogue.specs.Catalogue.{isWithdrawn}
 use Rattle.rows.specs.Task.{Task, dueAt, traceAt, isProbed}
 
@@ -16,3 +16,12 @@ module _ (T : Task) (row : ℕ) where
       go : (w : Bool) → elem c (predicates (cond w [] (dueAt T row))) ≡ (not w && elem c (predicates (dueAt T row)))
       go true = refl
       go false = refl
+
+  -- what holds where there is no look and of those due holds of the looks made
+  pub trace-holds : (P : State → Type 0) → P [] → P (dueAt T row) → P (traceAt T row)
+  unfolding traceAt
+  trace-holds P none due = go (isWithdrawn (T .catalogue) row)
+    where
+      go : (w : Bool) → P (cond w [] (dueAt T row))
+      go true = none
+      go false = due

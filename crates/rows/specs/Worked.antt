@@ -4,7 +4,7 @@ use mathlib.Core.Path.{_≡_}
 use mathlib.Core.Bool.{Bool, false, _&&_, cond}
 use mathlib.Core.Logic.{_⊎_}
 use mathlib.Core.List.{List}
-use lib.ListN.{length, drop}
+use lib.ListN.{length}
 use lib.Dec.{ltb}
 use Rattle.fields.specs.Numbers.{Bytes}
 use Rattle.strategy.specs.Row.{RowProgress, unworked, work}
@@ -13,7 +13,7 @@ use Rattle.sets.specs.Changed.{ChangedAt}
 use Rattle.bitmaps.specs.Bitmap.{bytesFor, bitmap, bitmaps}
 use Rattle.bitmaps.specs.Table.{lineSize, lineBits, lineBit, linesOf, HoldsBits, within}
 use Rattle.bitmaps.specs.Word.{blockRows, BlockAt}
-use Rattle.catalogue.specs.Catalogue.{markBytes}
+use Rattle.catalogue.specs.InPlace.{ShowsMark}
 use Rattle.query.specs.Format.{predicateLimit}
 use Rattle.access.specs.Access.{RowsIn}
 use Rattle.rows.specs.declared.block.Block.{Block}
@@ -72,13 +72,11 @@ pub record Worked (T : Task) (n : ℕ) (selected marks : List ℕ) : Type 0 wher
   pub probed-bitmaps : linesOf (bytesFor (T .catalogue .rows)) marks n ≡ bitmaps (isProbed T) n (T .catalogue .rows)
   pub marked : (lines : ℕ) → length marks ≡ lines * lineSize → HoldsBits (marking T n) lines marks
 
--- all rows of the task, with all its predicates live at first; the mark's bytes are the last of the catalogue's
+-- all rows of the task, but for those that the mark withdraws, with all its predicates live at first
 pub record ExtentOf (G : Slices) (E : Extent) (n : ℕ) (T : Task) : Type 0 where
   pub rows : E .rows ≡ T .catalogue .rows
   pub start : E .start ≡ belowSet n
-  pub mark : drop (E .mark) (G .catalogue) ≡ markBytes (T .catalogue .mark)
-  pub mark-inside : E .mark ≤ length (G .catalogue)
-  pub mark-short : length (G .catalogue) ≤ E .mark + lineSize
+  pub mark : ShowsMark (G .catalogue) (E .mark) (T .catalogue)
 
 abbrev pub RowsReady : Slices → Extent → Type 0
 RowsReady G E = (n : ℕ) × (T : Task) × Ready G n T × ExtentOf G E n T

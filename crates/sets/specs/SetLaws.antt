@@ -4,7 +4,7 @@ use native.Mathlib.Nat.{one-mul, mod-lt, pow-suc, zero-div, div-eq-of-lt}
 use native.Mathlib.Numerals.{one-add}
 use native.Mathlib.Omega.{arith}
 use mathlib.Core.Path.{_≡_, refl, sym, ap, _∙_, fun-ext}
-use mathlib.Core.Bool.{Bool, true, false, _&&_, _||_, cond, xor, true≢false, false≢true}
+use mathlib.Core.Bool.{Bool, true, false, not, _&&_, _||_, cond, xor, true≢false, false≢true}
 use lib.Dec.{eqb, ltb, leb·suc-suc, eqb·suc-suc, lit<}
 use lib.Pow.{pow-pos, pow-mono, pow-lt, shl-exact, shr-shr}
 use lib.Bits.{bitAnd, bitOr, bitXor, and-mask, and-shr, and-mod, or-lt, or-shr, or-mod, xor-shr, xor-mod}
@@ -69,6 +69,15 @@ minus-bit false false = refl
 pub minus-has : (x m d : ℕ) → has (setMinus x m) d ≡ cond (has m d) false (has x d)
 minus-has x m d =
     has-xor x (bitAnd x m) d ∙ ap (xor (has x d)) (has-and x m d) ∙ minus-bit (has x d) (has m d)
+
+pub minus-and : (x m d : ℕ) → has (setMinus x m) d ≡ (has x d && not (has m d))
+minus-and x m d = minus-has x m d ∙ go (has x d) (has m d)
+  where
+    go : (p q : Bool) → cond q false p ≡ (p && not q)
+    go true true = refl
+    go true false = refl
+    go false true = refl
+    go false false = refl
 
 pub has-none : (d : ℕ) → has 0 d ≡ false
 unfolding has

@@ -1,10 +1,9 @@
 -- What working the rows asks and leaves, from what is in hand.
 use Prim.Native.Nat.{ℕ}
-use native.Mathlib.Omega.{arith}
-use mathlib.Core.Path.{_≡_, ap, _∙_}
+use mathlib.Core.Path.{_≡_, _∙_}
 use mathlib.Core.Bool.{true}
 use mathlib.Core.List.{List}
-use lib.ListN.{length, drop}
+use lib.ListN.{length}
 use Rattle.strategy.specs.Order.{isOrder}
 use Rattle.sets.specs.Set.{belowSet}
 use Rattle.records.specs.Table.{recordAt}
@@ -26,16 +25,7 @@ module _ {b q : List ℕ} {r : Beginning} {T : Tables} (G : HasInput b q r T) (o
 
   module _ (E : Extent) (rows : E .rows ≡ r .rows) (start : E .start ≡ belowSet (r .n)) (mark : E .mark ≡ r .mark) where
     extent-of : ExtentOf (slices b q order P (T .ancestors)) E (r .n) (taskOf (G .input) order)
-    extent-of =
-        let h = G .laid in
-        let m : E .mark ≡ G .layout .mark = mark ∙ G .mark in
-        record {
-          rows = rows ∙ G .rows ∙ h .rows;
-          start = start;
-          mark = ap (λ (k : ℕ). drop k b) m ∙ h .mark;
-          mark-inside = omega (arith, h .mark-inside);
-          mark-short = omega (arith, h .mark-short, h .rows, h .short);
-        }
+    extent-of = record { rows = rows ∙ G .rows ∙ G .laid .rows; start = start; mark = rw (mark, G .mark) (G .laid .mark) }
 
     pub input-rows-ready : RowsReady (slices b q order P (T .ancestors)) E
     input-rows-ready = (r .n, taskOf (G .input) order, input-ready, extent-of)

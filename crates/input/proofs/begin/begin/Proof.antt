@@ -44,8 +44,9 @@ same-length-2 c = search needs
 
 returns-2 : tie.Need-returns-2
 returns-2 c =
-    let l = c .before .before .before .before .before .before .before .before .before .before .before .before .before .before .before .lay-out in
-    let h = question-refuses _ _ (l .result) _ refl _ _ (l .ensures) (c .before .before .before .before .before .before .before .before .before .before .before .before .if1 .left) (c .before .before .before .before .before .before .before .before .read-query .ensures) _ (c .before .before .e .given .1) in
+    let a = c .before .before .before .before .before .before .before .before in
+    let l = a .before .before .before .before .before .before .before .lay-out in
+    let h = question-refuses _ _ (l .result) _ refl _ _ (l .ensures) (a .before .before .before .before .if1 .left) (a .read-query .ensures) _ (c .before .before .e .given .1) in
     let e = c .refuse2 .ensures in
     record { refuses = λ ne. rw e (h .0, h .1); accepts = λ z. absurd (omega (arith, h .2, e)) }
 
@@ -57,10 +58,11 @@ same-length-4 c = search needs
 
 returns-3 : tie.Need-returns-3
 returns-3 c =
-    let l = c .before .before .before .before .before .before .before .before .before .before .before .before .before .before .lay-out in
+    let a = c .before .before .before .before .before .before .before in
+    let l = a .before .before .before .before .before .before .before .lay-out in
     record {
       refuses = λ ne. absurd (ne refl);
-      accepts = λ z. input-accepted _ _ (l .result) _ refl _ _ (l .ensures) (c .before .before .before .before .before .before .before .before .before .before .before .if1 .left) (c .before .before .before .before .before .before .before .read-query .ensures) _ (c .before .n .given .1);
+      accepts = λ z. input-accepted _ _ (l .result) _ refl _ _ (l .ensures) (a .before .before .before .before .if1 .left) (a .read-query .ensures) _ (c .before .n .given .1);
     }
 
 pub begin-spec : {M : Type 1} → statement M

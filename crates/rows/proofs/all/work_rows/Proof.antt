@@ -1,5 +1,6 @@
 -- `work_rows` meets its contract. Invariant: of the rows before base the tables hold what they are to hold, and nothing of the others.
 use Prim.Native.Nat.{_-_}
+use native.Mathlib.Omega.{arith}
 use mathlib.Core.Path.{sym, _∙_}
 use borrow.Author.Needs.{needs}
 use Rattle.rows.specs.Ready.{slices}
@@ -18,7 +19,10 @@ fold-table-requires : tie.Need-fold-table-requires Inv-loop μ-loop
 fold-table-requires c κs = search needs
 
 withdrawn-line-requires : tie.Need-withdrawn-line-requires Inv-loop μ-loop
-withdrawn-line-requires c κs = let x = c .before .before .before .before .before .before .before .before .pre .0 .3 in (x .mark-inside, x .mark-short)
+withdrawn-line-requires c κs =
+    let p = c .before .before .before .before .before .before .before .before .pre .0 in
+    let m = p .3 .mark in
+    (m .inside, omega (arith, m .short, p .2 .short))
 
 loop-holds : tie.Need-loop-holds Inv-loop μ-loop
 loop-holds c = let p = c .before .before .before .before .before .before .before .before .before .pre .1 in blocking-start (c .withdrawn-line .ensures) (p .0) (p .1)
