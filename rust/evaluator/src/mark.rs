@@ -3,7 +3,7 @@ use crate::refusal::{self, Number};
 
 const MARK_TAG: u8 = 87;
 
-/// Reads what follows the last column: nothing, or the mark alone. "Where byte 87 follows the last column, 1 comes first, then
+/// Reads what follows the last column: nothing, or the mark alone. "where byte 87 follows the last column, 1 comes first, then
 /// 23, a wrong length or a stray bit; 6 is for any other byte there, or bytes after the mark."
 pub fn read_mark(bytes: &[u8], entries: usize) -> Result<Option<Vec<bool>>, Number> {
     let mut rest = bytes;

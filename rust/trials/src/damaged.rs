@@ -1,6 +1,26 @@
+use evaluator::Catalogue;
 use generator::{
     Damage, MarkFault, Rng, catalogue_of, damage, encode_catalogue, faulty_mark, faulty_question, running_order,
 };
+
+/// The bytes of a catalogue: so many in a hundred damaged, and half as many with a fault of the mark.
+pub fn damaged_catalogue(rng: &mut Rng, made: &Catalogue, percent: usize) -> Vec<u8> {
+    let mut bytes = encode_catalogue(made);
+    if rng.chance(percent / 2) {
+        let fault = *rng.pick(&MarkFault::ALL);
+        bytes = faulty_mark(rng, made, fault).unwrap_or(bytes);
+    }
+    damage_some(rng, &mut bytes, percent);
+    bytes
+}
+
+/// Damages the bytes, with a chance of so many in a hundred.
+pub fn damage_some(rng: &mut Rng, bytes: &mut Vec<u8>, percent: usize) {
+    if rng.chance(percent) {
+        let how = *rng.pick(&Damage::ALL);
+        damage(rng, bytes, how);
+    }
+}
 
 /// A small catalogue, a question and a running order, as bytes, each of them damaged now and then.
 pub struct Damaged {
@@ -17,19 +37,10 @@ impl Damaged {
     pub fn new(rng: &mut Rng) -> Damaged {
         let (entries, columns) = (rng.between(0, 10), rng.between(1, 4));
         let made = catalogue_of(rng, entries, columns);
-        let mut catalogue = encode_catalogue(&made);
-        if rng.chance(4) {
-            let fault = *rng.pick(&MarkFault::ALL);
-            catalogue = faulty_mark(rng, &made, fault).unwrap_or(catalogue);
-        }
+        let catalogue = damaged_catalogue(rng, &made, 8);
         let faults = *rng.pick(&[0, 0, 0, 5]);
         let mut question = faulty_question(rng, &made, faults);
-        for (bytes, percent) in [(&mut catalogue, 8), (&mut question, 15)] {
-            if rng.chance(percent) {
-                let how = *rng.pick(&Damage::ALL);
-                damage(rng, bytes, how);
-            }
-        }
+        damage_some(rng, &mut question, 15);
         let conditions = match evaluator::question_word(&catalogue, &question) {
             word if word as u8 == 0 => (word >> 8) as usize,
             _ => rng.below(5),

@@ -11,7 +11,7 @@ pub fn seeds(count: u64) -> Range<u64> {
     0..if fewer() { count / 8 } else { count }
 }
 
-/// These numbers of entries, or the small ones of them.
+/// These numbers of entries, or those of them under 1,000.
 pub fn sizes<const N: usize>(list: [usize; N]) -> impl Iterator<Item = usize> {
     list.into_iter().filter(|&size| size < 1_000 || !fewer())
 }

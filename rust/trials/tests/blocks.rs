@@ -6,7 +6,7 @@ use generator::{
     BLOCK, Pattern, Rng, catalogue_of, near_text, operand, question_of, running_order, tree_of, with_blanks,
     with_outcomes,
 };
-use trials::{compare_both, compare_condition, fewer, look_count, seeds};
+use trials::{compare_both, compare_condition, fewer, look_count, seeds, sizes};
 
 /// Sizes at the ends of blocks.
 const SIZES: [usize; 17] = [0, 1, 2, 8, 62, 63, 64, 65, 66, 127, 128, 129, 191, 192, 193, 2_047, 2_048];
@@ -16,7 +16,7 @@ const SMALLER: [usize; 8] = [1, 63, 64, 65, 100, 127, 128, 129];
 const MOST: u32 = BLANK_NUMBER - 1;
 
 /// The sizes, or but one of the large ones.
-fn sizes() -> impl Iterator<Item = usize> {
+fn block_ends() -> impl Iterator<Item = usize> {
     SIZES.into_iter().filter(|&size| size != 2_048 || !fewer())
 }
 
@@ -94,7 +94,7 @@ fn met_everywhere(rng: &mut Rng, size: usize, count: usize) -> (Catalogue, Vec<C
 /// All of many that are all met, and any of many that none is: every look is due.
 #[test]
 fn every_condition_due_everywhere() {
-    for size in sizes() {
+    for size in block_ends() {
         for count in [1, 2, 12, 64] {
             let mut rng = Rng::new((size * 100 + count) as u64);
             let (made, mut conditions) = met_everywhere(&mut rng, size, count);
@@ -114,7 +114,7 @@ fn every_condition_due_everywhere() {
 /// The first of the order settles every entry: no other condition is looked at anywhere.
 #[test]
 fn none_due_after_the_first() {
-    for size in sizes() {
+    for size in block_ends() {
         for count in [2, 12, 64] {
             let mut rng = Rng::new((size * 100 + count) as u64);
             let (made, mut conditions) = met_everywhere(&mut rng, size, count);
@@ -181,7 +181,7 @@ fn one_entry_differs_from_its_neighbours() {
 
 #[test]
 fn groups_nested_eight_deep_and_64_conditions() {
-    for (seed, size) in sizes().enumerate() {
+    for (seed, size) in block_ends().enumerate() {
         let mut rng = Rng::new(seed as u64);
         let made = catalogue_of(&mut rng, size, 6);
         let asked = question_of(&mut rng, &made, 64, 8);
@@ -210,7 +210,7 @@ fn groups_nested_eight_deep_and_64_conditions() {
 /// not: neither the condition nor its opposite lists a blank, unless they ask for it.
 #[test]
 fn blanks_among_the_entries_of_a_block() {
-    for size in [63, 64, 65, 128, 2_048].into_iter().filter(|&size| size < 2_048 || !fewer()) {
+    for size in sizes([63, 64, 65, 128, 2_048]) {
         for blanks in Pattern::ALL {
             let mut rng = Rng::new(size as u64);
             let (blank, met) = (blanks.of(&mut rng, size), Pattern::Half.of(&mut rng, size));

@@ -5,10 +5,12 @@ use std::os::unix::fs::{PermissionsExt, symlink};
 
 use evaluator::{Catalogue, Column, Condition, Question, Test, Tree, refused_register, register};
 use generator::{
-    Rng, catalogue_of, encode_catalogue, encode_question, faulty_question, field, latin_1, question_of, running_order,
+    Rng, catalogue_of, encode_catalogue, encode_mark, encode_question, faulty_question, field, latin_1, question_of,
+    running_order,
 };
 use trials::{
-    ENTRIES_AT_ENDS, OUTSIDE_THE_CENTURY, PARISH_CATALOGUE, PARISH_ORDER, PARISH_QUESTION, Room, Seen, marked_parish,
+    ENTRIES_AT_ENDS, OUTSIDE_THE_CENTURY, PARISH_CATALOGUE, PARISH_ORDER, PARISH_QUESTION, Room, Seen,
+    damaged_catalogue, marked_parish,
 };
 
 const FILES: [(&str, usize); 3] = [("catalogue.bin", 65_536), ("question.bin", 4_096), ("order.bin", 64)];
@@ -68,6 +70,16 @@ fn withdrawn_entry_is_not_in_the_register() {
     assert_eq!(consult("none withdrawn", &marked_parish(0b000), PARISH_QUESTION, PARISH_ORDER), expected);
 }
 
+/// Ten entries, each found where it is in the house: the first and last of the mark's first byte are not, nor those of its second.
+#[test]
+fn ends_of_the_mark() {
+    let made = Catalogue::unmarked(10, vec![Column::Numbers((0..10).collect())]);
+    let catalogue = [encode_catalogue(&made), encode_mark(&[0b1000_0001, 0b11])].concat();
+    let entries: String = (1..=6).map(|entry| format!("entry {entry}\n")).collect();
+    let expected = format!("consultation register\nfound 6\n{entries}looks 6\ncondition 0 6\n");
+    assert_eq!(consult("entries 0, 7, 8 and 9 withdrawn", &catalogue, &field(80, &[0, 129]), &[0]), expected);
+}
+
 /// The tally starts at zero in each consultation, and none leaves anything behind.
 #[test]
 fn consulting_again_prints_the_same() {
@@ -86,16 +98,22 @@ fn each_refusal_that_files_can_cause() {
     let mut stray = c.to_vec();
     stray[95] = 1;
     type Case<'a> = (&'a [u8], &'a [u8], &'a [u8], u8);
-    let cases: [Case; 19] = [
+    let cases: [Case; 25] = [
         (b"", q, o, 1),
         (&field(66, &[0, 3, 2]), q, o, 2),
         (&field(67, &[8, 1, 1]), q, o, 3),
         (&[&c[..6], &field(79, &[0; 12])].concat(), q, o, 4),
+        (&[&c[..6], &encode_mark(&[0; 12])].concat(), q, o, 4),
         (&stray, q, o, 5),
         (&[c, &[0]].concat(), q, o, 6),
+        (&[c, &[87]].concat(), q, o, 1),
+        (&[c, &[87, 0]].concat(), q, o, 1),
         (&[c, &[87, 0, 1]].concat(), q, o, 1),
-        (&[c, &[87, 0, 1, 0b1000]].concat(), q, o, 23),
-        (&[c, &[87, 0, 1, 0b100, 0]].concat(), q, o, 6),
+        (&[c, &encode_mark(&[])].concat(), q, o, 23),
+        (&[c, &encode_mark(&[0, 0])].concat(), q, o, 23),
+        (&[c, &encode_mark(&[0b1000])].concat(), q, o, 23),
+        (&[c, &encode_mark(&[0b100]), &[0]].concat(), q, o, 6),
+        (&[c, &encode_mark(&[0]), &encode_mark(&[0])].concat(), q, o, 6),
         (c, b"", o, 7),
         (c, &field(1, &[]), o, 8),
         (c, &field(65, &[]), o, 9),
@@ -208,12 +226,15 @@ fn sixty_four_and_sixty_five_conditions_eight_and_nine_nested_groups() {
     assert_eq!(consult("9 nested groups", PARISH_CATALOGUE, &nested(9), &[0]), refused_register(10));
 }
 
+/// P7, and the same with a mark, which has no bytes.
 #[test]
 fn no_entries() {
-    let nobody = field(67, &[0, 0, 1]);
-    let nobody = [nobody, field(78, &[])].concat();
+    let nobody = [field(67, &[0, 0, 1]), field(78, &[])].concat();
+    let marked = [nobody.clone(), encode_mark(&[])].concat();
     let expected = "consultation register\nfound 0\nlooks 0\ncondition 0 0\n";
-    assert_eq!(consult("P7", &nobody, &field(80, &[0, 1]), &[0]), expected);
+    for catalogue in [nobody, marked] {
+        assert_eq!(consult("P7", &catalogue, &field(80, &[0, 1]), &[0]), expected);
+    }
 }
 
 /// 2,048 entries, twelve conditions three groups deep: `generator`'s second example, without a mark and with one.
@@ -239,7 +260,7 @@ fn random_consultations() {
         let mut rng = Rng::new(seed);
         let (entries, columns) = (rng.between(0, 70), rng.between(1, 4));
         let made = catalogue_of(&mut rng, entries, columns);
-        let catalogue = encode_catalogue(&made);
+        let catalogue = damaged_catalogue(&mut rng, &made, 10);
         let faults = *rng.pick(&[0, 0, 0, 10]);
         let asked = faulty_question(&mut rng, &made, faults);
         let word = evaluator::question_word(&catalogue, &asked);
@@ -250,6 +271,7 @@ fn random_consultations() {
         }
     }
     seen.assert_each(0..=0, 100);
+    seen.assert_each(23..=23, 4);
 }
 
 /// The last number of each line that begins with such a word.

@@ -1,11 +1,11 @@
 //! The mark that a catalogue may end with (order 6): which bytes are one, and with which refusal every call declines others.
 
 use evaluator::{Catalogue, Column, pack, refused};
-use generator::{MarkFault, Rng, catalogue_of, encode_catalogue, faulty_mark, field, text};
+use generator::{MarkFault, Rng, catalogue_of, encode_catalogue, encode_mark, faulty_mark, field, text};
 use searchroom::{Refusal, Size, check_catalogue};
 use trials::{
     ENTRIES_AT_ENDS, FILL, PARISH_CATALOGUE, Run, Typing, compare_catalogue, compare_copy, compare_every_call,
-    compare_outcome, compare_question, compare_run, compare_typed, marked_parish, ones, seeds,
+    compare_outcome, compare_question, compare_run, compare_typed, fewer, marked_parish, ones, seeds, sizes,
 };
 
 /// A run over a catalogue, with tables and tally filled with one byte: is the number in column 0 blank?
@@ -27,7 +27,7 @@ fn row(entries: usize) -> usize {
 
 /// A mark that withdraws none of so many entries.
 fn zeros(entries: usize) -> Vec<u8> {
-    field(87, &vec![0; row(entries)])
+    encode_mark(&vec![0; row(entries)])
 }
 
 /// Every call declines the catalogue with this number and alters nothing.
@@ -41,6 +41,11 @@ fn expect_catalogue_refused(number: u8, label: &str, catalogue: Vec<u8>) {
     assert_eq!(after, before, "{label}");
 }
 
+/// Every byte, or each seventeenth.
+fn bytes() -> impl Iterator<Item = u8> {
+    (0..=255).step_by(if fewer() { 17 } else { 1 })
+}
+
 /// The same for bytes that follow the last column.
 fn expect_refused(number: u8, entries: usize, after_columns: &[u8]) {
     let label = format!("{number}: {entries} entries, then {:?}", &after_columns[..after_columns.len().min(12)]);
@@ -50,7 +55,7 @@ fn expect_refused(number: u8, entries: usize, after_columns: &[u8]) {
 /// The mark is accepted by every call, and the looks are as many as entries are still in the house.
 fn expect_accepted(entries: usize, after_columns: &[u8]) {
     let label = format!("{entries} entries, then {after_columns:?}");
-    let answers = compare_every_call(&label, &asking(catalogue(entries, after_columns)), &[FILL; 7 * 70]);
+    let answers = compare_every_call(&label, &asking(catalogue(entries, after_columns)), &vec![FILL; 7 * entries + 5]);
     let looks = entries - ones(after_columns.get(3..).unwrap_or_default()) as usize;
     assert_eq!((answers.catalogue, answers.question), (pack(entries, 1, 0), pack(1, 0, 0)), "{label}");
     assert_eq!((answers.ran.word, answers.copied.word), (pack(0, 0, looks), pack(0, 0, 7 * looks)), "{label}");
@@ -73,7 +78,7 @@ fn byte_after_the_last_column_decides() {
         expect_refused(1, entries, &[87]);
         expect_refused(1, entries, &[87, 0]);
         expect_refused(1, entries, &[87, 255]);
-        for tag in (0..=255).filter(|&tag| tag != 87) {
+        for tag in bytes().filter(|&tag| tag != 87) {
             expect_refused(6, entries, &[tag]);
             expect_refused(6, entries, &[tag, 0]);
             expect_refused(6, entries, &field(tag, &vec![0; row(entries)]));
@@ -84,7 +89,7 @@ fn byte_after_the_last_column_decides() {
 
 #[test]
 fn length_that_passes_the_end() {
-    for entries in ENTRIES_AT_ENDS {
+    for entries in sizes(ENTRIES_AT_ENDS) {
         let sound = zeros(entries);
         for end in [3, sound.len() - 1] {
             expect_refused(1, entries, &sound[..end]);
@@ -99,11 +104,11 @@ fn length_that_passes_the_end() {
 /// Too short or too long, but all of it there: also where one byte of the length is the right one.
 #[test]
 fn length_that_does_not_fit_the_entries() {
-    for entries in [0, 1, 7, 8, 9, 64, 65, 2_040, 2_041, 2_048] {
+    for entries in sizes([0, 1, 7, 8, 9, 64, 65, 2_040, 2_041, 2_048]) {
         let right = row(entries);
         let others = (0..=right + 3).chain([right + 256, 4 * entries, 24 * entries]).filter(|&length| length != right);
         for length in others {
-            expect_refused(23, entries, &field(87, &vec![0; length]));
+            expect_refused(23, entries, &encode_mark(&vec![0; length]));
         }
     }
 }
@@ -113,8 +118,8 @@ fn length_that_does_not_fit_the_entries() {
 fn every_last_byte() {
     for entries in 1..=16 {
         let unused = 8 * row(entries) - entries;
-        for last in 0..=255_u8 {
-            let mark = field(87, &[vec![255; (entries - 1) / 8], vec![last]].concat());
+        for last in bytes() {
+            let mark = encode_mark(&[vec![255; (entries - 1) / 8], vec![last]].concat());
             if last.leading_zeros() as usize >= unused {
                 expect_accepted(entries, &mark);
             } else {
@@ -124,7 +129,7 @@ fn every_last_byte() {
     }
 }
 
-/// Each bit after the last entry's, alone, in catalogues that end in every way.
+/// Each bit after the last entry's, alone, for every remainder of the entries by eight; and some that are used, alone too.
 #[test]
 fn stray_bit_anywhere() {
     for entries in (57..=64).chain(2_041..=2_048) {
@@ -132,19 +137,19 @@ fn stray_bit_anywhere() {
         for stray in entries..8 * sound.len() {
             let mut mark = sound.clone();
             mark[stray / 8] = 1 << (stray % 8);
-            expect_refused(23, entries, &field(87, &mark));
+            expect_refused(23, entries, &encode_mark(&mark));
         }
-        for used in [0, entries - 9, entries - 1] {
+        for used in [0, 7, 8, entries - 9, entries - 1] {
             let mut mark = sound.clone();
             mark[used / 8] = 1 << (used % 8);
-            assert_eq!(compare_catalogue("a used bit", &catalogue(entries, &field(87, &mark))), pack(entries, 1, 0));
+            expect_accepted(entries, &encode_mark(&mark));
         }
     }
 }
 
 #[test]
 fn bytes_after_the_mark() {
-    for entries in [1, 3, 8, 13, 2_048] {
+    for entries in sizes([1, 3, 8, 13, 2_048]) {
         let sound = zeros(entries);
         for more in [&[0][..], &[87], &[87, 0], &field(78, &[]), &[0; 300], &sound] {
             expect_refused(6, entries, &[&sound, more].concat());
@@ -155,10 +160,10 @@ fn bytes_after_the_mark() {
 /// What is wrong with the mark comes before what follows it; that it is cut comes before both.
 #[test]
 fn refusal_23_comes_before_6() {
-    let stray = field(87, &[0b1000]);
-    let long = field(87, &[0, 0]);
-    for unsound in [&stray, &long, &field(87, &[])] {
-        for more in [&[0][..], &[87], &field(87, &[0]), unsound] {
+    let stray = encode_mark(&[0b1000]);
+    let long = encode_mark(&[0, 0]);
+    for unsound in [&stray, &long, &encode_mark(&[])] {
+        for more in [&[0][..], &[87], &encode_mark(&[0]), unsound] {
             expect_refused(23, 3, &[unsound, more].concat());
         }
     }
@@ -168,16 +173,16 @@ fn refusal_23_comes_before_6() {
 /// Where a column stands the mark is none, not even where its length is a column's.
 #[test]
 fn mark_in_the_place_of_a_column() {
-    let (sound, numbers) = (field(87, &[0]), field(78, &[0; 12]));
+    let (sound, numbers) = (encode_mark(&[0]), field(78, &[0; 12]));
     let head = |entries, columns| field(67, &[0, entries, columns]);
     for (label, parts) in [
         ("of the only column", vec![head(3, 1), sound.clone()]),
         ("of the first column", vec![head(3, 1), sound.clone(), numbers.clone()]),
         ("of the second column", vec![head(3, 2), numbers.clone(), sound.clone()]),
         ("of a column and again", vec![head(3, 1), sound.clone(), sound.clone()]),
-        ("with the length of numbers", vec![head(3, 1), field(87, &[0; 12])]),
-        ("with the length of texts", vec![head(3, 1), field(87, &[0; 72])]),
-        ("with the length of no numbers", vec![head(0, 1), field(87, &[])]),
+        ("with the length of numbers", vec![head(3, 1), encode_mark(&[0; 12])]),
+        ("with the length of texts", vec![head(3, 1), encode_mark(&[0; 72])]),
+        ("with the length of no numbers", vec![head(0, 1), encode_mark(&[])]),
     ] {
         expect_catalogue_refused(4, label, parts.concat());
     }
@@ -190,7 +195,7 @@ fn mark_in_the_place_of_a_column() {
 fn refusal_23_among_the_others() {
     let mut slot = PARISH_CATALOGUE.to_vec();
     slot[95] = 1;
-    expect_catalogue_refused(5, "5 before 23", [slot, field(87, &[0b1000])].concat());
+    expect_catalogue_refused(5, "5 before 23", [slot, encode_mark(&[0b1000])].concat());
     let worse = Run { catalogue: marked_parish(0b1000), ..Run::default() };
     let catalogue = &worse.catalogue;
     let words = [

@@ -1,9 +1,9 @@
 //! `searchroom_outcome` against the evaluator: every kind, every byte value, and every number out of range.
 
 use evaluator::{Catalogue, Column, Condition, Question, Test, Tree, outcome, pack, refused};
-use generator::{Damage, Rng, catalogue_of, damage, encode_catalogue, encode_question, field, question, twelve_kinds};
+use generator::{Rng, catalogue_of, encode_catalogue, encode_question, field, question, twelve_kinds};
 use searchroom::{Answer, Refusal};
-use trials::{PARISH_CATALOGUE, PARISH_QUESTION, Seen, compare_outcome, marked_parish};
+use trials::{PARISH_CATALOGUE, PARISH_QUESTION, Seen, compare_outcome, damage_some, damaged_catalogue, marked_parish};
 
 const NO: u64 = 0;
 const YES: u64 = 1 << 8;
@@ -210,17 +210,10 @@ fn random_calls_reach_every_refusal() {
         let mut rng = Rng::new(seed);
         let (entries, columns) = (rng.between(1, 6), rng.between(1, 4));
         let made = catalogue_of(&mut rng, entries, columns);
-        let mut catalogue = encode_catalogue(&made);
+        let catalogue = damaged_catalogue(&mut rng, &made, 10);
         let faults = *rng.pick(&[0, 0, 5, 10]);
         let mut asked = generator::faulty_question(&mut rng, &made, faults);
-        if rng.chance(20) {
-            let how = *rng.pick(&Damage::ALL);
-            damage(&mut rng, &mut asked, how);
-        }
-        if rng.chance(10) {
-            let how = *rng.pick(&Damage::ALL);
-            damage(&mut rng, &mut catalogue, how);
-        }
+        damage_some(&mut rng, &mut asked, 20);
         let (entry, condition) = (rng.below(entries + 1) as u64, rng.below(4) as u64);
         let word = compare_outcome(&format!("seed {seed}"), &catalogue, &asked, entry, condition);
         seen.count(word);

@@ -6,7 +6,9 @@ use generator::{
     question_of,
 };
 use searchroom::{Refusal, check_question};
-use trials::{PARISH_CATALOGUE, PARISH_QUESTION, Seen, compare_question, marked_parish};
+use trials::{
+    PARISH_CATALOGUE, PARISH_QUESTION, Seen, compare_question, damage_some, damaged_catalogue, marked_parish,
+};
 
 /// A condition on the parish's years: from `low` to `high`.
 fn years(low: u32, high: u32) -> Vec<u8> {
@@ -284,17 +286,10 @@ fn faulty_and_damaged_inputs_reach_every_refusal() {
         let mut rng = Rng::new(seed);
         let (entries, columns) = (rng.below(4), rng.between(1, 4));
         let made = catalogue_of(&mut rng, entries, columns);
-        let mut catalogue = encode_catalogue(&made);
+        let catalogue = damaged_catalogue(&mut rng, &made, 8);
         let faults = *rng.pick(&[0, 2, 5, 20]);
         let mut question = faulty_question(&mut rng, &made, faults);
-        if rng.chance(50) {
-            let how = *rng.pick(&Damage::ALL);
-            damage(&mut rng, &mut question, how);
-        }
-        if rng.chance(8) {
-            let how = *rng.pick(&Damage::ALL);
-            damage(&mut rng, &mut catalogue, how);
-        }
+        damage_some(&mut rng, &mut question, 50);
         seen.count(compare_question(&format!("faulty question, seed {seed}"), &catalogue, &question));
     }
     seen.assert_each(0..=14, 30);

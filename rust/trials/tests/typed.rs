@@ -3,13 +3,13 @@
 
 use evaluator::{Catalogue, Column, pack, read_catalogue, read_question, read_typed, refused, spelling};
 use generator::{
-    Damage, Misspelling, Rng, catalogue, catalogue_of, damage, encode_catalogue, encode_question, field, misspell,
-    question, question_of, typable_question,
+    Misspelling, Rng, catalogue, catalogue_of, encode_catalogue, encode_question, field, misspell, question,
+    question_of, typable_question,
 };
 use searchroom::{MAX_TYPED, Refusal, TYPED_BYTES, check_question, consult, typed, typed_question};
 use trials::{
     FILL, PARISH_CATALOGUE, PARISH_ORDER, PARISH_QUESTION, PARISH_TEXT, Seen, Typing, compare_reading, compare_typed,
-    fewer, marked_parish, seeds,
+    damaged_catalogue, fewer, marked_parish, seeds,
 };
 
 /// Reads a text on the parish's columns into so many bytes, by the engine and by the evaluator: the word and the output.
@@ -338,13 +338,9 @@ fn random_and_damaged_inputs_reach_every_refusal() {
         let mut rng = Rng::new(seed);
         let (entries, columns) = (rng.below(4), rng.between(1, 4));
         let made = catalogue_of(&mut rng, entries, columns);
-        let mut catalogue = encode_catalogue(&made);
+        let catalogue = damaged_catalogue(&mut rng, &made, 8);
         let faults = *rng.pick(&[0, 0, 3, 10]);
         let mut text = spelling(&typable_question(&mut rng, &made, faults)).expect("a typed form").into_bytes();
-        if rng.chance(20) {
-            let how = *rng.pick(&Damage::ALL);
-            damage(&mut rng, &mut catalogue, how);
-        }
         if rng.chance(20) {
             let how = *rng.pick(&Misspelling::ALL);
             misspell(&mut rng, &mut text, how);

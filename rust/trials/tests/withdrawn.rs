@@ -135,7 +135,8 @@ fn each_kind_at_a_withdrawn_entry() {
     }
 }
 
-/// The first and last entries of the mark's bytes, and the last of all: one alone is withdrawn, or all but that one.
+/// The first and last entry of the mark's first byte, the first of its second, and the last of all: one alone is withdrawn, or
+/// all but that one.
 #[test]
 fn one_entry_withdrawn_or_left() {
     for size in sizes(ENTRIES_AT_ENDS) {
@@ -151,7 +152,8 @@ fn one_entry_withdrawn_or_left() {
     }
 }
 
-/// Every mark pattern over every outcome pattern, in whole blocks of 64 entries, with one more, and without the last.
+/// Every pattern of withdrawn entries, over conditions met in any pattern, in whole blocks of 64 entries, with one more, and without
+/// the last.
 #[test]
 fn each_pattern_of_withdrawn_entries() {
     for size in sizes([63, 64, 65, 128, 200, 2_047, 2_048]) {
@@ -299,7 +301,7 @@ fn questions_and_texts_on_a_marked_catalogue() {
     assert_eq!(compare_reading(&catalogue, "c2 blank "), Err(21));
 }
 
-/// 64 conditions over 2,048 entries, half of them withdrawn: every other look is due.
+/// 64 conditions over 2,048 entries, half of them withdrawn: at those left every look is due.
 #[test]
 fn largest_run_with_half_withdrawn() {
     let mut rng = Rng::new(5);
