@@ -4,7 +4,7 @@
 #include "case.h"
 #include <string.h>
 
-enum { MOST = 2048, SLOT = 24, LONGEST = 23, CONDITIONS = 3, FURTHER = 9, FILL = 0xA7, FIELD = SEARCHROOM_COPY_FIELD_BYTES };
+enum { MOST = 2048, SLOT = 24, LONGEST = 23, CONDITIONS = 3, FURTHER = 9, FIELD = SEARCHROOM_COPY_FIELD_BYTES };
 
 /* All of: the number from 2 to 5; any of: the text does not contain "bY", the text is blank. */
 static const uint8_t question[] = {65, 0, 28, 80, 0, 10, 0, 0, 0, 0, 0, 2, 0, 0, 0, 5,
@@ -106,7 +106,7 @@ static void expect_copy(unsigned entries, const uint8_t *catalogue, size_t catal
     const uint8_t *field = output;
     for (unsigned entry = 0; entry < entries; entry++)
         field = expect_fields(entry, field);
-    EXPECT(memcmp(output + written, filled, FURTHER) == 0);
+    EXPECT(are_filled(output + written, FURTHER));
     give_back(output, output_len);
 }
 
@@ -133,8 +133,7 @@ static void expect_run(unsigned entries)
     EXPECT_EQ(tally[6] * 256u + tally[7], looked);
     for (unsigned bit = entries; bit < 8 * row; bit++)
         EXPECT_EQ(searchroom_bit(listed, bit) + searchroom_bit(looks + 2 * row, bit), 0);
-    for (size_t i = 0; i < FURTHER; i++)
-        EXPECT(listed[row + i] == FILL && looks[CONDITIONS * row + i] == FILL);
+    EXPECT(are_filled(listed + row, FURTHER) && are_filled(looks + CONDITIONS * row, FURTHER));
     expect_copy(entries, catalogue, catalogue_len);
     give_back(catalogue, catalogue_len);
     give_back(listed, listed_len);

@@ -25,7 +25,16 @@ void give_back(uint8_t *lent, size_t len);
 /* The bytes of a file, which must be there; the caller frees them. */
 uint8_t *read_file(const char *path, size_t *len);
 
-/* Expects the fields that a copy of the parish in the order 0, 1, 2 has for these entries, given as a row of bits. */
+/* What lent bytes are filled with, to see which are written. */
+enum { FILL = 0x5A };
+
+/* Does every byte of these hold that? */
+int are_filled(const uint8_t *bytes, size_t len);
+
+/* The question of the parish as staff type it. */
+#define PARISH_TEXT "any(all(c0 in 1700..1799,c1 starts \"ash\"),c0 blank)"
+
+/* Expects the fields that a copy of the parish in the order 0, 1, 2 has for these entries, given as a row of bits (copy.c). */
 void expect_parish_fields(uint8_t entries, const uint8_t *fields);
 
 /* The cases of each call, and those of the mark. */

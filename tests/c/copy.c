@@ -4,7 +4,7 @@
 #include <stdlib.h>
 #include <string.h>
 
-enum { FIELD = SEARCHROOM_COPY_FIELD_BYTES, PARISH = 6 * FIELD, FILL = 0x5A };
+enum { FIELD = SEARCHROOM_COPY_FIELD_BYTES, PARISH = 6 * FIELD };
 
 static uint8_t *catalogue, *question;
 static size_t catalogue_len, question_len;
@@ -30,13 +30,7 @@ static uint64_t copy(const uint8_t *order, size_t order_len, size_t output_len)
     return copy_asked(question, question_len, order, order_len, output_len);
 }
 
-/* Every byte from a place on still holds what it was filled with. */
-static int unaltered_from(size_t at)
-{
-    while (at < sizeof output && output[at] == FILL)
-        at++;
-    return at == sizeof output;
-}
+static int unaltered_from(size_t at) { return are_filled(output + at, sizeof output - at); }
 
 static void expect_refused(const uint8_t *order, size_t order_len, size_t output_len, unsigned number)
 {

@@ -47,6 +47,14 @@ uint8_t *lend(const uint8_t *bytes, size_t len)
 
 void give_back(uint8_t *lent, size_t len) { munmap(lent + len - pages_for(len), pages_for(len) + page); }
 
+int are_filled(const uint8_t *bytes, size_t len)
+{
+    size_t at = 0;
+    while (at < len && bytes[at] == FILL)
+        at++;
+    return at == len;
+}
+
 uint8_t *read_file(const char *path, size_t *len)
 {
     enum { most = 1 << 20 };

@@ -5,9 +5,7 @@
 #include <stdlib.h>
 #include <string.h>
 
-enum { FILL = 0x5A };
-
-static const char parish[] = "any(all(c0 in 1700..1799,c1 starts \"ash\"),c0 blank)";
+static const char parish[] = PARISH_TEXT;
 
 static uint8_t *catalogue, *question;
 static size_t catalogue_len, question_len;
@@ -28,13 +26,7 @@ static uint64_t read_bytes(const char *text, size_t text_len, size_t output_len)
     return word;
 }
 
-/* Every byte from a place on still holds what it was filled with. */
-static int unaltered_from(size_t at)
-{
-    while (at < sizeof output && output[at] == FILL)
-        at++;
-    return at == sizeof output;
-}
+static int unaltered_from(size_t at) { return are_filled(output + at, sizeof output - at); }
 
 static void expect_read(const char *text, const uint8_t *bytes, size_t len)
 {

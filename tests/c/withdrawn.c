@@ -4,13 +4,13 @@
 #include <stdlib.h>
 #include <string.h>
 
-enum { FILL = 0x5A, FIELD = SEARCHROOM_COPY_FIELD_BYTES, PARISH = 96, MOST = PARISH + 8 /* two marks */ };
+enum { FIELD = SEARCHROOM_COPY_FIELD_BYTES, UNMARKED = 96, MOST = UNMARKED + 8 /* two marks */ };
 
 /* The parish's catalogue with what is put after its columns, hard against an unreadable page; and its question. */
 static uint8_t *catalogue, *question;
 static size_t catalogue_len, question_len;
 static const uint8_t order[] = {0, 1, 2};
-static const char text[] = "any(all(c0 in 1700..1799,c1 starts \"ash\"),c0 blank)";
+static const char text[] = PARISH_TEXT;
 
 /* What a run and a copy of the parish were lent, afterwards. */
 typedef struct {
@@ -20,10 +20,10 @@ typedef struct {
 static void put_after_columns(const uint8_t *bytes, size_t len)
 {
     uint8_t whole[MOST];
-    memcpy(whole, catalogue, PARISH);
-    memcpy(whole + PARISH, bytes, len);
+    memcpy(whole, catalogue, UNMARKED);
+    memcpy(whole + UNMARKED, bytes, len);
     give_back(catalogue, catalogue_len);
-    catalogue_len = PARISH + len;
+    catalogue_len = UNMARKED + len;
     catalogue = lend(whole, catalogue_len);
 }
 
@@ -49,9 +49,8 @@ static uint64_t outcome(unsigned entry, unsigned condition)
 /* Every call gives this number, and none alters what it was lent. */
 static void expect_refused(const uint8_t *after_columns, size_t len, unsigned number)
 {
-    Lent lent, before;
+    Lent lent;
     memset(&lent, FILL, sizeof lent);
-    memset(&before, FILL, sizeof before);
     put_after_columns(after_columns, len);
     EXPECT_EQ(searchroom_check_catalogue(catalogue, catalogue_len), number);
     EXPECT_EQ(searchroom_check_question(catalogue, catalogue_len, question, question_len), number);
@@ -60,7 +59,7 @@ static void expect_refused(const uint8_t *after_columns, size_t len, unsigned nu
     EXPECT_EQ(copy(&lent), number);
     EXPECT_EQ(searchroom_typed(catalogue, catalogue_len, (const uint8_t *)text, strlen(text), lent.output,
                                sizeof lent.output), number);
-    EXPECT(memcmp(&lent, &before, sizeof lent) == 0);
+    EXPECT(are_filled((const uint8_t *)&lent, sizeof lent));
 }
 
 #define EXPECT_REFUSED(number, ...)                                     \
@@ -92,6 +91,7 @@ static void each_mark_of_the_parish(void)
 {
     for (uint8_t mark = 0; mark < 8; mark++) {
         Lent lent = {{0}, {0}, {0}, {0}};
+        memset(lent.output, FILL, sizeof lent.output);
         uint8_t house = (uint8_t)(7 & ~mark);
         unsigned present = searchroom_bit(&house, 0) + searchroom_bit(&house, 1) + searchroom_bit(&house, 2);
         put_mark(mark);
@@ -102,9 +102,13 @@ static void each_mark_of_the_parish(void)
         EXPECT_EQ(searchroom_look_count(word), 2 * present);
         EXPECT_EQ(lent.listed[0], 5 & house);
         EXPECT(lent.looks[0] == (7 & house) && lent.looks[1] == (1 & house) && lent.looks[2] == (6 & house));
-        EXPECT_EQ(lent.tally[7], 2 * present);
-        EXPECT_EQ(searchroom_written(copy(&lent)), 2 * present * FIELD);
+        EXPECT(memcmp(lent.tally, (const uint8_t[]){0, 0, 0, 0, 0, 0, 0, (uint8_t)(2 * present)}, sizeof lent.tally) == 0);
+        word = copy(&lent);
+        size_t written = 2 * present * FIELD;
+        EXPECT_EQ(searchroom_refusal(word), SEARCHROOM_ACCEPTED);
+        EXPECT_EQ(searchroom_written(word), written);
         expect_parish_fields(house, lent.output);
+        EXPECT(are_filled(lent.output + written, sizeof lent.output - written));
     }
 }
 
@@ -115,6 +119,7 @@ static void other_calls_go_on_as_before(void)
     put_mark(7);
     EXPECT_EQ(searchroom_answer(outcome(0, 0)), SEARCHROOM_YES);
     EXPECT_EQ(searchroom_answer(outcome(1, 0)), SEARCHROOM_NO);
+    EXPECT_EQ(searchroom_refusal(outcome(1, 0)), SEARCHROOM_ACCEPTED);
     EXPECT_EQ(searchroom_answer(outcome(2, 0)), SEARCHROOM_BLANK);
     EXPECT_EQ(outcome(3, 0), SEARCHROOM_NO_SUCH_PLACE);
     EXPECT_EQ(searchroom_conditions(searchroom_check_question(catalogue, catalogue_len, question, question_len)), 3);
@@ -127,10 +132,12 @@ static void mark_of_no_entries(void)
 {
     static const uint8_t no_bytes[] = {67, 0, 3, 0, 0, 1, 78, 0, 0, 87, 0, 0};
     static const uint8_t one_byte[] = {67, 0, 3, 0, 0, 1, 78, 0, 0, 87, 0, 1, 0};
+    static const uint8_t no_column[] = {67, 0, 3, 0, 0, 1, 87, 0, 0};
     uint64_t word = searchroom_check_catalogue(no_bytes, sizeof no_bytes);
     EXPECT_EQ(searchroom_refusal(word), SEARCHROOM_ACCEPTED);
     EXPECT_EQ(searchroom_columns(word), 1);
     EXPECT_EQ(searchroom_check_catalogue(one_byte, sizeof one_byte), SEARCHROOM_BAD_MARK);
+    EXPECT_EQ(searchroom_check_catalogue(no_column, sizeof no_column), SEARCHROOM_COLUMN_FORM);
 }
 
 /* As many entries as there can be, and a mark as long as can be: every third entry is withdrawn. */
