@@ -163,7 +163,7 @@ static inline const char *searchroom_refusal_text(unsigned refusal)
  *     tag 84, a text column: E slots of 24 bytes, each a length 0 to 23, the text (any byte values), and zeros to the
  *     end; length 0 is a blank.
  * It may end with one field more:
- *     tag 87, the mark: a row of bits. A one bit marks a withdrawn entry.
+ *     tag 87, the mark: a row of bits for E entries. A one bit marks a withdrawn entry.
  *
  * A withdrawn entry is never listed and never looked at, whatever the question: searchroom_run writes a zero bit for it in
  * every row, and searchroom_copy writes no field for it. All else goes on as before: the entry keeps its number and its values,

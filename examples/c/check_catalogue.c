@@ -2,8 +2,8 @@
 #include <searchroom.h>
 #include <stdio.h>
 
-/* The largest catalogue, and a byte that shows that there is more. */
-static uint8_t catalogue[SEARCHROOM_CATALOGUE_BYTES + 1];
+/* Room for the largest catalogue and one field more: what is longer is refused as the whole would be. */
+static uint8_t catalogue[SEARCHROOM_CATALOGUE_BYTES + 65535];
 
 int main(int argc, char **argv)
 {

@@ -16,7 +16,8 @@ typedef struct {
     size_t len;
 } File;
 
-/* Reads a whole file of the folder; ends the program where it cannot be read. */
+/* Reads a file of the folder; ends the program where it cannot be read. Of a longer one than a catalogue and a field can be it
+   reads so much that it is refused as the whole would be. */
 static File read_file(const char *folder, const char *name)
 {
     char path[4096];
@@ -24,7 +25,7 @@ static File read_file(const char *folder, const char *name)
         fprintf(stderr, "%s: the folder's name is too long\n", folder);
         exit(2);
     }
-    enum { most = SEARCHROOM_CATALOGUE_BYTES + 1 }; /* the largest catalogue, and a byte that shows that there is more */
+    enum { most = SEARCHROOM_CATALOGUE_BYTES + 65535 };
     FILE *stream = fopen(path, "rb");
     File file = {malloc(most), 0};
     if (stream == NULL || file.bytes == NULL) {
