@@ -1,14 +1,14 @@
 -- The number kinds as one test: a lowest number and how many follow it, and one comparison.
 use Prim.Native.Nat.{ℕ, _+_, _-_, _%_, _^_, _≤_, _<_}
 use native.Mathlib.Omega.{arith}
-use mathlib.Core.Path.{_≡_}
-use mathlib.Core.Bool.{true, _&&_}
+use mathlib.Core.Path.{_≡_, ap}
+use mathlib.Core.Bool.{true, not, _&&_}
 use mathlib.Core.Logic.{_⊎_, inl, inr}
 use mathlib.Core.List.{List}
 use lib.ListN.{length}
 use lib.Dec.{leb, ltb, eqb}
 use borrow.Author.Tests.{le-leb, leb-true, eq-eqb, eqb-true, ltb-true}
-use Rattle.bools.specs.Bools.{both, and-parts, iff-eq, same?, eqb-ne}
+use Rattle.bools.specs.Bools.{both, not-of-true, and-parts, iff-eq, same?, eqb-ne, ltb-no, ltb-le}
 use Rattle.catalogue.specs.Format.{blankNumber}
 use Rattle.slots.specs.Slots.{textLimit}
 use Rattle.predicate.specs.Kinds.{rangeKind, numberBlankKind, equalsKind, containsKind, textBlankKind}
@@ -17,19 +17,19 @@ use Rattle.predicate.specs.Payload.{rangeFits, operandFits}
 use Rattle.scan.specs.declared.range.Range.{Range}
 use Rattle.scan.specs.Met.{RangeFor, within}
 
--- the distance from low, wrapped, is at most the width just from low to low + width
-pub within-wraps : (low width n r : ℕ) → r < 2 ^ 32 → low + width < 2 ^ 32 → (r + low) % 2 ^ 32 ≡ n → leb r width ≡ within low width n
-within-wraps low width n r small fits e = iff-eq (leb r width) (within low width n) to from
+-- the distance from low, wrapped, is not over the width just from low to low + width
+pub within-wraps : (low width n r : ℕ) → r < 2 ^ 32 → low + width < 2 ^ 32 → (r + low) % 2 ^ 32 ≡ n → not (ltb width r) ≡ within low width n
+within-wraps low width n r small fits e = iff-eq (not (ltb width r)) (within low width n) to from
   where
-    to : leb r width ≡ true → within low width n ≡ true
-    to t = let l : r ≤ width = leb-true r width t in both (le-leb low n (omega arith)) (le-leb n (low + width) (omega arith))
+    to : not (ltb width r) ≡ true → within low width n ≡ true
+    to t = let l : r ≤ width = ltb-le width r (not-of-true (ltb width r) t) in both (le-leb low n (omega arith)) (le-leb n (low + width) (omega arith))
 
-    from : within low width n ≡ true → leb r width ≡ true
+    from : within low width n ≡ true → not (ltb width r) ≡ true
     from t =
         let p = and-parts (leb low n) (leb n (low + width)) t in
         let l : low ≤ n = leb-true low n (p .0) in
         let h : n ≤ low + width = leb-true n (low + width) (p .1) in
-        le-leb r width (omega arith)
+        ap not (ltb-no width r (omega arith))
 
 -- what an operand that fits its kind is
 
