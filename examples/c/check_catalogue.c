@@ -2,7 +2,7 @@
 #include <searchroom.h>
 #include <stdio.h>
 
-/* Room for the largest catalogue and one field more: what is longer is refused as the whole would be. */
+/* Room for the most columns and the longest field behind them: a longer file is refused as the whole would be. */
 static uint8_t catalogue[SEARCHROOM_CATALOGUE_BYTES + 65535];
 
 int main(int argc, char **argv)

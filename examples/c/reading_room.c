@@ -16,8 +16,8 @@ typedef struct {
     size_t len;
 } File;
 
-/* Reads a file of the folder; ends the program where it cannot be read. Of a longer one than a catalogue and a field can be it
-   reads so much that it is refused as the whole would be. */
+/* Reads a file of the folder; ends the program where it cannot be read. Of a catalogue it reads the most columns and the longest
+   field behind them: a longer one is refused as the whole would be. */
 static File read_file(const char *folder, const char *name)
 {
     char path[4096];

@@ -107,7 +107,7 @@ int main(int argc, char **argv)
         fprintf(stderr, "usage: %s FOLDER TEXT\n       %s FOLDER < FILE\n", argv[0], argv[0]);
         return 2;
     }
-    /* Room for the largest and one field more: what is longer is refused as the whole would be. */
+    /* Room for the most columns and the longest field behind them: a longer file is refused as the whole would be. */
     static uint8_t catalogue[SEARCHROOM_CATALOGUE_BYTES + 65535];
     size_t catalogue_len = read_catalogue(argv[1], catalogue, sizeof catalogue);
     static char input[SEARCHROOM_MAX_TYPED + 2]; /* the longest text, a newline, and a byte that shows that there is more */

@@ -127,14 +127,14 @@ module _ (b tail : List ℕ) where
   unfolding markFieldAt markFieldOf
   mark-alike rows at l = go (eqb at (length b)) refl
     where
-      field : (k : Header) → HeaderIs b at (length b) k → MarkAlike (markFieldOf b rows k) (markFieldOf longer rows (headerAt longer at (length longer)))
-      field Cut f = λ uncut. absurd (uncut refl)
-      field (Field tag start stop) f = rw (header-front f) (mark-front rows f)
+      mark-field : (k : Header) → HeaderIs b at (length b) k → MarkAlike (markFieldOf b rows k) (markFieldOf longer rows (headerAt longer at (length longer)))
+      mark-field Cut f = λ uncut. absurd (uncut refl)
+      mark-field (Field tag start stop) f = rw (header-front f) (mark-front rows f)
 
       other : (y : Bool) → eqb (getD b at 0) markTag ≡ y
           → MarkAlike (cond y (markFieldOf b rows (headerAt b at (length b))) (mark.Refused bytesLeftOver))
           (cond y (markFieldOf longer rows (headerAt longer at (length longer))) (mark.Refused bytesLeftOver))
-      other true e = field (headerAt b at (length b)) (header-is b at (length b))
+      other true e = mark-field (headerAt b at (length b)) (header-is b at (length b))
       other false e = λ uncut. refl
 
       go : (x : Bool) → eqb at (length b) ≡ x

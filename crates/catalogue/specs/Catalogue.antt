@@ -23,7 +23,7 @@ pub record Catalogue : Type 0 where
 abbrev pub withMark : Catalogue → Mark → Catalogue
 withMark C m = record { rows = C .rows; columns = C .columns; mark = m }
 
--- without the field, none
+-- none where there is no mark
 abbrev pub markBytes : Mark → List ℕ
 markBytes unmarked = []
 markBytes (marked m) = m

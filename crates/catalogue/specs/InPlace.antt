@@ -27,7 +27,7 @@ NumberIs b start row r = (rows : ℕ) (ns : List ℕ) → Shows b rows numberTag
 abbrev pub TextIs : List ℕ → (start row : ℕ) → List ℕ → Type 0
 TextIs b start row t = (rows : ℕ) (ts : List (List ℕ)) → Shows b rows textTag start (texts ts) → row < rows → t ≡ getD ts row []
 
--- the mark's bytes go from `at` to the end; at the end where there is none
+-- the mark's bytes go from `at` to the end; where there is no mark, `at` is the end
 pub record ShowsMark (b : List ℕ) (at : ℕ) (C : Catalogue) : Type 0 where
   pub bytes : drop at b ≡ markBytes (C .mark)
   pub inside : at ≤ length b

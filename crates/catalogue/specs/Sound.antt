@@ -14,6 +14,7 @@ use Rattle.catalogue.specs.Format.{numberSize, rowLimit, columnLimit}
 use Rattle.slots.specs.Slots.{slotSize, validSlots}
 use Rattle.bitmaps.specs.Bitmap.{bytesFor}
 
+-- not 0, and within a byte
 abbrev pub IsRefusal : ℕ → Type 0
 IsRefusal e = (0 < e) × (e < 256)
 

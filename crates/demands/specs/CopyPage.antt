@@ -91,8 +91,8 @@ lookField e c o = 76 ∷ 0 ∷ 4 ∷ e / 256 ∷ e % 256 ∷ c ∷ o ∷ []
 abbrev pub fieldBytes : (output : List ℕ) → (j : ℕ) → List ℕ
 fieldBytes output j = take 7 (drop (j * 7) output)
 
--- "Write one field per look": a field is among those written exactly if there is a look at its condition on its entry, none on a withdrawn one (order
--- 6), and "outcome (1 yes, 0 no)" is the condition's own there
+-- "Write one field per look": a field is among those written exactly if there is a look at its condition on its entry (order 6: on a withdrawn one there
+-- is none) and "outcome (1 yes, 0 no)" is the condition's own there
 abbrev pub CopyFieldThere : Type 0
 CopyFieldThere =
     (r : Request) (old new : List ℕ) (w : ℕ) → LogGives r old w new → (i : Input) → CopyKept r old i → (e c o : ℕ)

@@ -110,13 +110,6 @@ pub data FirstBroken (l : Lent) (e : ℕ) : Type 0 where
   badTally : (i : Input) → Reads (l .request .catalogue) (l .request .question) i → RunningOrder i (l .request .order) → TablesFit i (l .listed) (l .looks)
       → (TallyFits i (l .request .order) (l .tally) → ⊥) → e ≡ 17 → FirstBroken l e
 
--- of bytes that begin with a field the length that it declares, and the payload of that length
-abbrev pub declaredSize : (bytes : List ℕ) → ℕ
-declaredSize bytes = numberAt bytes 1 2
-
-abbrev pub declaredPayload : (bytes : List ℕ) → List ℕ
-declaredPayload bytes = take (declaredSize bytes) (drop 3 bytes)
-
 -- a condition of the question
 abbrev pub conditionOf : Input → (c : ℕ) → Predicate
 conditionOf i c = predicateAt (i .query) c
@@ -217,6 +210,13 @@ Demand1Mark =
     → ((m : List ℕ) → C .mark ≡ marked m → LineOf (λ e. isWithdrawn C e ≡ true) (C .rows) m)
     × (C .mark ≡ unmarked → (e : ℕ) → isWithdrawn C e ≡ false)
 
+-- of bytes that begin with a field the length that it declares, where a missing byte reads as 0, and the payload of that length
+abbrev pub declaredSize : (bytes : List ℕ) → ℕ
+declaredSize bytes = numberAt bytes 1 2
+
+abbrev pub declaredPayload : (bytes : List ℕ) → List ℕ
+declaredPayload bytes = take (declaredSize bytes) (drop 3 bytes)
+
 -- order 6: "where byte 87 follows the last column, 1 comes first, then 23, a wrong length or a stray bit; 6 is for any other byte there, or bytes after the
 -- mark": whatever bytes follow the columns of a catalogue, this comes of them
 abbrev pub Demand1AfterColumns : Type 0
@@ -230,8 +230,8 @@ Demand1AfterColumns =
     × (3 + declaredSize tail ≡ length tail → FormedBits (C .rows) (declaredPayload tail)
     → decodeCatalogue (encodeCatalogue C ++ tail) ≡ accepted (withMark C (marked (declaredPayload tail)))))
 
--- "Checking a catalogue walks front to back.", "The first failing check in the stated order decides.": every refusal but 1, a field that is cut, is the
--- same whatever bytes follow; so a slot's 5 comes before a mark's 23, and that before 6
+-- "Checking a catalogue walks front to back.": every refusal but 1, a field that is cut, is the same whatever bytes follow; so a slot's 5 comes before a
+-- mark's 23, and that before 6
 abbrev pub Demand1FrontToBack : Type 0
 Demand1FrontToBack = (b tail : List ℕ) (e : ℕ) → (e ≡ 1 → ⊥) → decodeCatalogue b ≡ refused e → decodeCatalogue (b ++ tail) ≡ refused e
 

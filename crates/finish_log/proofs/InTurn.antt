@@ -39,7 +39,7 @@ module _ (f : Formula) (a : Assignment) (P : List ℕ) (row : ℕ) where
       go false here there rest =
           ap₂ (λ (b : Bool) (l : List ℕ). keepIf b c l) (here ∙ elem-no c (predicates (trace f a cs)) (λ m. once .0 (trace-among f a cs c m))) (rest there)
 
--- of an order a table that marks none of it leaves none
+-- where a table marks none of these predicates, none of them is kept
 none-marked : (P : List ℕ) (row : ℕ) (cs : List ℕ) → ((c : ℕ) → Among c cs → lineBit P c row ≡ false) → markedAt P row cs ≡ []
 unfolding markedAt
 none-marked P row [] h = refl

@@ -10,8 +10,8 @@ ghost use Rattle.sets.specs.Gathered.{bitOf, gathered};
 ghost use Rattle.heads.specs.Block.{HasDueRows};
 ghost use Rattle.scan.specs.Met.{within};
 
-// Whether n is low or one of the numbers after it, as many as width: one comparison. Put as "at most", the compiler makes a branch of it in
-// the loop over due rows, and a processor guesses it wrong where the answers are mixed.
+// Whether n is low or one of the numbers after it, as many as width: one comparison. Written with <= it becomes a branch in the loop over
+// due rows, which a processor guesses wrong where the answers are mixed.
 fn is_within(low: u32, width: u32, n: u32) -> bool
     requires { ⌜ low + width < 2 ^ 32 ⌝ }
     ensures { λ r. ⌜ r ≡ within low width n ⌝ }

@@ -72,8 +72,8 @@ pub fn bit(test: bool) -> u64
     if test { 1 } else { 0 }
 }
 
-// The set x where a test passes, else none. A loop over a set hands on the bit that the set loses, left ^ rest(left): to shift one to
-// its place it would have to wait for the number.
+// The set x where a test passes, else none. A loop over a set hands on the bit that the set loses, left ^ rest(left): a bit shifted to
+// its place would wait for first(left).
 pub fn kept(test: bool, x: u64) -> u64
     ensures { λ r. ⌜ r ≡ cond test x 0 ⌝ }
 {

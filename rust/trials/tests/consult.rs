@@ -232,8 +232,8 @@ fn no_entries() {
     let nobody = [field(67, &[0, 0, 1]), field(78, &[])].concat();
     let marked = [nobody.clone(), encode_mark(&[])].concat();
     let expected = "consultation register\nfound 0\nlooks 0\ncondition 0 0\n";
-    for catalogue in [nobody, marked] {
-        assert_eq!(consult("P7", &catalogue, &field(80, &[0, 1]), &[0]), expected);
+    for (label, catalogue) in [("P7", nobody), ("P7 with a mark", marked)] {
+        assert_eq!(consult(label, &catalogue, &field(80, &[0, 1]), &[0]), expected);
     }
 }
 

@@ -30,6 +30,11 @@ fn zeros(entries: usize) -> Vec<u8> {
     encode_mark(&vec![0; row(entries)])
 }
 
+/// Every byte; under valgrind each seventeenth.
+fn bytes() -> impl Iterator<Item = u8> {
+    (0..=255).step_by(if fewer() { 17 } else { 1 })
+}
+
 /// Every call declines the catalogue with this number and alters nothing.
 fn expect_catalogue_refused(number: u8, label: &str, catalogue: Vec<u8>) {
     let (given, output) = (asking(catalogue), [FILL; 40]);
@@ -39,11 +44,6 @@ fn expect_catalogue_refused(number: u8, label: &str, catalogue: Vec<u8>) {
         [&answers.ran.listed, &answers.ran.looks, &answers.ran.tally, &answers.copied.output, &answers.typed.output];
     let before = [&given.listed, &given.looks, &given.tally, &output.to_vec(), &output.to_vec()];
     assert_eq!(after, before, "{label}");
-}
-
-/// Every byte, or each seventeenth.
-fn bytes() -> impl Iterator<Item = u8> {
-    (0..=255).step_by(if fewer() { 17 } else { 1 })
 }
 
 /// The same for bytes that follow the last column.

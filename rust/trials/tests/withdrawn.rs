@@ -152,8 +152,8 @@ fn one_entry_withdrawn_or_left() {
     }
 }
 
-/// Every pattern of withdrawn entries, over conditions met in any pattern, in whole blocks of 64 entries, with one more, and without
-/// the last.
+/// Each of the generator's patterns of withdrawn entries, over conditions met in any of them, in whole blocks of 64 entries, with
+/// one more, and without the last.
 #[test]
 fn each_pattern_of_withdrawn_entries() {
     for size in sizes([63, 64, 65, 128, 200, 2_047, 2_048]) {
