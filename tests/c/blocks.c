@@ -106,7 +106,7 @@ static void expect_copy(unsigned entries, const uint8_t *catalogue, size_t catal
     const uint8_t *field = output;
     for (unsigned entry = 0; entry < entries; entry++)
         field = expect_fields(entry, field);
-    EXPECT(are_filled(output + written, FURTHER));
+    EXPECT(are_all(FILL, output + written, FURTHER));
     give_back(output, output_len);
 }
 
@@ -133,7 +133,7 @@ static void expect_run(unsigned entries)
     EXPECT_EQ(tally[6] * 256u + tally[7], looked);
     for (unsigned bit = entries; bit < 8 * row; bit++)
         EXPECT_EQ(searchroom_bit(listed, bit) + searchroom_bit(looks + 2 * row, bit), 0);
-    EXPECT(are_filled(listed + row, FURTHER) && are_filled(looks + CONDITIONS * row, FURTHER));
+    EXPECT(are_all(FILL, listed + row, FURTHER) && are_all(FILL, looks + CONDITIONS * row, FURTHER));
     expect_copy(entries, catalogue, catalogue_len);
     give_back(catalogue, catalogue_len);
     give_back(listed, listed_len);

@@ -28,8 +28,8 @@ uint8_t *read_file(const char *path, size_t *len);
 /* What lent bytes are filled with, to see which are written. */
 enum { FILL = 0x5A };
 
-/* Does every byte of these hold that? */
-int are_filled(const uint8_t *bytes, size_t len);
+/* Is every one of these bytes that one? */
+int are_all(uint8_t one, const uint8_t *bytes, size_t len);
 
 /* The question of the parish as staff type it. */
 #define PARISH_TEXT "any(all(c0 in 1700..1799,c1 starts \"ash\"),c0 blank)"

@@ -30,7 +30,7 @@ static uint64_t copy(const uint8_t *order, size_t order_len, size_t output_len)
     return copy_asked(question, question_len, order, order_len, output_len);
 }
 
-static int unaltered_from(size_t at) { return are_filled(output + at, sizeof output - at); }
+static int unaltered_from(size_t at) { return are_all(FILL, output + at, sizeof output - at); }
 
 static void expect_refused(const uint8_t *order, size_t order_len, size_t output_len, unsigned number)
 {

@@ -47,10 +47,10 @@ uint8_t *lend(const uint8_t *bytes, size_t len)
 
 void give_back(uint8_t *lent, size_t len) { munmap(lent + len - pages_for(len), pages_for(len) + page); }
 
-int are_filled(const uint8_t *bytes, size_t len)
+int are_all(uint8_t one, const uint8_t *bytes, size_t len)
 {
     size_t at = 0;
-    while (at < len && bytes[at] == FILL)
+    while (at < len && bytes[at] == one)
         at++;
     return at == len;
 }

@@ -39,16 +39,7 @@ static uint64_t run(Lengths with)
 /* Every table still holds what it was filled with. */
 static int all_unaltered(uint8_t fill)
 {
-    for (size_t i = 0; i < sizeof listed; i++)
-        if (listed[i] != fill)
-            return 0;
-    for (size_t i = 0; i < sizeof looks; i++)
-        if (looks[i] != fill)
-            return 0;
-    for (size_t i = 0; i < sizeof tally; i++)
-        if (tally[i] != fill)
-            return 0;
-    return 1;
+    return are_all(fill, listed, sizeof listed) && are_all(fill, looks, sizeof looks) && are_all(fill, tally, sizeof tally);
 }
 
 static void expect_refused(Lengths with, unsigned number)
@@ -128,15 +119,12 @@ static void found_with_or_without_the_accent(void)
 
 static void longer_tables_keep_their_further_bytes(void)
 {
-    uint64_t word = run((Lengths){forward, 3, 40, 90, 8, 0x5A});
+    uint64_t word = run((Lengths){forward, 3, 40, 90, 8, FILL});
     EXPECT_EQ(searchroom_found(word), 2);
     EXPECT_EQ(listed[0], 5);
     EXPECT(memcmp(looks, (const uint8_t[]){7, 1, 6}, 3) == 0);
-    for (size_t i = 1; i < 40; i++)
-        EXPECT_EQ(listed[i], 0x5A);
-    for (size_t i = 3; i < 90; i++)
-        EXPECT_EQ(looks[i], 0x5A);
-    EXPECT(memcmp(tally, (const uint8_t[]){0x5A, 0x5A, 0x5A, 0x5A, 0x5A, 0x5A, 0x5A, 0x60}, 8) == 0);
+    EXPECT(are_all(FILL, listed + 1, 39) && are_all(FILL, looks + 3, 87));
+    EXPECT(memcmp(tally, (const uint8_t[]){FILL, FILL, FILL, FILL, FILL, FILL, FILL, FILL + 6}, 8) == 0);
 }
 
 static void refusals_alter_nothing(void)

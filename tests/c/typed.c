@@ -26,7 +26,7 @@ static uint64_t read_bytes(const char *text, size_t text_len, size_t output_len)
     return word;
 }
 
-static int unaltered_from(size_t at) { return are_filled(output + at, sizeof output - at); }
+static int unaltered_from(size_t at) { return are_all(FILL, output + at, sizeof output - at); }
 
 static void expect_read(const char *text, const uint8_t *bytes, size_t len)
 {

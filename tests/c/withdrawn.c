@@ -59,7 +59,7 @@ static void expect_refused(const uint8_t *after_columns, size_t len, unsigned nu
     EXPECT_EQ(copy(&lent), number);
     EXPECT_EQ(searchroom_typed(catalogue, catalogue_len, (const uint8_t *)text, strlen(text), lent.output,
                                sizeof lent.output), number);
-    EXPECT(are_filled((const uint8_t *)&lent, sizeof lent));
+    EXPECT(are_all(FILL, (const uint8_t *)&lent, sizeof lent));
 }
 
 #define EXPECT_REFUSED(number, ...)                                     \
@@ -108,7 +108,7 @@ static void each_mark_of_the_parish(void)
         EXPECT_EQ(searchroom_refusal(word), SEARCHROOM_ACCEPTED);
         EXPECT_EQ(searchroom_written(word), written);
         expect_parish_fields(house, lent.output);
-        EXPECT(are_filled(lent.output + written, sizeof lent.output - written));
+        EXPECT(are_all(FILL, lent.output + written, sizeof lent.output - written));
     }
 }
 

@@ -7,15 +7,15 @@ use std::collections::HashSet;
 
 use evaluator::{question_word, read_catalogue, spelling};
 use generator::{
-    Damage, MarkFault, Misspelling, Rng, catalogue_of, damage, encode_catalogue, encode_question, faulty_mark, field,
-    mark, misspell, question_of, running_order,
+    MarkFault, Misspelling, Rng, catalogue_of, encode_catalogue, encode_question, faulty_mark, field, mark, misspell,
+    question_of, running_order,
 };
 
 use searchroom::TYPED_BYTES;
 
 use crate::{
     PARISH_CATALOGUE, PARISH_ORDER, PARISH_QUESTION, PARISH_TEXT, Run, Seen, Typing, compare_catalogue, compare_copy,
-    compare_outcome, compare_question, compare_run, compare_typed,
+    compare_outcome, compare_question, compare_run, compare_typed, damage_some,
 };
 
 /// No more inputs than this are kept.
@@ -175,10 +175,7 @@ fn change_bytes(rng: &mut Rng, bytes: &mut Vec<u8>, other: &[u8]) {
             let at = rng.below(bytes.len());
             bytes[at] ^= 1 << rng.below(8);
         }
-        _ => {
-            let how = *rng.pick(&Damage::ALL);
-            damage(rng, bytes, how);
-        }
+        _ => damage_some(rng, bytes, 100),
     }
 }
 

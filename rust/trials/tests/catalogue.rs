@@ -1,9 +1,9 @@
 //! `searchroom_check_catalogue` against the evaluator, and at the edges that document 01 names.
 
 use evaluator::{Catalogue, Column, pack, read_catalogue, refused};
-use generator::{Damage, Rng, catalogue, catalogue_of, damage, encode_catalogue, encode_texts, field};
+use generator::{Rng, catalogue, catalogue_of, encode_catalogue, encode_texts, field};
 use searchroom::{Refusal, Size, check_catalogue};
-use trials::{PARISH_CATALOGUE, Seen, compare_catalogue};
+use trials::{PARISH_CATALOGUE, Seen, compare_catalogue, damage_some};
 
 /// A first field that says `entries` and `columns`.
 fn head(entries: u16, columns: u8) -> Vec<u8> {
@@ -205,8 +205,7 @@ fn damaged_catalogues_reach_every_refusal() {
         let (entries, columns) = (rng.between(0, 12), rng.between(1, 4));
         let mut bytes = encode_catalogue(&catalogue_of(&mut rng, entries, columns));
         for _ in 0..rng.between(1, 2) {
-            let how = *rng.pick(&Damage::ALL);
-            damage(&mut rng, &mut bytes, how);
+            damage_some(&mut rng, &mut bytes, 100);
         }
         seen.count(compare_catalogue(&format!("damaged catalogue, seed {seed}"), &bytes));
     }
