@@ -23,7 +23,7 @@ use Rattle.catalogue.specs.declared.mark.MarkField.{MarkField}
 use Rattle.catalogue.specs.declared.mark.MarkField.the-variants as mark
 use Rattle.bitmaps.specs.Bitmap.{bytesFor}
 use Rattle.catalogue.specs.Format.{firstTag, firstSize, numberTag, numberSize, textTag, markTag, rowLimit, columnLimit, notCatalogue, countsOutOfRange, notColumn, badSlot, bytesLeftOver, badMark}
-use Rattle.catalogue.specs.Catalogue.{Column}
+use Rattle.catalogue.specs.Catalogue.{Column, Mark, Catalogue}
 use Rattle.catalogue.specs.Mark.{strayBit, markFieldOf, markFieldAt, markOf}
 use Rattle.catalogue.specs.Decode.{countsAt, firstFieldOf, columnOf, Columns, columnBefore, columnThen, columnsAt, catalogueOf, firstThen, decodeCatalogue}
 
@@ -179,20 +179,15 @@ module _ (b tail : List ℕ) where
 
   -- the whole
   module _ (e : ℕ) (uncut : e ≡ 1 → ⊥) where
-    unmapped : {A B : Type 0} (f : A → B) (d : Decoded A) → mapped f d ≡ refused e → d ≡ refused e
-    unmapped f (refused x) h = let z : x ≡ e = cc in ap refused z
-    unmapped f (accepted x) h = let z : _≡_ {A = ℕ} 0 1 = cc in absurd (omega arith)
-
-    mark-refused : (f f′ : MarkField) → MarkAlike f f′ → markOf b f ≡ refused e → markOf longer f′ ≡ refused e
-    mark-refused (mark.Refused x) f′ a h = let z : x ≡ e = cc in rw (a (λ y. uncut (sym z ∙ y))) (ap refused z)
-    mark-refused mark.Absent f′ a h = let z : _≡_ {A = ℕ} 0 1 = cc in absurd (omega arith)
-    mark-refused (mark.Marked start) f′ a h = let z : _≡_ {A = ℕ} 0 1 = cc in absurd (omega arith)
+    mark-refused : (g g′ : Mark → Catalogue) (f f′ : MarkField) → MarkAlike f f′ → mapped g (markOf b f) ≡ refused e → mapped g′ (markOf longer f′) ≡ refused e
+    mark-refused g g′ (mark.Refused x) f′ a h = let z : x ≡ e = cc in rw (a (λ y. uncut (sym z ∙ y))) (ap refused z)
+    mark-refused g g′ mark.Absent f′ a h = let z : _≡_ {A = ℕ} 0 1 = cc in absurd (omega arith)
+    mark-refused g g′ (mark.Marked start) f′ a h = let z : _≡_ {A = ℕ} 0 1 = cc in absurd (omega arith)
 
     columns-refused : (rows : ℕ) (d d′ : Decoded Columns) → ColumnsAlike d d′ → andThen d (catalogueOf b rows) ≡ refused e → andThen d′ (catalogueOf longer rows) ≡ refused e
     columns-refused rows (refused x) d′ a h = let z : x ≡ e = cc in rw (a (λ y. uncut (sym z ∙ y))) (ap refused z)
     columns-refused rows (accepted C) d′ (l, (C′, q, r)) h =
-        let m = mark-refused (markFieldAt b rows (C .end)) (markFieldAt longer rows (C .end)) (mark-alike rows (C .end) l) (unmapped _ (markOf b (markFieldAt b rows (C .end))) h) in
-        rw (q, r, m)
+        rw (q, r) (mark-refused _ _ (markFieldAt b rows (C .end)) (markFieldAt longer rows (C .end)) (mark-alike rows (C .end) l) h)
 
     pub decode-front : decodeCatalogue b ≡ refused e → decodeCatalogue longer ≡ refused e
     unfolding decodeCatalogue firstFieldOf countsAt

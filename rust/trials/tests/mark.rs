@@ -5,7 +5,7 @@ use generator::{MarkFault, Rng, catalogue_of, encode_catalogue, encode_mark, fau
 use searchroom::{Refusal, Size, check_catalogue};
 use trials::{
     ENTRIES_AT_ENDS, FILL, PARISH_CATALOGUE, Run, Typing, compare_catalogue, compare_copy, compare_every_call,
-    compare_outcome, compare_question, compare_run, compare_typed, fewer, marked_parish, ones, seeds, sizes,
+    compare_outcome, compare_question, compare_run, compare_typed, marked_parish, ones, seeds,
 };
 
 /// A run over a catalogue, with tables and tally filled with one byte: is the number in column 0 blank?
@@ -28,11 +28,6 @@ fn row(entries: usize) -> usize {
 /// A mark that withdraws none of so many entries.
 fn zeros(entries: usize) -> Vec<u8> {
     encode_mark(&vec![0; row(entries)])
-}
-
-/// Every byte; under valgrind each seventeenth.
-fn bytes() -> impl Iterator<Item = u8> {
-    (0..=255).step_by(if fewer() { 17 } else { 1 })
 }
 
 /// Every call declines the catalogue with this number and alters nothing.
@@ -78,7 +73,7 @@ fn byte_after_the_last_column_decides() {
         expect_refused(1, entries, &[87]);
         expect_refused(1, entries, &[87, 0]);
         expect_refused(1, entries, &[87, 255]);
-        for tag in bytes().filter(|&tag| tag != 87) {
+        for tag in (0..=255).filter(|&tag| tag != 87) {
             expect_refused(6, entries, &[tag]);
             expect_refused(6, entries, &[tag, 0]);
             expect_refused(6, entries, &field(tag, &vec![0; row(entries)]));
@@ -89,7 +84,7 @@ fn byte_after_the_last_column_decides() {
 
 #[test]
 fn length_that_passes_the_end() {
-    for entries in sizes(ENTRIES_AT_ENDS) {
+    for entries in ENTRIES_AT_ENDS {
         let sound = zeros(entries);
         for end in [3, sound.len() - 1] {
             expect_refused(1, entries, &sound[..end]);
@@ -104,7 +99,7 @@ fn length_that_passes_the_end() {
 /// Too short or too long, but all of it there: also where one byte of the length is the right one.
 #[test]
 fn length_that_does_not_fit_the_entries() {
-    for entries in sizes([0, 1, 7, 8, 9, 64, 65, 2_040, 2_041, 2_048]) {
+    for entries in [0, 1, 7, 8, 9, 64, 65, 2_040, 2_041, 2_048] {
         let right = row(entries);
         let others = (0..=right + 3).chain([right + 256, 4 * entries, 24 * entries]).filter(|&length| length != right);
         for length in others {
@@ -118,7 +113,7 @@ fn length_that_does_not_fit_the_entries() {
 fn every_last_byte() {
     for entries in 1..=16 {
         let unused = 8 * row(entries) - entries;
-        for last in bytes() {
+        for last in 0..=255_u8 {
             let mark = encode_mark(&[vec![255; (entries - 1) / 8], vec![last]].concat());
             if last.leading_zeros() as usize >= unused {
                 expect_accepted(entries, &mark);
@@ -149,7 +144,7 @@ fn stray_bit_anywhere() {
 
 #[test]
 fn bytes_after_the_mark() {
-    for entries in sizes([1, 3, 8, 13, 2_048]) {
+    for entries in [1, 3, 8, 13, 2_048] {
         let sound = zeros(entries);
         for more in [&[0][..], &[87], &[87, 0], &field(78, &[]), &[0; 300], &sound] {
             expect_refused(6, entries, &[&sound, more].concat());
