@@ -1,4 +1,4 @@
--- The refusals of the calls themselves, 15 to 18 and 20 to 22.
+-- The refusals of the calls themselves, 15 to 18, 20 to 22 and 24.
 use Prim.Native.Nat.{ℕ}
 
 -- "15, the order is not n bytes holding each number once"
@@ -9,7 +9,7 @@ notOrder = 15
 abbrev pub tableTooShort : ℕ
 tableTooShort = 16
 
--- "17, the tally is not eight bytes or the sum would pass 2^64 − 1"
+-- order 7: "Refusal 17 is for a tally not of 128 bytes or a sum too large for this reader"
 abbrev pub counterRefused : ℕ
 counterRefused = 17
 
@@ -28,3 +28,7 @@ textMisspelled = 21
 -- order 4: "22, the output is too short"
 abbrev pub typedOutputTooShort : ℕ
 typedOutputTooShort = 22
+
+-- order 7: "24, reader over 15"
+abbrev pub noSuchReader : ℕ
+noSuchReader = 24

@@ -1,4 +1,4 @@
--- The withdrawal mark: its stray bits, what its reader finds, and its bytes there and back.
+-- The withdrawal mark: its stray bits, what its reading finds, and its bytes there and back.
 use Prim.Native.Nat.{ℕ, _+_, _-_, _*_, _/_, _%_, _^_, _≤_, _<_}
 use native.Mathlib.Nat.{mod-lt, one-mul}
 use native.Mathlib.Omega.{arith}
@@ -119,7 +119,7 @@ module _ (b : List ℕ) (rows at : ℕ) where
       rw (← w, payload)
 
 module _ (b : List ℕ) (bytes : Bytes b) (rows at : ℕ) where
-  -- what a reader's answer tells of the bytes from the end of the columns on
+  -- what a reading's answer tells of the bytes from the end of the columns on
   abbrev MarkIs : MarkField → Type 0
   MarkIs (Refused e) = Unit {0}
   MarkIs Absent = drop at b ≡ []

@@ -1,4 +1,4 @@
--- A column in its place in the bytes, and the value of a row there: what every reader of a row relies on; and the mark in its place.
+-- A column in its place in the bytes, and the value of a row there: what every read of a row relies on; and the mark in its place.
 use Prim.Native.Nat.{ℕ, _+_, _*_, _≤_, _<_}
 use mathlib.Core.Path.{_≡_}
 use mathlib.Core.Bool.{true}

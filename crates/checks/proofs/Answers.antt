@@ -7,7 +7,7 @@ use Rattle.fields.specs.Decoded.{Decoded, refused, accepted}
 use Rattle.catalogue.specs.Catalogue.{Catalogue}
 use Rattle.layout.specs.declared.Layout.{Layout}
 use Rattle.layout.specs.Layout.{LaidOut}
-use Rattle.reader.specs.Tables.{Tables}
+use Rattle.reading.specs.Tables.{Tables}
 use Rattle.input.specs.declared.begin.Beginning.{Beginning}
 use Rattle.input.specs.Input.{Input, decodeInput}
 use Rattle.input.specs.Beginning.{HasInput}

@@ -35,4 +35,4 @@ parish-register : consultationOf parish question (0 ∷ 1 ∷ 2 ∷ [])
     ++ (99 ∷ 111 ∷ 110 ∷ 100 ∷ 105 ∷ 116 ∷ 105 ∷ 111 ∷ 110 ∷ 32 ∷ 49 ∷ 32 ∷ 49 ∷ 10 ∷ [])
     ++ (99 ∷ 111 ∷ 110 ∷ 100 ∷ 105 ∷ 116 ∷ 105 ∷ 111 ∷ 110 ∷ 32 ∷ 50 ∷ 32 ∷ 50 ∷ 10 ∷ [])
 unfolding numberAt bytesOf folded same begins occurs plainKind asksContent numberTest textTest outcomeOf update elem predicates decides someOutcomes due trace eval occurrences allBelow isOrder sumOf joined bitmap bitmaps onesIn isSelected dueAt traceAt selection probeBitmaps checked runOn ones digitOnes xor bit has digits decimal line entries conditionLine conditions accepted
-parish-register = ap₂ registerAfter parish-input (run-on parish question _ _ _ _ parish-input)
+parish-register = ap₂ registerAfter parish-input (run-on parish question _ _ _ _ _ parish-input)

@@ -1,6 +1,6 @@
-// One consultation: a run with the tally at zero, and its register.
+// One consultation: a run of reader 0 with the tally at zero, and its register.
 use bitmaps::copy::Line;
-use fields::counter::Counter;
+use fields::counter::Tally;
 use query::format::Predicate;
 ghost use Prim.Native.Nat.{_≤_};
 ghost use lib.ListN.{length};
@@ -22,11 +22,12 @@ pub fn write_consultation(catalogue: &[u8], question: &[u8], order: &[u8], out: 
 {
     let mut listed = [0u8; Line::SIZE];
     let mut looks = [0u8; Predicate::LIMIT * Line::SIZE];
-    let mut tally = [0u8; Counter::SIZE];
+    let mut tally = [0u8; Tally::SIZE];
     let word = searchroom::run_call::searchroom_run(
         catalogue,
         question,
         order,
+        0,
         &mut listed,
         &mut looks,
         &mut tally,

@@ -1,15 +1,16 @@
 -- Every case of the list holds: each is computed, but for what any question gives on a catalogue without rows.
-use Prim.Native.Nat.{ℕ, zero, suc, _^_}
+use Prim.Native.Nat.{ℕ, zero, suc, _+_, _^_, _<_}
 use native.Mathlib.Nat.{mul-zero}
 use native.Mathlib.Omega.{arith}
 use mathlib.Core.Path.{_≡_, refl, sym, ap, _∙_}
 use mathlib.Core.Bool.{Bool, true, xor}
-use mathlib.Core.List.{List, [], _++_, append-nil}
-use lib.ListN.{length, drop, drop-of-length-le}
+use mathlib.Core.List.{List, [], _++_, append-assoc}
+use lib.ListN.{length, take, drop, take-append-drop}
 use lib.Dec.{eqb, ltb}
 use lib.Count.{ones, onesIn as digitOnes}
 use Rattle.fields.specs.Decoded.{Decoded, refused, accepted}
 use Rattle.fields.specs.Numbers.{numberAt, bytesOf, Bytes}
+use Rattle.fields.proofs.Laws.{length-bytes}
 use Rattle.fields.proofs.Written.{number-written, number-small}
 use Rattle.fields.specs.Header.{headerAt}
 use Rattle.catalogue.specs.Catalogue.{Catalogue}
@@ -35,7 +36,7 @@ use Rattle.input.specs.Input.{Input, withQuery, decodeInput}
 use Rattle.answers.specs.Checks.{checked}
 use Rattle.answers.specs.declared.word.Answer.the-variants.{Refused, Accepted}
 use Rattle.answers.specs.Word.{packed}
-use Rattle.demands.specs.Run.{lent, ran, rowCount, predicateCount, taskOf, selection, probeBitmaps, tablesFit, counterSize, counterAfter, counterFits, runOn, runOf}
+use Rattle.demands.specs.Run.{lent, ran, rowCount, predicateCount, taskOf, selection, probeBitmaps, tablesFit, counterSize, readerLimit, tallySize, counterPlace, counterAt, tallyAfter, counterFits, runOn, runOf}
 use Rattle.demands.specs.Parish.{parish, yearBlank, both as bothMembers, question, nested}
 use Rattle.demands.specs.Cases.{Holds, questionCheck, findsNothing, noRows, oneRow, cases, AllHold}
 use Rattle.demands.proofs.CaseInputs.{parish-input, both-input, one-input, run-on}
@@ -55,19 +56,22 @@ its-catalogue C (refused e) i h = let z : _≡_ {A = ℕ} 0 1 = cc in absurd (om
 its-catalogue C (accepted Q) i h = let z : record { catalogue = C; query = Q } ≡ i = cc in ap (λ (j : Input). j .catalogue) (sym z)
 
 -- a tally to which nothing is added
-same-tally : (tally : List ℕ) → Bytes tally → length tally ≡ counterSize → (counterFits tally 0 ≡ true) × (bytesOf counterSize (counterAfter tally 0) ≡ tally)
-same-tally tally bytes n =
-    let z : counterAfter tally 0 ≡ numberAt tally 0 counterSize = omega arith in
-    let none : drop counterSize tally ≡ [] = drop-of-length-le tally {i = counterSize} (omega arith) in
-    let whole : tally ≡ bytesOf counterSize (numberAt tally 0 counterSize) ++ drop counterSize tally = number-written tally bytes 0 counterSize (omega arith) in
-    let size : eqb (length tally) counterSize ≡ true = rw n in
-    let sum : ltb (counterAfter tally 0) (2 ^ 64) ≡ true = ltb-yes (counterAfter tally 0) (2 ^ 64) (omega (arith, number-small tally bytes 0 counterSize)) in (
+same-tally : (tally : List ℕ) (reader : ℕ) → Bytes tally → length tally ≡ tallySize → reader < readerLimit
+    → (counterFits tally reader 0 ≡ true) × (tallyAfter tally reader 0 ≡ tally)
+same-tally tally reader bytes n l =
+    let at : ℕ = counterPlace reader in
+    let number : ℕ = counterAt tally reader in
+    let z : number + 0 ≡ number = omega arith in
+    let size : eqb (length tally) tallySize ≡ true = rw n in
+    let sum : ltb (number + 0) (2 ^ 64) ≡ true = ltb-yes (number + 0) (2 ^ 64) (omega (arith, number-small tally bytes at counterSize)) in
+    let whole : drop at tally ≡ bytesOf counterSize number ++ drop (at + counterSize) tally = number-written tally bytes at counterSize (omega arith) in (
       both size sum,
-      rw z (sym (whole ∙ rw none (append-nil (bytesOf counterSize (numberAt tally 0 counterSize))))),
+      rw (z, length-bytes counterSize number) (append-assoc (take at tally) (bytesOf counterSize number) (drop (at + counterSize) tally)
+          ∙ ap (λ (rest : List ℕ). take at tally ++ rest) (sym whole) ∙ take-append-drop at tally),
     )
 
 -- a run over no rows
-module _ (i : Input) (b q order listed looks tally : List ℕ) (z : rowCount i ≡ 0) where
+module _ (i : Input) (b q order : List ℕ) (reader : ℕ) (listed looks tally : List ℕ) (z : rowCount i ≡ 0) where
   no-selection : selection (taskOf i order) ≡ []
   unfolding selection
   no-selection = rw (z, no-rows)
@@ -81,18 +85,18 @@ module _ (i : Input) (b q order listed looks tally : List ℕ) (z : rowCount i �
       let y : bytesFor (rowCount i) ≡ 0 = rw z in
       rw (y, mul-zero (predicateCount i)) (both (leb-yes 0 (length listed) (omega arith)) (leb-yes 0 (length looks) (omega arith)))
 
-  no-rows-run : isOrder (predicateCount i) order ≡ true → Bytes tally → length tally ≡ counterSize
-      → runOn i (lent b q order listed looks tally) ≡ ran (packed (Accepted 0 0 0)) listed looks tally
+  no-rows-run : isOrder (predicateCount i) order ≡ true → reader < readerLimit → Bytes tally → length tally ≡ tallySize
+      → runOn i (lent b q order reader listed looks tally) ≡ ran (packed (Accepted 0 0 0)) listed looks tally
   unfolding runOn checked onesIn
-  no-rows-run o bytes n =
-      let t = same-tally tally bytes n in
-      rw (o, tables-fit, no-selection, no-probes, t .0, t .1)
+  no-rows-run o l bytes n =
+      let t = same-tally tally reader bytes n l in
+      rw (o, tables-fit, no-selection, no-probes, ltb-yes reader readerLimit l, t .0, t .1)
 
 finds-nothing : Holds (findsNothing noRows)
 unfolding numberAt headerAt numbersAt countsAt firstFieldOf columnOf columnsAt markFieldAt decodeCatalogue decodeInput runOf
-finds-nothing q order listed looks tally i e o bytes n =
+finds-nothing q order reader listed looks tally i e o l bytes n =
     let z : rowCount i ≡ 0 = ap (λ (C : Catalogue). C .rows) (its-catalogue _ (decodeQuery _ q) i e) in
-    rw e (no-rows-run i noRows q order listed looks tally z o bytes n)
+    rw e (no-rows-run i noRows q order reader listed looks tally z o l bytes n)
 
 nine-nested : Holds (questionCheck parish (nested 9 yearBlank) (Refused 10))
 unfolding numberAt headerAt textAt textsAt zerosAt validSlot validSlots numbersAt countsAt firstFieldOf columnOf columnsAt markFieldAt decodeCatalogue plainKind tagsIn kindFits rangeFits operandFits validPayload payloadAt isRepeated predicateField groupField memberField decodeTagged decodeQuery member decodeInput nested
@@ -101,6 +105,6 @@ nine-nested = refl
 pub cases-hold : AllHold cases
 unfolding numberAt bytesOf headerAt numbersAt countsAt firstFieldOf columnOf columnsAt markFieldAt decodeCatalogue folded same begins occurs plainKind asksContent numberTest textTest outcomeOf update elem predicates decides someOutcomes due trace eval occurrences allBelow isOrder sumOf joined bitmap bitmaps onesIn bit isSelected dueAt traceAt selection probeBitmaps checked runOn ones digitOnes xor
 cases-hold = (
-  run-on parish question _ _ _ _ parish-input,
-  (run-on parish question _ _ _ _ parish-input, (refl, (refl, (refl, (refl, (refl, (refl, (refl, (refl, (refl, (refl, (refl, (refl, (refl, (refl, (finds-nothing, (refl, (nine-nested, (run-on parish bothMembers _ _ _ _ both-input, (run-on oneRow yearBlank _ _ _ _ one-input, tt)))))))))))))))))))),
+  run-on parish question _ _ _ _ _ parish-input,
+  (run-on parish question _ _ _ _ _ parish-input, (refl, (refl, (refl, (refl, (refl, (refl, (refl, (refl, (refl, (refl, (refl, (refl, (refl, (refl, (finds-nothing, (refl, (nine-nested, (run-on parish bothMembers _ _ _ _ _ both-input, (run-on oneRow yearBlank _ _ _ _ _ one-input, tt)))))))))))))))))))),
 )

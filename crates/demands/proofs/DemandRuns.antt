@@ -7,7 +7,6 @@ use mathlib.Core.Logic.{_⊎_, inl, inr}
 use mathlib.Core.List.{List}
 use lib.ListN.{length}
 use lib.Dec.{eqb, ltb, leb}
-use Rattle.fields.specs.Numbers.{numberAt}
 use Rattle.bools.specs.Bools.{not-true, both, and-parts, clash, eqb-eq, eqb-self, leb-yes, leb-le, ltb-yes, ltb-lt}
 use Rattle.catalogue.specs.Sound.{IsRefusal}
 use Rattle.strategy.specs.Order.{isOrder}
@@ -15,10 +14,10 @@ use Rattle.bitmaps.specs.Bitmap.{bytesFor}
 use Rattle.rows.specs.Task.{isSelected}
 use Rattle.input.specs.Input.{Input}
 use Rattle.answers.specs.declared.word.Answer.the-variants.{Refused, Accepted}
-use Rattle.answers.specs.Refusals.{notOrder, tableTooShort, counterRefused}
+use Rattle.answers.specs.Refusals.{notOrder, tableTooShort, noSuchReader, counterRefused}
 use Rattle.answers.specs.Checks.{checked}
-use Rattle.demands.specs.Run.{Lent, rowCount, predicateCount, taskOf, foundCount, lookCount, tablesFit, counterFits, accept, refuse, runOn, runOf}
-use Rattle.demands.specs.Demands.{Gives, InBytes, after, Reads, FormBroken, RunningOrder, TablesFit, TallyFits, Kept, FirstBroken, badForm, badOrder, badTables, badTally}
+use Rattle.demands.specs.Run.{Lent, rowCount, predicateCount, taskOf, foundCount, lookCount, readerLimit, counterAt, tablesFit, counterFits, accept, refuse, runOn, runOf}
+use Rattle.demands.specs.Demands.{Gives, InBytes, after, Reads, FormBroken, RunningOrder, TablesFit, IsReader, TallyFits, Kept, FirstBroken, badForm, badOrder, badTables, badReader, badTally}
 use Rattle.demands.proofs.DemandLaws.{reads-input, broken-input, input-cases, broken-range, unpacked}
 use Rattle.demands.proofs.DemandTables.{count-le, order-plain, found-count, look-count-le}
 
@@ -35,15 +34,21 @@ module _ (i : Input) (listed looks : List ℕ) where
       let p = and-parts (leb (bytesFor (rowCount i)) (length listed)) (leb (predicateCount i * bytesFor (rowCount i)) (length looks)) h in
       (leb-le (bytesFor (rowCount i)) (length listed) (p .0), leb-le (predicateCount i * bytesFor (rowCount i)) (length looks) (p .1))
 
-module _ (i : Input) (order tally : List ℕ) where
-  tally-yes : TallyFits i order tally → counterFits tally (lookCount (taskOf i order)) ≡ true
-  tally-yes t =
-      both (ap (λ (k : ℕ). eqb k 8) (t .0) ∙ eqb-self 8) (ltb-yes (numberAt tally 0 8 + lookCount (taskOf i order)) (2 ^ 64) (t .1))
+reader-yes : (reader : ℕ) → IsReader reader → ltb reader readerLimit ≡ true
+reader-yes reader h = ltb-yes reader readerLimit (omega arith)
 
-  tally-fits : counterFits tally (lookCount (taskOf i order)) ≡ true → TallyFits i order tally
+is-reader : (reader : ℕ) → ltb reader readerLimit ≡ true → IsReader reader
+is-reader reader h = omega (arith, ltb-lt reader readerLimit h)
+
+module _ (i : Input) (order : List ℕ) (reader : ℕ) (tally : List ℕ) where
+  tally-yes : TallyFits i order reader tally → counterFits tally reader (lookCount (taskOf i order)) ≡ true
+  tally-yes t =
+      both (ap (λ (k : ℕ). eqb k 128) (t .0) ∙ eqb-self 128) (ltb-yes (counterAt tally reader + lookCount (taskOf i order)) (2 ^ 64) (t .1))
+
+  tally-fits : counterFits tally reader (lookCount (taskOf i order)) ≡ true → TallyFits i order reader tally
   tally-fits h =
-      let p = and-parts (eqb (length tally) 8) (ltb (numberAt tally 0 8 + lookCount (taskOf i order)) (2 ^ 64)) h in
-      (eqb-eq (length tally) 8 (p .0), ltb-lt (numberAt tally 0 8 + lookCount (taskOf i order)) (2 ^ 64) (p .1))
+      let p = and-parts (eqb (length tally) 128) (ltb (counterAt tally reader + lookCount (taskOf i order)) (2 ^ 64)) h in
+      (eqb-eq (length tally) 128 (p .0), ltb-lt (counterAt tally reader + lookCount (taskOf i order)) (2 ^ 64) (p .1))
 
 module _ (l : Lent) where
   pub kept-run : (i : Input) → Kept l i → after l ≡ accept (taskOf i (l .request .order)) l
@@ -53,7 +58,8 @@ module _ (l : Lent) where
         reads-input (l .request .catalogue) (l .request .question) i (k .forms),
         order-plain (predicateCount i) (l .request .order) .1 (k .order),
         tables-yes i (l .listed) (l .looks) (k .tables),
-        tally-yes i (l .request .order) (l .tally) (k .tally),
+        reader-yes (l .reader) (k .reader),
+        tally-yes i (l .request .order) (l .reader) (l .tally) (k .tally),
       )
 
   pub broken-run : (e : ℕ) → FirstBroken l e → after l ≡ refuse e (l .listed) (l .looks) (l .tally)
@@ -68,12 +74,21 @@ module _ (l : Lent) where
         not-true (fits i (l .listed) (l .looks)) (λ h. n (tables-fit i (l .listed) (l .looks) h)),
         z,
       )
-  broken-run e (badTally i r o t n z) =
+  broken-run e (badReader i r o t n z) =
       rw (
         reads-input (l .request .catalogue) (l .request .question) i r,
         order-plain (predicateCount i) (l .request .order) .1 o,
         tables-yes i (l .listed) (l .looks) t,
-        not-true (counterFits (l .tally) (lookCount (taskOf i (l .request .order)))) (λ h. n (tally-fits i (l .request .order) (l .tally) h)),
+        not-true (ltb (l .reader) readerLimit) (λ h. n (is-reader (l .reader) h)),
+        z,
+      )
+  broken-run e (badTally i r o t k n z) =
+      rw (
+        reads-input (l .request .catalogue) (l .request .question) i r,
+        order-plain (predicateCount i) (l .request .order) .1 o,
+        tables-yes i (l .listed) (l .looks) t,
+        reader-yes (l .reader) k,
+        not-true (counterFits (l .tally) (l .reader) (lookCount (taskOf i (l .request .order)))) (λ h. n (tally-fits i (l .request .order) (l .reader) (l .tally) h)),
         z,
       )
 
@@ -81,7 +96,8 @@ module _ (l : Lent) where
   broken-number e (badForm x) = let r = broken-range (l .request .catalogue) (l .request .question) e x in omega arith
   broken-number e (badOrder i r n z) = omega arith
   broken-number e (badTables i r o n z) = omega arith
-  broken-number e (badTally i r o t n z) = omega arith
+  broken-number e (badReader i r o t n z) = omega arith
+  broken-number e (badTally i r o t k n z) = omega arith
 
   -- nothing is broken, or there is a first check that fails
   abbrev pub Cases : Type 0
@@ -91,12 +107,17 @@ module _ (l : Lent) where
   run-cases bytes = forms (input-cases (l .request .catalogue) (l .request .question) (bytes .0) (bytes .1))
     where
       counter : (i : Input) → Reads (l .request .catalogue) (l .request .question) i → RunningOrder i (l .request .order) → TablesFit i (l .listed) (l .looks)
-          → (b : Bool) → counterFits (l .tally) (lookCount (taskOf i (l .request .order))) ≡ b → Cases
-      counter i r o t true h = inl (i, record { forms = r; order = o; tables = t; tally = tally-fits i (l .request .order) (l .tally) h })
-      counter i r o t false h = inr (counterRefused, badTally i r o t (λ y. clash (tally-yes i (l .request .order) (l .tally) y) h) refl)
+          → IsReader (l .reader) → (b : Bool) → counterFits (l .tally) (l .reader) (lookCount (taskOf i (l .request .order))) ≡ b → Cases
+      counter i r o t k true h = inl (i, record { forms = r; order = o; tables = t; reader = k; tally = tally-fits i (l .request .order) (l .reader) (l .tally) h })
+      counter i r o t k false h = inr (counterRefused, badTally i r o t k (λ y. clash (tally-yes i (l .request .order) (l .reader) (l .tally) y) h) refl)
+
+      readers : (i : Input) → Reads (l .request .catalogue) (l .request .question) i → RunningOrder i (l .request .order) → TablesFit i (l .listed) (l .looks)
+          → (b : Bool) → ltb (l .reader) readerLimit ≡ b → Cases
+      readers i r o t true h = counter i r o t (is-reader (l .reader) h) (counterFits (l .tally) (l .reader) (lookCount (taskOf i (l .request .order)))) refl
+      readers i r o t false h = inr (noSuchReader, badReader i r o t (λ y. clash (reader-yes (l .reader) y) h) refl)
 
       tables : (i : Input) → Reads (l .request .catalogue) (l .request .question) i → RunningOrder i (l .request .order) → (b : Bool) → fits i (l .listed) (l .looks) ≡ b → Cases
-      tables i r o true h = counter i r o (tables-fit i (l .listed) (l .looks) h) (counterFits (l .tally) (lookCount (taskOf i (l .request .order)))) refl
+      tables i r o true h = readers i r o (tables-fit i (l .listed) (l .looks) h) (ltb (l .reader) readerLimit) refl
       tables i r o false h = inr (tableTooShort, badTables i r o (λ y. clash (tables-yes i (l .listed) (l .looks) y) h) refl)
 
       orders : (i : Input) → Reads (l .request .catalogue) (l .request .question) i → (b : Bool) → isOrder (predicateCount i) (l .request .order) ≡ b → Cases

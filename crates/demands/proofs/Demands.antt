@@ -4,13 +4,14 @@ use native.Mathlib.Nat.{mul-comm}
 use native.Mathlib.Omega.{arith}
 use mathlib.Core.Path.{_≡_, refl, sym, ap, _∙_, subst}
 use mathlib.Core.Bool.{Bool, true, false, not, _&&_, cond}
-use mathlib.Core.Logic.{_↔_, inl, inr}
+use mathlib.Core.Logic.{_↔_, _⊎_, inl, inr}
 use mathlib.Core.List.{List, [], _∷_}
-use lib.ListN.{length}
+use lib.ListN.{length, take, drop}
 use lib.Dec.{ltb}
 use Rattle.fields.specs.Decoded.{Decoded, refused, accepted}
-use Rattle.fields.specs.Numbers.{numberAt}
-use Rattle.fields.proofs.Laws.{number-of-bytes}
+use Rattle.fields.specs.Numbers.{bytesOf}
+use Rattle.fields.specs.Output.{putAt}
+use Rattle.fields.proofs.PlaceLaws.{put-front-stays, put-bytes, put-rest-stays, put-size, put-number, put-number-before, put-number-behind}
 use Rattle.catalogue.specs.Catalogue.{marked, withMark, isWithdrawn}
 use Rattle.catalogue.specs.Encode.{encodeCatalogue}
 use Rattle.catalogue.specs.Formed.{FormedBits}
@@ -31,7 +32,7 @@ use Rattle.query.proofs.Refusals.{query-refusal}
 use Rattle.predicate.specs.Meaning.{Predicate, outcomeOf, outcome}
 use Rattle.predicate.specs.Outcome.{isBlank}
 use Rattle.predicate.specs.Payload.{tagsOf, validPayload, predicateOf}
-use Rattle.bools.specs.Bools.{not-true, not-of-true, both, and-parts, ltb-yes, ltb-lt}
+use Rattle.bools.specs.Bools.{which, not-true, not-of-true, both, and-parts, ltb-yes, ltb-lt, ltb-le}
 use Rattle.strategy.specs.Assignment.{Assignment, Among}
 use Rattle.strategy.specs.Tree.{eval, size}
 use Rattle.strategy.specs.TreeLaws.{all-none, all-more, any-none, any-more}
@@ -51,10 +52,10 @@ use Rattle.answers.specs.Refusals.{noSuchRowOrPredicate}
 use Rattle.answers.specs.Word.{packed}
 use Rattle.answers.specs.Answers.{questionAnswer, outcomeNumber, outcomeAnswer}
 use Rattle.answers.proofs.Outcomes.{outcome-small}
-use Rattle.demands.specs.Run.{rowCount, predicateCount, taskOf, selection, probeBitmaps, foundCount, lookCount}
+use Rattle.demands.specs.Run.{Lent, rowCount, predicateCount, taskOf, selection, probeBitmaps, foundCount, lookCount, counterAt}
 use Rattle.demands.specs.Demands.{after, Reads, RunningOrder, lineBytes, Kept, FirstBroken, Present, ifPresent, pattern, treeValue, LineOf, listedLine, looksLine}
 use Rattle.demands.specs.Demands.{Demand1CatalogueForm, Demand1QuestionForm, Demand1Payload, Demand1FormsWritten, Demand1WrittenOnce, Demand1Mark, Demand1AfterColumns, Demand1FrontToBack, Demand1Number, Demand1Refused, Demand1Accepted, Demand1Limits, Demand1Catalogue, Demand1Question, Demand1Outcome}
-use Rattle.demands.specs.Demands.{Gives, outcomeWord, Reads, conditionOf, Demand2Blank, Demand2AsNo, Demand2Opposite, Demand2AsBefore, Demand2Tree, Demand2Listed, Demand2Looks, Demand2Withdrawn, Demand2Further, Demand2Counts, Demand2Tally, Demand3, Demand3Ours, Demand3Count, Demand3Run}
+use Rattle.demands.specs.Demands.{Gives, outcomeWord, Reads, conditionOf, Demand2Blank, Demand2AsNo, Demand2Opposite, Demand2AsBefore, Demand2Tree, Demand2Listed, Demand2Looks, Demand2Withdrawn, Demand2Further, Demand2Counts, Demand2Tally, Demand2OtherReaders, Demand3, Demand3Ours, Demand3Count, Demand3Run}
 use Rattle.demands.proofs.AfterColumns.{after-other, after-cut, after-bad, after-more, after-mark}
 use Rattle.demands.proofs.DemandLaws.{catalogue-range, is-catalogue, is-question, reads-input, broken-input, broken-range, unpacked}
 use Rattle.demands.proofs.DemandTables.{sum-le, line-of, line-count, front-old, order-plain, held, traced-due, probed-made, found-count, look-count, look-count-le, look-count-rows, selection-length, listed-line, probeBitmaps-length, looks-line}
@@ -257,14 +258,42 @@ demand-2-counts l i k = rw (← found, ← looked) (kept-gives l i k)
         ∙ sum-same (λ c. countOf (isProbed (taskOf i (l .request .order)) c) (rowCount i)) (λ c. countOf (bit (looksLine i (after l .looks) c)) (rowCount i)) (predicateCount i)
         (λ c m. rw (kept-run l i k, looks-line i (l .request .order) (l .looks) c m) (sym (line-count (isProbed (taskOf i (l .request .order)) c) (rowCount i))))
 
+-- where the reader's eight bytes stand in the tally, and what they are given
+module _ (l : Lent) (i : Input) (k : Kept l i) where
+  abbrev place : ℕ
+  place = l .reader * 8
+
+  abbrev sum : ℕ
+  sum = counterAt (l .tally) (l .reader) + lookCount (taskOf i (l .request .order))
+
+  in-tally : place + 8 ≤ length (l .tally)
+  in-tally = omega (arith, k .reader, k .tally .0)
+
+  left : after l .tally ≡ putAt place (bytesOf 8 sum) (l .tally)
+  left = ap (λ (s : _). s .tally) (kept-run l i k)
+
+  grown : counterAt (after l .tally) (l .reader) ≡ sum
+  grown = rw left (put-number place 8 sum (l .tally) in-tally (omega (arith, k .tally .1)))
+
+  others : (r : ℕ) → (r ≡ l .reader → ⊥) → (ltb r (l .reader) ≡ true) ⊎ (ltb r (l .reader) ≡ false) → counterAt (after l .tally) r ≡ counterAt (l .tally) r
+  others r ne (inl h) = rw left (put-number-before place 8 sum (l .tally) in-tally (r * 8) (omega (arith, ltb-lt r (l .reader) h)))
+  others r ne (inr h) = rw left (put-number-behind place 8 sum (l .tally) in-tally (r * 8) (omega (arith, ltb-le r (l .reader) h)))
+
 pub demand-2-tally : Demand2Tally
-demand-2-tally l i k =
-    let t = ap (λ (s : _). s .tally) (kept-run l i k) in (
-      kept-gives l i k .4,
-      subst (λ (x : ℕ). lookCount (taskOf i (l .request .order)) ≤ x) (mul-comm (predicateCount i) (rowCount i)) (look-count-le i (l .request .order) (rowCount i) (omega arith)),
-      t,
-      ap (λ (x : List ℕ). numberAt x 0 8) t ∙ number-of-bytes 8 (numberAt (l .tally) 0 8 + lookCount (taskOf i (l .request .order))) (omega (arith, k .tally .1)),
-    )
+demand-2-tally l i k = (
+  kept-gives l i k .4,
+  subst (λ (x : ℕ). lookCount (taskOf i (l .request .order)) ≤ x) (mul-comm (predicateCount i) (rowCount i)) (look-count-le i (l .request .order) (rowCount i) (omega arith)),
+  grown l i k,
+)
+
+pub demand-2-other-readers : Demand2OtherReaders
+demand-2-other-readers l i k = (
+  λ r ne. others l i k r ne (which (ltb r (l .reader))),
+  ap length (left l i k) ∙ put-size (place l i k) 8 (sum l i k) (l .tally) (in-tally l i k) ∙ k .tally .0,
+  ap (take (place l i k)) (left l i k) ∙ put-front-stays (place l i k) 8 (sum l i k) (l .tally) (in-tally l i k),
+  ap (drop (place l i k + 8)) (left l i k) ∙ put-rest-stays (place l i k) 8 (sum l i k) (l .tally) (in-tally l i k),
+  rw (grown l i k) (ap (λ (t : List ℕ). take 8 (drop (place l i k) t)) (left l i k) ∙ put-bytes (place l i k) 8 (sum l i k) (l .tally) (in-tally l i k)),
+)
 
 pub demand-2-further : Demand2Further
 demand-2-further l i k =

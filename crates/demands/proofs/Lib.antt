@@ -6,6 +6,7 @@ pub mod DemandBlanks
 pub mod DemandTables
 pub mod DemandRuns
 pub mod Demands
+pub mod TallyPage
 pub mod CopyTables
 pub mod CopyRuns
 pub mod CopyBytes

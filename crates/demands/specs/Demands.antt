@@ -34,7 +34,7 @@ use Rattle.rows.specs.Task.{predicateAt, assignmentAt}
 use Rattle.input.specs.Input.{Input, decodeInput}
 use Rattle.answers.specs.Word.{packed}
 use Rattle.answers.specs.Answers.{catalogueAnswer, questionAnswer, outcomeNumber, outcomeAnswer}
-use Rattle.demands.specs.Run.{Request, Lent, Ran, rowCount, predicateCount, taskOf, lookCount, runOf}
+use Rattle.demands.specs.Run.{Request, Lent, Ran, rowCount, predicateCount, taskOf, lookCount, counterAt, runOf}
 
 -- WORDS OF THIS PAGE
 
@@ -90,25 +90,33 @@ lineBytes i = bytesFor (rowCount i)
 abbrev pub TablesFit : Input → (listed looks : List ℕ) → Type 0
 TablesFit i listed looks = (lineBytes i ≤ length listed) × (predicateCount i * lineBytes i ≤ length looks)
 
--- the tally is eight bytes, and the sum does not pass 2^64 − 1
-abbrev pub TallyFits : Input → (order tally : List ℕ) → Type 0
-TallyFits i order tally = (length tally ≡ 8) × (numberAt tally 0 8 + lookCount (taskOf i order) < 2 ^ 64)
+-- order 7: "a run names its reader, 0 to 15"
+abbrev pub IsReader : (reader : ℕ) → Type 0
+IsReader reader = reader ≤ 15
+
+-- order 7: "sixteen numbers of eight bytes", `counterAt` being one reader's: the tally is 128 bytes, and this reader's sum does not pass 2^64 − 1
+abbrev pub TallyFits : Input → (order : List ℕ) → (reader : ℕ) → (tally : List ℕ) → Type 0
+TallyFits i order reader tally = (length tally ≡ 128) × (counterAt tally reader + lookCount (taskOf i order) < 2 ^ 64)
 
 -- a run that breaks nothing
 pub record Kept (l : Lent) (i : Input) : Type 0 where
   pub forms : Reads (l .request .catalogue) (l .request .question) i
   pub order : RunningOrder i (l .request .order)
   pub tables : TablesFit i (l .listed) (l .looks)
-  pub tally : TallyFits i (l .request .order) (l .tally)
+  pub reader : IsReader (l .reader)
+  pub tally : TallyFits i (l .request .order) (l .reader) (l .tally)
 
--- "The first failing check in the stated order decides." "Running: 1 to 14; 15, ..; 16, ..; 17, ..", with order 6's 23
+-- "The first failing check in the stated order decides." "Running: 1 to 14; 15, ..; 16, ..; 17, ..", with order 6's 23 and order 7's "24, reader over 15,
+-- after 16"
 pub data FirstBroken (l : Lent) (e : ℕ) : Type 0 where
   badForm : FormBroken (l .request .catalogue) (l .request .question) e → FirstBroken l e
   badOrder : (i : Input) → Reads (l .request .catalogue) (l .request .question) i → (RunningOrder i (l .request .order) → ⊥) → e ≡ 15 → FirstBroken l e
   badTables : (i : Input) → Reads (l .request .catalogue) (l .request .question) i → RunningOrder i (l .request .order) → (TablesFit i (l .listed) (l .looks) → ⊥)
       → e ≡ 16 → FirstBroken l e
+  badReader : (i : Input) → Reads (l .request .catalogue) (l .request .question) i → RunningOrder i (l .request .order) → TablesFit i (l .listed) (l .looks)
+      → (IsReader (l .reader) → ⊥) → e ≡ 24 → FirstBroken l e
   badTally : (i : Input) → Reads (l .request .catalogue) (l .request .question) i → RunningOrder i (l .request .order) → TablesFit i (l .listed) (l .looks)
-      → (TallyFits i (l .request .order) (l .tally) → ⊥) → e ≡ 17 → FirstBroken l e
+      → IsReader (l .reader) → (TallyFits i (l .request .order) (l .reader) (l .tally) → ⊥) → e ≡ 17 → FirstBroken l e
 
 -- a condition of the question
 abbrev pub conditionOf : Input → (c : ℕ) → Predicate
@@ -349,13 +357,21 @@ Demand2Counts =
     → Gives (after l .word) 0 (countOf (bit (listedLine i (after l .listed))) (rowCount i)) 0
     (sumOf (λ c. countOf (bit (looksLine i (after l .looks) c)) (rowCount i)) (predicateCount i))
 
--- "at most E × n"; "The house tally is eight lent bytes; a run adds its look count to it."
+-- "at most E × n"; "a run adds its look count to it", order 7: to its reader's number
 abbrev pub Demand2Tally : Type 0
 Demand2Tally =
     (l : Lent) (i : Input) → Kept l i
     → (after l .word / 2 ^ 40 ≡ lookCount (taskOf i (l .request .order))) × (lookCount (taskOf i (l .request .order)) ≤ rowCount i * predicateCount i)
-    × (after l .tally ≡ bytesOf 8 (numberAt (l .tally) 0 8 + lookCount (taskOf i (l .request .order))))
-    × (numberAt (after l .tally) 0 8 ≡ numberAt (l .tally) 0 8 + lookCount (taskOf i (l .request .order)))
+    × (counterAt (after l .tally) (l .reader) ≡ counterAt (l .tally) (l .reader) + lookCount (taskOf i (l .request .order)))
+
+-- order 7: "Only that reader's number grows.": the fifteen others stay, and so does every byte before and behind its eight
+abbrev pub Demand2OtherReaders : Type 0
+Demand2OtherReaders =
+    (l : Lent) (i : Input) → Kept l i
+    → ((r : ℕ) → (r ≡ l .reader → ⊥) → counterAt (after l .tally) r ≡ counterAt (l .tally) r)
+    × (length (after l .tally) ≡ 128) × (take (l .reader * 8) (after l .tally) ≡ take (l .reader * 8) (l .tally))
+    × (drop (l .reader * 8 + 8) (after l .tally) ≡ drop (l .reader * 8 + 8) (l .tally))
+    × (take 8 (drop (l .reader * 8) (after l .tally)) ≡ bytesOf 8 (counterAt (after l .tally) (l .reader)))
 
 -- "Longer tables keep their further bytes."
 abbrev pub Demand2Further : Type 0

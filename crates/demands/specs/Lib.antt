@@ -4,5 +4,6 @@ pub mod Demands
 pub mod CopyPage
 pub mod Typed
 pub mod TypedPage
+pub mod TallyPage
 pub mod Parish
 pub mod Cases

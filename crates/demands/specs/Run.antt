@@ -7,13 +7,13 @@ use lib.Dec.{leb, ltb, eqb}
 use Rattle.fields.specs.Decoded.{Decoded, refused, accepted}
 use Rattle.fields.specs.Numbers.{numberAt, bytesOf}
 use Rattle.strategy.specs.Order.{isOrder}
-use Rattle.fields.specs.Output.{putFront}
+use Rattle.fields.specs.Output.{putFront, putAt}
 use Rattle.bitmaps.specs.Bitmap.{bytesFor, bitmap, bitmaps, onesIn}
 use Rattle.rows.specs.Task.{Task, isSelected, isProbed}
 use Rattle.input.specs.Input.{Input, decodeInput}
 use Rattle.answers.specs.declared.word.Answer.the-variants.{Refused, Accepted}
 use Rattle.answers.specs.Word.{packed}
-use Rattle.answers.specs.Refusals.{notOrder, tableTooShort, counterRefused}
+use Rattle.answers.specs.Refusals.{notOrder, tableTooShort, noSuchReader, counterRefused}
 use Rattle.answers.specs.Checks.{Checks, checked}
 
 -- what a run and a copy are asked: the bytes of a catalogue, a question and an order
@@ -22,9 +22,10 @@ pub record Request : Type 0 where
   pub question : List ℕ
   pub order : List ℕ
 
--- what a run is lent: the request, and the three tables that it may write
+-- what a run is given: the request, its reader (order 7), and the three tables that it is lent to write
 pub record Lent : Type 0 where
   pub request : Request
+  pub reader : ℕ
   pub listed : List ℕ
   pub looks : List ℕ
   pub tally : List ℕ
@@ -32,8 +33,9 @@ pub record Lent : Type 0 where
 abbrev pub request : (catalogue question order : List ℕ) → Request
 request b q order = record { catalogue = b; question = q; order = order }
 
-abbrev pub lent : (catalogue question order listed looks tally : List ℕ) → Lent
-lent b q order listed looks tally = record { request = request b q order; listed = listed; looks = looks; tally = tally }
+abbrev pub lent : (catalogue question order : List ℕ) → (reader : ℕ) → (listed looks tally : List ℕ) → Lent
+lent b q order reader listed looks tally =
+    record { request = request b q order; reader = reader; listed = listed; looks = looks; tally = tally }
 
 -- what a run leaves: the packed word, the listed table, the looks table, the tally
 pub record Ran : Type 0 where
@@ -74,42 +76,61 @@ foundCount T = onesIn (selection T)
 abbrev pub lookCount : Task → ℕ
 lookCount T = onesIn (probeBitmaps T)
 
--- "The house tally is eight lent bytes; a run adds its look count to it."
+-- order 7: "The lent tally becomes sixteen numbers of eight bytes, and a run names its reader, 0 to 15."
 abbrev pub counterSize : ℕ
 counterSize = 8
 
-abbrev pub counterAfter : (tally : List ℕ) → (look-count : ℕ) → ℕ
-counterAfter tally k = numberAt tally 0 counterSize + k
+abbrev pub readerLimit : ℕ
+readerLimit = 16
+
+abbrev pub tallySize : ℕ
+tallySize = readerLimit * counterSize
+
+-- where a reader's number stands, and that number
+abbrev pub counterPlace : (reader : ℕ) → ℕ
+counterPlace reader = reader * counterSize
+
+abbrev pub counterAt : (tally : List ℕ) → (reader : ℕ) → ℕ
+counterAt tally reader = numberAt tally (counterPlace reader) counterSize
+
+-- "Only that reader's number grows.": by the look count, document 01's "a run adds its look count to it"
+abbrev pub tallyAfter : (tally : List ℕ) → (reader look-count : ℕ) → List ℕ
+tallyAfter tally reader k = putAt (counterPlace reader) (bytesOf counterSize (counterAt tally reader + k)) tally
 
 -- tables of so many bytes hold a line of this size, and one for each of n predicates
 abbrev pub tablesFit : (n size : ℕ) → (listed looks : ℕ) → Bool
 tablesFit n size listed looks = leb size listed && leb (n * size) looks
 
-abbrev pub counterFits : (tally : List ℕ) → (look-count : ℕ) → Bool
-counterFits tally k = eqb (length tally) counterSize && ltb (counterAfter tally k) (2 ^ 64)
+abbrev pub counterFits : (tally : List ℕ) → (reader look-count : ℕ) → Bool
+counterFits tally reader k = eqb (length tally) tallySize && ltb (counterAt tally reader + k) (2 ^ 64)
 
--- the checks that need no work: "15, the order is not n bytes holding each number once; 16, a table is too short"
-abbrev pub requestChecks : (n size : ℕ) → (order : List ℕ) → (listed looks : ℕ) → Checks
-requestChecks n size order listed looks = (notOrder, isOrder n order) ∷ (tableTooShort, tablesFit n size listed looks) ∷ []
+-- order 7: "24, reader over 15"
+abbrev pub readerChecks : (reader : ℕ) → Checks
+readerChecks reader = (noSuchReader, ltb reader readerLimit) ∷ []
 
--- and the one that needs the count: "17, the tally is not eight bytes or the sum would pass 2^64 − 1"
-abbrev pub counterChecks : (tally : List ℕ) → (look-count : ℕ) → Checks
-counterChecks tally k = (counterRefused, counterFits tally k) ∷ []
+-- the checks that need no work: "15, the order is not n bytes holding each number once; 16, a table is too short", and 24 "after 16"
+abbrev pub requestChecks : (n size : ℕ) → (order : List ℕ) → (reader listed looks : ℕ) → Checks
+requestChecks n size order reader listed looks =
+    (notOrder, isOrder n order) ∷ (tableTooShort, tablesFit n size listed looks) ∷ readerChecks reader
+
+-- and the one that needs the count: "Refusal 17 is for a tally not of 128 bytes or a sum too large for this reader"
+abbrev pub counterChecks : (tally : List ℕ) → (reader look-count : ℕ) → Checks
+counterChecks tally reader k = (counterRefused, counterFits tally reader k) ∷ []
 
 abbrev pub runChecks : Input → Lent → Checks
 runChecks i l =
-    requestChecks (predicateCount i) (bytesFor (rowCount i)) (l .request .order) (length (l .listed)) (length (l .looks))
-    ++ counterChecks (l .tally) (lookCount (taskOf i (l .request .order)))
+    requestChecks (predicateCount i) (bytesFor (rowCount i)) (l .request .order) (l .reader) (length (l .listed)) (length (l .looks))
+    ++ counterChecks (l .tally) (l .reader) (lookCount (taskOf i (l .request .order)))
 
--- an accepted run: the two tables go out, their ones are its counts, and the tally gains the looks
-abbrev pub acceptWith : (selection probed listed looks tally : List ℕ) → Ran
-acceptWith S P listed looks tally =
-    ran (packed (Accepted (onesIn S) 0 (onesIn P))) (putFront S listed) (putFront P looks) (bytesOf counterSize (counterAfter tally (onesIn P)))
+-- an accepted run: the two tables go out, their ones are its counts, and its reader's number gains the looks
+abbrev pub acceptWith : (selection probed : List ℕ) → (reader : ℕ) → (listed looks tally : List ℕ) → Ran
+acceptWith S P reader listed looks tally =
+    ran (packed (Accepted (onesIn S) 0 (onesIn P))) (putFront S listed) (putFront P looks) (tallyAfter tally reader (onesIn P))
 
 abbrev pub accept : Task → Lent → Ran
-accept T l = acceptWith (selection T) (probeBitmaps T) (l .listed) (l .looks) (l .tally)
+accept T l = acceptWith (selection T) (probeBitmaps T) (l .reader) (l .listed) (l .looks) (l .tally)
 
--- "Running: .. 15, .. 16, .. 17, .."
+-- "Running: .. 15, .. 16, .. 17, ..", order 7's 24 between the last two
 unfoldable pub runOn : Input → Lent → Ran
 runOn i l = checked (runChecks i l) (λ e. refuse e (l .listed) (l .looks) (l .tally)) (accept (taskOf i (l .request .order)) l)
 

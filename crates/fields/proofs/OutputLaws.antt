@@ -4,8 +4,8 @@ use native.Mathlib.Nat.{zero-add}
 use native.Mathlib.Numerals.{add-one}
 use native.Mathlib.Omega.{arith}
 use mathlib.Core.Path.{_≡_, refl, sym, ap, ap₂, _∙_}
-use mathlib.Core.List.{List, [], _∷_, _++_, append-assoc, append-nil}
-use lib.ListN.{length, take, drop, getD, set, length-append, length-drop, drop-of-length-le, take-append-drop}
+use mathlib.Core.List.{List, [], _∷_, _++_, append-assoc}
+use lib.ListN.{length, take, drop, getD, set, length-append, length-drop, take-append-drop}
 use lib.Seq.{length-take-le, take-at, drop-at, take-append-seam, drop-append-seam, take-append-le, take-take, drop-drop, take-length, set-split, append-snoc, paste, paste-zero, paste-suc}
 use Rattle.fields.specs.Output.{putAt, putFront, Wrote, Front}
 
@@ -113,10 +113,6 @@ wrote-again a m b {at} {end} {r} {n} {old} {new} {newer} same e w v = record {
   bytes = v .bytes ∙ ap₂ (λ (k : ℕ) (o : List ℕ). putAt k n o) e (w .bytes) ∙ put-again a m n b old same;
   place = omega (arith, w .place, length-append a (m ++ b), length-append m b, length-append a (n ++ b), length-append n b, same);
 }
-
--- all of it
-pub put-whole : (new old : List ℕ) → length old ≡ length new → putAt 0 new old ≡ new
-put-whole new old e = put-front new old ∙ rw (drop-of-length-le old {i = length new} (omega arith)) (append-nil new)
 
 -- THE FRONT OF AN OUTPUT
 

@@ -1,4 +1,4 @@
-// The house tally, our counter: a number of eight lent bytes.
+// A reader's number in the lent tally, our counter: a number of eight bytes.
 ghost use mathlib.Core.Path.{_≡_};
 ghost use Prim.Native.Nat.{_+_, _≤_};
 ghost use lib.ListN.{length};
@@ -11,6 +11,15 @@ impl Counter {
     pub const SIZE: usize = 8;
 
     pub const LIMIT: u64 = 0xffff_ffff_ffff_ffff;
+}
+
+// The lent tally: a counter for each reader.
+pub struct Tally;
+
+impl Tally {
+    pub const READERS: u64 = 16;
+
+    pub const SIZE: usize = 16 * Counter::SIZE;
 }
 
 // The number of the eight bytes at a place; summed from the low half on, which compiles to one load.

@@ -2,14 +2,12 @@
 use Prim.Native.Nat.{ℕ, _+_, _-_, _*_, _^_, _≤_, _<_}
 use native.Mathlib.Nat.{mul-le-mul-left, mul-le-mul-right}
 use native.Mathlib.Omega.{arith}
-use mathlib.Core.Path.{_≡_}
+use mathlib.Core.Path.{_≡_, ap, _∙_}
 use mathlib.Core.List.{List}
 use lib.ListN.{length}
 use borrow.Author.Tests.{eq-eqb, ne-eqb, lt-ltb, le-ltb}
 use Rattle.fields.specs.Numbers.{numberAt, bytesOf}
 use Rattle.fields.specs.Output.{putFront, putAt}
-use Rattle.fields.proofs.Laws.{length-bytes}
-use Rattle.fields.proofs.OutputLaws.{put-whole}
 use Rattle.bitmaps.specs.Bitmap.{onesIn}
 use Rattle.bitmaps.specs.Table.{lineSize, linesOf}
 use Rattle.query.specs.Format.{predicateLimit}
@@ -17,34 +15,36 @@ use Rattle.answers.specs.declared.word.Answer.the-variants.{Accepted}
 use Rattle.answers.specs.Word.{packed}
 use Rattle.answers.specs.Refusals.{counterRefused}
 use Rattle.answers.specs.Checks.{checked}
-use Rattle.demands.specs.Run.{ran, refuse, counterSize, counterAfter}
+use Rattle.demands.specs.Run.{ran, refuse, counterSize, tallySize, counterPlace, counterAt}
 use Rattle.finish.specs.Finish.{finished}
 
 -- both counts have room in the word
 pub lines-few : (n size : ℕ) → n ≤ predicateLimit → size ≤ lineSize → n * size ≤ predicateLimit * lineSize
 lines-few n size h k = omega (arith, mul-le-mul-right size h, mul-le-mul-left predicateLimit k)
 
-module _ (S P : List ℕ) (n size : ℕ) (listed looks tally : List ℕ) where
-  pub counter-size-wrong : (length tally ≡ counterSize → ⊥) → refuse counterRefused listed looks tally ≡ finished S P n size listed looks tally
+module _ (S P : List ℕ) (n size reader : ℕ) (listed looks tally : List ℕ) where
+  pub tally-size-wrong : (length tally ≡ tallySize → ⊥) → refuse counterRefused listed looks tally ≡ finished S P n size reader listed looks tally
   unfolding finished checked
-  counter-size-wrong ne = rw (ne-eqb (length tally) counterSize ne)
+  tally-size-wrong ne = rw (ne-eqb (length tally) tallySize ne)
 
   abbrev lines : List ℕ
   lines = linesOf size P n
 
-  module _ (before looked : ℕ) (eight : length tally ≡ counterSize) (b : before ≡ numberAt tally 0 counterSize) (l : looked ≡ onesIn lines) where
-    pub counter-passed : 18446744073709551615 - before < looked → refuse counterRefused listed looks tally ≡ finished S P n size listed looks tally
+  module _ (at before looked : ℕ) (whole : length tally ≡ tallySize) (p : at ≡ counterPlace reader) (b : before ≡ numberAt tally at counterSize) (l : looked ≡ onesIn lines) where
+    its-counter : before ≡ counterAt tally reader
+    its-counter = b ∙ ap (λ (k : ℕ). numberAt tally k counterSize) p
+
+    pub counter-passed : 18446744073709551615 - before < looked → refuse counterRefused listed looks tally ≡ finished S P n size reader listed looks tally
     unfolding finished checked
     counter-passed h =
-        let z : 2 ^ 64 ≤ counterAfter tally (onesIn lines) = omega arith in
-        rw (eq-eqb (length tally) counterSize eight, le-ltb (counterAfter tally (onesIn lines)) (2 ^ 64) z)
+        let z : 2 ^ 64 ≤ counterAt tally reader + onesIn lines = omega (arith, its-counter) in
+        rw (eq-eqb (length tally) tallySize whole, le-ltb (counterAt tally reader + onesIn lines) (2 ^ 64) z)
 
     pub counter-taken : looked ≤ 18446744073709551615 - before → before ≤ 18446744073709551615
         → (found : ℕ) (listed' looks' tally' : List ℕ) → found ≡ onesIn (linesOf size S 1)
-        → listed' ≡ putFront (linesOf size S 1) listed → looks' ≡ putFront lines looks → tally' ≡ putAt 0 (bytesOf counterSize (before + looked)) tally
-        → ran (packed (Accepted found 0 looked)) listed' looks' tally' ≡ finished S P n size listed looks tally
+        → listed' ≡ putFront (linesOf size S 1) listed → looks' ≡ putFront lines looks → tally' ≡ putAt at (bytesOf counterSize (before + looked)) tally
+        → ran (packed (Accepted found 0 looked)) listed' looks' tally' ≡ finished S P n size reader listed looks tally
     unfolding finished checked
-    counter-taken h k found listed' looks' tally' f p q t =
-        let z : counterAfter tally (onesIn lines) < 2 ^ 64 = omega arith in
-        let w = put-whole (bytesOf counterSize (before + looked)) tally (omega (arith, length-bytes counterSize (before + looked))) in
-        rw (eq-eqb (length tally) counterSize eight, lt-ltb (counterAfter tally (onesIn lines)) (2 ^ 64) z, f, p, q, t, w, b, l)
+    counter-taken h k found listed' looks' tally' f g q t =
+        let z : counterAt tally reader + onesIn lines < 2 ^ 64 = omega (arith, its-counter) in
+        rw (eq-eqb (length tally) tallySize whole, lt-ltb (counterAt tally reader + onesIn lines) (2 ^ 64) z, f, g, q, t, its-counter, l, p)

@@ -12,10 +12,10 @@ abbrev pub HasRoom : (n size : ℕ) → (listed looks : List ℕ) → Type 0
 HasRoom n size listed looks = (size ≤ length listed) × (n * size ≤ length looks)
 
 -- the tables that go out
-abbrev pub ended : (selection probed listed looks tally : List ℕ) → Ran
-ended S P listed looks tally =
-    checked (counterChecks tally (onesIn P)) (λ e. refuse e listed looks tally) (acceptWith S P listed looks tally)
+abbrev pub ended : (selection probed : List ℕ) → (reader : ℕ) → (listed looks tally : List ℕ) → Ran
+ended S P reader listed looks tally =
+    checked (counterChecks tally reader (onesIn P)) (λ e. refuse e listed looks tally) (acceptWith S P reader listed looks tally)
 
 -- are the front of each line of the run's own
-unfoldable pub finished : (selected probed : List ℕ) → (n size : ℕ) → (listed looks tally : List ℕ) → Ran
-finished S P n size listed looks tally = ended (linesOf size S 1) (linesOf size P n) listed looks tally
+unfoldable pub finished : (selected probed : List ℕ) → (n size reader : ℕ) → (listed looks tally : List ℕ) → Ran
+finished S P n size reader listed looks tally = ended (linesOf size S 1) (linesOf size P n) reader listed looks tally

@@ -5,7 +5,7 @@ use mathlib.Core.Path.{_≡_}
 use mathlib.Core.List.{List}
 use Rattle.catalogue.specs.Format.{rowLimit}
 use Rattle.records.specs.Table.{recordAt}
-use Rattle.reader.specs.Tables.{Tables}
+use Rattle.reading.specs.Tables.{Tables}
 use Rattle.plan.specs.Plan.{accessAt, accessOf, HasColumns}
 use Rattle.access.specs.Access.{Accessed}
 use Rattle.rows.specs.Task.{predicateAt}

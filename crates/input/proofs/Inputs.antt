@@ -1,4 +1,4 @@
--- What the catalogue's layout and the reader's tables tell of the decoded input.
+-- What the catalogue's layout and the reading's tables tell of the decoded input.
 use Prim.Native.Nat.{ℕ, _≤_, _<_}
 use native.Mathlib.Omega.{arith}
 use mathlib.Core.Path.{_≡_, refl, sym, _∙_}
@@ -13,12 +13,12 @@ use Rattle.layout.specs.Layout.{Laid, LaidOut}
 use Rattle.layout.proofs.Laid.{column-shown}
 use Rattle.predicate.specs.Payload.{tagsOf}
 use Rattle.predicate.proofs.PayloadLaws.{tags-length, tags-at, shown-tag}
-use Rattle.reader.specs.declared.whole.Reading.{Reading}
-use Rattle.reader.specs.declared.whole.Reading.the-variants as reading
+use Rattle.reading.specs.declared.whole.Reading.{Reading}
+use Rattle.reading.specs.declared.whole.Reading.the-variants as reading
 use Rattle.query.specs.Query.{Query}
-use Rattle.reader.specs.Tables.{Tables}
+use Rattle.reading.specs.Tables.{Tables}
 use Rattle.query.specs.Decode.{decodeTagged, decodeQuery}
-use Rattle.reader.specs.QueryRead.{QueryRead}
+use Rattle.reading.specs.QueryRead.{QueryRead}
 use Rattle.input.specs.Input.{withQuery, decodeInput}
 use Rattle.input.specs.Beginning.{HasInput}
 
@@ -85,7 +85,7 @@ module _ (b q : List ℕ) (l : Layout) (tags : List ℕ) (same : tags ≡ take (
           tabled = rw (← t, ← y) (w .1);
         }
 
-  -- the layout and the reader both done, by what the catalogue decodes to
+  -- the layout and the reading both done, by what the catalogue decodes to
   module _ (h : LaidOut b l (decodeCatalogue b)) (z : l .refusal ≡ 0) (w : QueryRead tags q (decodeTagged tags q) R T) where
     by-catalogue : {A : Type 0} → ((C : Catalogue) → decodeCatalogue b ≡ accepted C → Laid b l C → A) → A
     by-catalogue {A} f = go (decodeCatalogue b) refl h

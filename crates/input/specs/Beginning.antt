@@ -6,12 +6,12 @@ use Rattle.fields.specs.Decoded.{refused, accepted}
 use Rattle.layout.specs.declared.Layout.{Layout}
 use Rattle.layout.specs.Layout.{Laid}
 use Rattle.predicate.specs.Payload.{tagsOf}
-use Rattle.reader.specs.Tables.{Tables, tables}
-use Rattle.reader.specs.QueryRead.{Tabled}
+use Rattle.reading.specs.Tables.{Tables, tables}
+use Rattle.reading.specs.QueryRead.{Tabled}
 use Rattle.input.specs.declared.begin.Beginning.{Beginning}
 use Rattle.input.specs.Input.{Input, decodeInput}
 
--- the decoded input, and all that the layout and the reader's tables show of it
+-- the decoded input, and all that the layout and the reading's tables show of it
 pub record HasInput (b q : List ℕ) (r : Beginning) (T : Tables) : Type 0 where
   pub input : Input
   pub decoded : decodeInput b q ≡ accepted input

@@ -1,8 +1,8 @@
 // How every call on a question begins: the catalogue laid out, the question read against it.
 use catalogue::format::Column;
-use reader::whole::Reading;
+use reading::whole::Reading;
 ghost use mathlib.Core.Path.{_≡_};
-ghost use Rattle.reader.specs.Tables.{tables, HasTables};
+ghost use Rattle.reading.specs.Tables.{tables, HasTables};
 ghost use Rattle.input.specs.Beginning.{InputRead};
 
 // The number of the first check that fails, or 0 and what the later steps ask for.
@@ -28,7 +28,7 @@ fn refuse(refusal: u8) -> Beginning
     }
 }
 
-// Lays out the catalogue and reads the question against it, into the tables of the readers.
+// Lays out the catalogue and reads the question against it, into the tables of both.
 pub fn begin(
     catalogue: &[u8],
     question: &[u8],
@@ -48,7 +48,7 @@ pub fn begin(
     if refusal != 0 {
         return refuse(refusal);
     }
-    match reader::whole::read_query(&tags[..columns], question, offsets, ancestors) {
+    match reading::whole::read_query(&tags[..columns], question, offsets, ancestors) {
         Reading::Refused(e) => refuse(e),
         Reading::Accepted { n } => Beginning {
             refusal: 0,

@@ -9,7 +9,7 @@ use Rattle.fields.specs.Decoded.{refused}
 use Rattle.strategy.specs.Order.{isOrder}
 use Rattle.bitmaps.specs.Table.{lineSize}
 use Rattle.query.specs.Format.{predicateLimit}
-use Rattle.reader.specs.Tables.{Tables, tables}
+use Rattle.reading.specs.Tables.{Tables, tables}
 use Rattle.input.specs.declared.begin.Beginning.{Beginning}
 use Rattle.input.specs.Input.{decodeInput}
 use Rattle.input.specs.Beginning.{HasInput}

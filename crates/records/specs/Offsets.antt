@@ -1,4 +1,4 @@
--- Where the fields of the predicates read so far begin in the query: what the reader looks back at.
+-- Where the fields of the predicates read so far begin in the query: what the reading looks back at.
 use Prim.Native.Nat.{ℕ, _+_, _≤_, _<_}
 use mathlib.Core.Path.{_≡_}
 use mathlib.Core.List.{List}

@@ -6,19 +6,19 @@ use mathlib.Core.Path.{_≡_, sym, _∙_}
 use mathlib.Core.Bool.{true, false}
 use mathlib.Core.List.{List}
 use lib.Dec.{leb}
-use borrow.Author.Tests.{le-leb, lt-leb}
-use Rattle.bools.specs.Bools.{and-parts, leb-le}
+use borrow.Author.Tests.{le-leb, lt-leb, lt-ltb, le-ltb}
+use Rattle.bools.specs.Bools.{and-parts, leb-le, ltb-lt}
 use Rattle.strategy.specs.Order.{isOrder}
 use Rattle.bitmaps.specs.Table.{lineSize}
 use Rattle.query.specs.Format.{predicateLimit}
-use Rattle.answers.specs.Refusals.{notOrder, tableTooShort}
+use Rattle.answers.specs.Refusals.{notOrder, tableTooShort, noSuchReader}
 use Rattle.answers.specs.Checks.{checked, refusalBy}
 use Rattle.answers.proofs.Checks.{AllHold, none-fails}
-use Rattle.demands.specs.Run.{requestChecks}
+use Rattle.demands.specs.Run.{readerLimit, requestChecks}
 
-module _ (n size : ℕ) (order : List ℕ) (listed looks : ℕ) where
+module _ (n size : ℕ) (order : List ℕ) (reader listed looks : ℕ) where
   abbrev first : ℕ
-  first = refusalBy (requestChecks n size order listed looks)
+  first = refusalBy (requestChecks n size order reader listed looks)
 
   pub not-order : isOrder n order ≡ false → notOrder ≡ first
   unfolding checked
@@ -33,13 +33,17 @@ module _ (n size : ℕ) (order : List ℕ) (listed looks : ℕ) where
     unfolding checked
     looks-short g h = rw (o, le-leb size listed g, lt-leb (n * size) looks h)
 
-    pub request-holds : size ≤ listed → n * size ≤ looks → 0 ≡ first
+    pub no-such-reader : size ≤ listed → n * size ≤ looks → readerLimit ≤ reader → noSuchReader ≡ first
     unfolding checked
-    request-holds g h = rw (o, le-leb size listed g, le-leb (n * size) looks h)
+    no-such-reader g h l = rw (o, le-leb size listed g, le-leb (n * size) looks h, le-ltb reader readerLimit l)
+
+    pub request-holds : size ≤ listed → n * size ≤ looks → reader < readerLimit → 0 ≡ first
+    unfolding checked
+    request-holds g h l = rw (o, le-leb size listed g, le-leb (n * size) looks h, lt-ltb reader readerLimit l)
 
   module _ (k : ℕ) (e : k ≡ first) (z : k ≡ 0) where
-    pub request-kept : AllHold (requestChecks n size order listed looks)
-    request-kept = none-fails (requestChecks n size order listed looks) (omega arith, (omega arith, tt)) (sym e ∙ z)
+    pub request-kept : AllHold (requestChecks n size order reader listed looks)
+    request-kept = none-fails (requestChecks n size order reader listed looks) (omega arith, (omega arith, (omega arith, tt))) (sym e ∙ z)
 
     pub request-order : isOrder n order ≡ true
     request-order = request-kept .0
@@ -48,6 +52,9 @@ module _ (n size : ℕ) (order : List ℕ) (listed looks : ℕ) where
     request-room =
         let p = and-parts (leb size listed) (leb (n * size) looks) (request-kept .1 .0) in
         (leb-le size listed (p .0), leb-le (n * size) looks (p .1))
+
+    pub request-reader : reader < readerLimit
+    request-reader = ltb-lt reader readerLimit (request-kept .1 .1 .0)
 
 pub lines-fit : (n size : ℕ) → n ≤ predicateLimit → size ≤ lineSize → n * size < 2 ^ 64
 lines-fit n size h k = let z : n * size ≤ predicateLimit * size = mul-le-mul-right size h in omega arith

@@ -19,8 +19,8 @@ use Rattle.records.specs.declared.PredicateRecord.{PredicateRecord}
 use Rattle.query.specs.Query.{Query}
 use Rattle.query.specs.Decode.{payloadOf}
 use Rattle.records.specs.Table.{recordAt, predicateIn}
-use Rattle.reader.specs.Tables.{Tables}
-use Rattle.reader.specs.QueryRead.{Tabled}
+use Rattle.reading.specs.Tables.{Tables}
+use Rattle.reading.specs.QueryRead.{Tabled}
 use Rattle.records.proofs.Records.{predicates-at}
 use Rattle.plan.specs.Plan.{planSize, accessAt, accessOf, HasColumns, Planned}
 use Rattle.access.specs.Access.{Accessed}

@@ -7,7 +7,7 @@ use lib.ListN.{length}
 use Rattle.fields.specs.Decoded.{refused}
 use Rattle.bitmaps.specs.Bitmap.{bytesFor}
 use Rattle.bitmaps.specs.Table.{lineSize}
-use Rattle.reader.specs.Tables.{Tables}
+use Rattle.reading.specs.Tables.{Tables}
 use Rattle.rows.specs.Worked.{Worked}
 use Rattle.input.specs.declared.begin.Beginning.{Beginning}
 use Rattle.input.specs.Input.{decodeInput}
@@ -35,9 +35,9 @@ module _ {b q : List ℕ} {r : Beginning} {T : Tables} (G : HasInput b q r T) wh
   pub size-short : {size : ℕ} → size ≡ bytesFor (r .rows) → size ≤ lineSize
   size-short e = omega (arith, input-short G)
 
-module _ {b q : List ℕ} {r : Beginning} {T : Tables} (G : HasInput b q r T) (order listed looks tally : List ℕ) (size : ℕ) (s : size ≡ bytesFor (r .rows)) where
+module _ {b q : List ℕ} {r : Beginning} {T : Tables} (G : HasInput b q r T) (order : List ℕ) (reader : ℕ) (listed looks tally : List ℕ) (size : ℕ) (s : size ≡ bytesFor (r .rows)) where
   abbrev asked : Lent
-  asked = lent b q order listed looks tally
+  asked = lent b q order reader listed looks tally
 
   abbrev task-size : ℕ
   task-size = bytesFor (G .input .catalogue .rows)
@@ -48,23 +48,23 @@ module _ {b q : List ℕ} {r : Beginning} {T : Tables} (G : HasInput b q r T) (o
   -- the checks of the request, then that of the counter
   abbrev further : Ran
   further =
-      checked (counterChecks tally (lookCount (taskOf (G .input) order))) (λ e. refuse e listed looks tally) (accept (taskOf (G .input) order) asked)
+      checked (counterChecks tally reader (lookCount (taskOf (G .input) order))) (λ e. refuse e listed looks tally) (accept (taskOf (G .input) order) asked)
 
-  on-input : checked (requestChecks (r .n) size order (length listed) (length looks)) (λ e. refuse e listed looks tally) further ≡ runOf asked
+  on-input : checked (requestChecks (r .n) size order reader (length listed) (length looks)) (λ e. refuse e listed looks tally) further ≡ runOf asked
   unfolding runOf runOn
   on-input = rw (G .decoded, G .tabled .count, same-size) (sym (checked-further (λ e. refuse e listed looks tally)
-      (requestChecks (r .n) task-size order (length listed) (length looks)) _ _))
+      (requestChecks (r .n) task-size order reader (length listed) (length looks)) _ _))
 
-  module _ (k : ℕ) (e : k ≡ refusalBy (requestChecks (r .n) size order (length listed) (length looks))) where
+  module _ (k : ℕ) (e : k ≡ refusalBy (requestChecks (r .n) size order reader (length listed) (length looks))) where
     pub run-declined : (k ≡ 0 → ⊥) → refuse k listed looks tally ≡ runOf asked
     run-declined ne =
-        rw e (sym (checked-fails (λ x. refuse x listed looks tally) (requestChecks (r .n) size order (length listed) (length looks)) further (rw e at ne)) ∙ on-input)
+        rw e (sym (checked-fails (λ x. refuse x listed looks tally) (requestChecks (r .n) size order reader (length listed) (length looks)) further (rw e at ne)) ∙ on-input)
 
     -- the rows are worked, and the end of the run is the definition's
-    pub run-finished : k ≡ 0 → {S P : List ℕ} → RunWorked b q order (r .n) S P → {x : Ran} → x ≡ finished S P (r .n) size listed looks tally → x ≡ runOf asked
+    pub run-finished : k ≡ 0 → {S P : List ℕ} → RunWorked b q order (r .n) S P → {x : Ran} → x ≡ finished S P (r .n) size reader listed looks tally → x ≡ runOf asked
     unfolding finished selection probeBitmaps
     run-finished z {S} {P} W f =
         let w : Worked (taskOf (G .input) order) (r .n) S P = W (G .input) (G .decoded) in
         f ∙ rw (same-size, w .selected-bitmap, w .probed-bitmaps, ← G .tabled .count)
-        (sym (checked-holds (λ x. refuse x listed looks tally) (requestChecks (r .n) size order (length listed) (length looks)) _
-        (request-kept (r .n) size order (length listed) (length looks) k e z)) ∙ on-input)
+        (sym (checked-holds (λ x. refuse x listed looks tally) (requestChecks (r .n) size order reader (length listed) (length looks)) _
+        (request-kept (r .n) size order reader (length listed) (length looks) k e z)) ∙ on-input)

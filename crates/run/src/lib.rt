@@ -3,7 +3,6 @@ use ancestors::Ancestors;
 use answers::word::Answer;
 use bitmaps::copy::Line;
 use marks::MarkTable;
-use plan::table::Plan;
 use query::format::Predicate;
 ghost use mathlib.Core.Path.{_≡_};
 ghost use Rattle.answers.specs.Word.{packed, FitsWord};
@@ -14,11 +13,12 @@ pub fn run_question(
     catalogue: &[u8],
     question: &[u8],
     order: &[u8],
+    reader: u64,
     listed: &mut [u8],
     looks: &mut [u8],
     tally: &mut [u8],
 ) -> Answer
-    ensures { λ r. ⌜ (ran (packed r) (now (listed .exit)) (now (looks .exit)) (now (tally .exit)) ≡ runOf (lent (now (catalogue .entry)) (now (question .entry)) (now (order .entry)) (now (listed .entry)) (now (looks .entry)) (now (tally .entry)))) × FitsWord r ⌝ }
+    ensures { λ r. ⌜ (ran (packed r) (now (listed .exit)) (now (looks .exit)) (now (tally .exit)) ≡ runOf (lent (now (catalogue .entry)) (now (question .entry)) (now (order .entry)) reader (now (listed .entry)) (now (looks .entry)) (now (tally .entry)))) × FitsWord r ⌝ }
 {
     let mut offsets = [0usize; Predicate::LIMIT];
     let mut ancestors = [0u8; Ancestors::TABLE_SIZE];
@@ -29,23 +29,30 @@ pub fn run_question(
     }
     let n = begun.n;
     let size = bitmaps::size::bytes_for(begun.rows);
-    let failing = request::check_request(order, n, size, listed.len(), looks.len());
+    let failing = request::check_request(order, n, size, reader, listed.len(), looks.len());
     if failing != 0 {
         return Answer::Refused(failing);
     }
-    let mut plan = [0usize; Plan::TABLE_SIZE];
-    work::make_plan(question, begun, &offsets, &mut plan);
     let mut selected = [0u8; Line::SIZE];
     let mut probed = [0u8; MarkTable::PROBES];
-    work::work(
+    run_rows::work_run(
         catalogue,
         question,
         order,
         begun,
-        &plan,
+        &offsets,
         &ancestors,
         &mut selected,
         &mut probed,
     );
-    finish::finish(&selected, &probed, n, size, listed, looks, tally)
+    finish::finish(
+        &selected,
+        &probed,
+        n,
+        size,
+        reader as usize,
+        listed,
+        looks,
+        tally,
+    )
 }

@@ -1,4 +1,4 @@
-// Running a question in a given order.
+// Running a question in a given order, for a reader.
 ghost use mathlib.Core.Path.{_≡_};
 ghost use Rattle.demands.specs.Run.{lent, ran, runOf};
 
@@ -7,11 +7,12 @@ pub extern "C" fn searchroom_run(
     catalogue: &[u8],
     question: &[u8],
     order: &[u8],
+    reader: u64,
     listed: &mut [u8],
     looks: &mut [u8],
     tally: &mut [u8],
 ) -> u64
-    ensures { λ r. ⌜ ran r (now (listed .exit)) (now (looks .exit)) (now (tally .exit)) ≡ runOf (lent (now (catalogue .entry)) (now (question .entry)) (now (order .entry)) (now (listed .entry)) (now (looks .entry)) (now (tally .entry))) ⌝ }
+    ensures { λ r. ⌜ ran r (now (listed .exit)) (now (looks .exit)) (now (tally .exit)) ≡ runOf (lent (now (catalogue .entry)) (now (question .entry)) (now (order .entry)) reader (now (listed .entry)) (now (looks .entry)) (now (tally .entry))) ⌝ }
 {
-    answers::word::pack(run::run_question(catalogue, question, order, listed, looks, tally))
+    answers::word::pack(run::run_question(catalogue, question, order, reader, listed, looks, tally))
 }

@@ -16,10 +16,10 @@ use Rattle.layout.specs.Layout.{Laid, LaidOut}
 use Rattle.predicate.specs.Payload.{tagsOf}
 use Rattle.query.specs.Query.{Query}
 use Rattle.query.specs.Decode.{decodeTagged, decodeQuery}
-use Rattle.reader.specs.declared.whole.Reading.{Reading}
-use Rattle.reader.specs.declared.whole.Reading.the-variants as reading
-use Rattle.reader.specs.Tables.{Tables}
-use Rattle.reader.specs.QueryRead.{QueryRead}
+use Rattle.reading.specs.declared.whole.Reading.{Reading}
+use Rattle.reading.specs.declared.whole.Reading.the-variants as reading
+use Rattle.reading.specs.Tables.{Tables}
+use Rattle.reading.specs.QueryRead.{QueryRead}
 use Rattle.syntax.specs.Machine.{typedLimit, Typed, misspelled, typed, questionOf}
 use Rattle.parser.specs.Reading.{QuestionTo}
 use Rattle.input.proofs.Inputs.{laid-tags}

@@ -5,7 +5,7 @@ use answers::word::Answer;
 use parser::whole::Question;
 use parser::whole::TypedText;
 use query::format::Predicate;
-use reader::whole::Reading;
+use reading::whole::Reading;
 ghost use Prim.Native.Nat.{_^_, _<_};
 ghost use lib.ListN.{length};
 ghost use mathlib.Core.Path.{_≡_};
@@ -21,7 +21,7 @@ fn give_question(tags: &[u8], question: &[u8], output: &mut [u8]) -> Answer
 {
     let mut offsets = [0usize; Predicate::LIMIT];
     let mut ancestors = [0u8; Ancestors::TABLE_SIZE];
-    match reader::whole::read_query(tags, question, &mut offsets, &mut ancestors) {
+    match reading::whole::read_query(tags, question, &mut offsets, &mut ancestors) {
         Reading::Refused(e) => Answer::Refused(e),
         Reading::Accepted { n: _ } => {
             if output.len() < question.len() {

@@ -7,7 +7,7 @@ use lib.ListN.{length}
 use Rattle.strategy.specs.Order.{isOrder}
 use Rattle.sets.specs.Set.{belowSet}
 use Rattle.records.specs.Table.{recordAt}
-use Rattle.reader.specs.Tables.{Tables}
+use Rattle.reading.specs.Tables.{Tables}
 use Rattle.plan.specs.Plan.{planSize, Planned}
 use Rattle.rows.specs.declared.all.Extent.{Extent}
 use Rattle.rows.specs.Ready.{slices, Ready}

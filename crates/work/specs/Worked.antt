@@ -5,7 +5,7 @@ use mathlib.Core.List.{List}
 use lib.ListN.{length}
 use Rattle.fields.specs.Decoded.{accepted}
 use Rattle.records.specs.Table.{recordAt}
-use Rattle.reader.specs.Tables.{tables}
+use Rattle.reading.specs.Tables.{tables}
 use Rattle.plan.specs.Plan.{planSize, Planned}
 use Rattle.rows.specs.Worked.{Worked}
 use Rattle.input.specs.declared.begin.Beginning.{Beginning}

@@ -30,15 +30,15 @@ third-in-requires : tie.Need-third-in-requires
 third-in-requires c κs = tt
 
 slice-aggregate-write-register : tie.Need-slice-aggregate-write-register
-slice-aggregate-write-register c = sym (c .before .before .before .before .before .before .before .before .searchroom-run .kept .1 .1 .1 .0)
+slice-aggregate-write-register c = sym (c .before .before .before .before .before .before .before .before .searchroom-run .kept .1 .1 .1 .1 .0)
 
 slice-aggregate-write-register-2 : tie.Need-slice-aggregate-write-register-2
-slice-aggregate-write-register-2 c = sym (c .before .before .before .before .before .before .before .before .before .searchroom-run .kept .1 .1 .1 .1 .0)
+slice-aggregate-write-register-2 c = sym (c .before .before .before .before .before .before .before .before .before .searchroom-run .kept .1 .1 .1 .1 .1 .0)
 
 write-register-requires : tie.Need-write-register-requires
 write-register-requires c κs =
     let l = c .before .before .before .before .before .before in
-    let run = l .before .before .before .before .searchroom-run .kept in
+    let run = l .before .before .before .before .searchroom-run .kept .1 in
     let s = c .before .before .before .before .before .before .before .before .before .before .before .before .before .before .before .before .before .before in
     has-room _ _ _ _ _ (laid-few _ _ (decodeCatalogue (s .args .catalogue .now)) (l .lay-out .ensures)) (s .pre .0) (as-long (run .1 .1 .1 .0)) (as-long (run .1 .1 .1 .1 .0)) (s .pre .1)
 

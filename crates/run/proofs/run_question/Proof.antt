@@ -4,7 +4,7 @@ use mathlib.Core.Path.{refl, sym}
 use lib.ListN.{length}
 use Rattle.bitmaps.specs.TableLaws.{holds-none}
 use Rattle.marks.proofs.Marking.{empty-marks}
-use Rattle.request.proofs.Request.{request-order, request-room}
+use Rattle.request.proofs.Request.{request-order, request-room, request-reader}
 use Rattle.run.proofs.Running.{run-refused, rows-room, size-short, run-declined, run-finished}
 use borrow.Author.Needs.{needs}
 use Rattle.run.proofs.run_question.Statement.{statement}
@@ -33,70 +33,63 @@ check-request-requires c κs =
 returns-2 : tie.Need-returns-2
 returns-2 c =
     let G = c .before .before .before .before .before .before .begin .ensures .accepts (c .before .before .before .if1 .left) in
-    (run-declined G _ _ _ _ _ (c .before .before .bytes-for .ensures) _ (c .before .check-request .ensures) (c .if2 .taken), omega arith)
+    (run-declined G _ _ _ _ _ _ (c .before .before .bytes-for .ensures) _ (c .before .check-request .ensures) (c .if2 .taken), omega arith)
 
-slice-aggregate-make-plan : tie.Need-slice-aggregate-make-plan
-slice-aggregate-make-plan c = search needs
+slice-aggregate-work-run : tie.Need-slice-aggregate-work-run
+slice-aggregate-work-run c = search needs
 
-slice-aggregate-make-plan-2 : tie.Need-slice-aggregate-make-plan-2
-slice-aggregate-make-plan-2 c = refl
+slice-aggregate-work-run-2 : tie.Need-slice-aggregate-work-run-2
+slice-aggregate-work-run-2 c = search needs
 
-make-plan-requires : tie.Need-make-plan-requires
-make-plan-requires c κs =
-    let a = c .before .before in
-    ((_, (_, a .before .before .before .before .before .before .begin .ensures .accepts (a .before .before .before .if1 .left))), refl)
+slice-aggregate-work-run-3 : tie.Need-slice-aggregate-work-run-3
+slice-aggregate-work-run-3 c = refl
 
-slice-aggregate-work : tie.Need-slice-aggregate-work
-slice-aggregate-work c = search needs
+slice-aggregate-work-run-4 : tie.Need-slice-aggregate-work-run-4
+slice-aggregate-work-run-4 c = refl
 
-slice-aggregate-work-2 : tie.Need-slice-aggregate-work-2
-slice-aggregate-work-2 c = search needs
-
-slice-aggregate-work-3 : tie.Need-slice-aggregate-work-3
-slice-aggregate-work-3 c = refl
-
-slice-aggregate-work-4 : tie.Need-slice-aggregate-work-4
-slice-aggregate-work-4 c = refl
-
-work-requires : tie.Need-work-requires
-work-requires c κs =
-    let a = c .before .before .before .before .before .before .before .before in
+work-run-requires : tie.Need-work-run-requires
+work-run-requires c κs =
+    let a = c .before .before .before .before in
     let x = a .before .before .before .before .before .before .before .before .before .before .before .before .before .before .before .args in
     let G = a .before .before .before .before .before .before .begin .ensures .accepts (a .before .before .before .if1 .left) in
-    let order = request-order _ (a .before .before .bytes-for .result) (x .order .now) (length (x .listed .now)) (length (x .looks .now)) _ (a .before .check-request .ensures) (a .if2 .left) in
-    ((c .before .before .before .before .before .make-plan .ensures _ _ G, order), (holds-none 1, empty-marks 64 (omega arith) (omega arith)))
+    let order = request-order _ (a .before .before .bytes-for .result) (x .order .now) (x .reader) (length (x .listed .now)) (length (x .looks .now)) _ (a .before .check-request .ensures) (a .if2 .left) in
+    ((G, order), (holds-none 1, empty-marks 64 (omega arith) (omega arith)))
 
 slice-aggregate-finish : tie.Need-slice-aggregate-finish
-slice-aggregate-finish c = sym (c .before .before .before .work .kept .1 .1 .1 .1 .1 .1 .0)
+slice-aggregate-finish c = sym (c .before .before .before .work-run .kept .1 .1 .1 .1 .1 .1 .0)
 
 slice-aggregate-finish-2 : tie.Need-slice-aggregate-finish-2
-slice-aggregate-finish-2 c = sym (c .before .before .before .before .work .kept .1 .1 .1 .1 .1 .1 .1 .0)
+slice-aggregate-finish-2 c = sym (c .before .before .before .before .work-run .kept .1 .1 .1 .1 .1 .1 .1 .0)
 
 finish-requires : tie.Need-finish-requires
 finish-requires c κs =
-    let a = c .before .before .before .before .before .before .before .before .before .before .before .before .before .before .before .before in
+    let a = c .before .before .before .before .before .before .before .before .before .before .before .before in
     let x = a .before .before .before .before .before .before .before .before .before .before .before .before .before .before .before .args in
     let G = a .before .before .before .before .before .before .begin .ensures .accepts (a .before .before .before .if1 .left) in
-    let W = c .before .before .before .before .before .before .before .work .ensures (G .input) (G .decoded) in (
-      (W .selected-size, c .before .before .before .before .before .before .before .work .kept .1 .1 .1 .1 .1 .1 .1 .0, G .tabled .few, size-short G (a .before .before .bytes-for .ensures)),
-      request-room _ _ (x .order .now) _ _ _ (a .before .check-request .ensures) (a .if2 .left),
+    let size = a .before .before .bytes-for .result in
+    let W = c .before .before .before .before .before .before .before .work-run .ensures (G .input) (G .decoded) in (
+      (W .selected-size, c .before .before .before .before .before .before .before .work-run .kept .1 .1 .1 .1 .1 .1 .1 .0, G .tabled .few, size-short G (a .before .before .bytes-for .ensures)),
+      (
+        request-room _ size (x .order .now) (x .reader) (length (x .listed .now)) (length (x .looks .now)) _ (a .before .check-request .ensures) (a .if2 .left),
+        request-reader _ size (x .order .now) (x .reader) (length (x .listed .now)) (length (x .looks .now)) _ (a .before .check-request .ensures) (a .if2 .left),
+      ),
     )
 
 same-length : tie.Need-same-length
-same-length c = c .before .before .before .before .before .before .finish .kept .1 .1 .1 .1 .0
+same-length c = c .before .before .before .before .before .before .finish .kept .1 .1 .1 .1 .1 .0
 
 same-length-2 : tie.Need-same-length-2
-same-length-2 c = c .before .before .before .before .before .before .finish .kept .1 .1 .1 .1 .1 .0
+same-length-2 c = c .before .before .before .before .before .before .finish .kept .1 .1 .1 .1 .1 .1 .0
 
 same-length-3 : tie.Need-same-length-3
-same-length-3 c = c .before .before .before .before .before .before .finish .kept .1 .1 .1 .1 .1 .1 .0
+same-length-3 c = c .before .before .before .before .before .before .finish .kept .1 .1 .1 .1 .1 .1 .1 .0
 
 returns-3 : tie.Need-returns-3
 returns-3 c =
-    let a = c .before .before .before .before .before .before .before .before .before .before .before .before .before .before .before .before .before .before .before .before .before .before .before in
+    let a = c .before .before .before .before .before .before .before .before .before .before .before .before .before .before .before .before .before .before .before in
     let G = a .before .before .before .before .before .before .begin .ensures .accepts (a .before .before .before .if1 .left) in
     let end = c .before .before .before .before .before .before .finish .ensures in
-    (run-finished G _ _ _ _ _ (a .before .before .bytes-for .ensures) _ (a .before .check-request .ensures) (a .if2 .left) (c .before .before .before .before .before .before .before .before .before .before .before .before .before .before .work .ensures) (end .0), end .1)
+    (run-finished G _ _ _ _ _ _ (a .before .before .bytes-for .ensures) _ (a .before .check-request .ensures) (a .if2 .left) (c .before .before .before .before .before .before .before .before .before .before .before .before .before .before .work-run .ensures) (end .0), end .1)
 
 pub run-question-spec : {M : Type 1} → statement M
 run-question-spec =
@@ -109,14 +102,11 @@ run-question-spec =
     bytes-for-requires
     check-request-requires
     returns-2
-    slice-aggregate-make-plan
-    slice-aggregate-make-plan-2
-    make-plan-requires
-    slice-aggregate-work
-    slice-aggregate-work-2
-    slice-aggregate-work-3
-    slice-aggregate-work-4
-    work-requires
+    slice-aggregate-work-run
+    slice-aggregate-work-run-2
+    slice-aggregate-work-run-3
+    slice-aggregate-work-run-4
+    work-run-requires
     slice-aggregate-finish
     slice-aggregate-finish-2
     finish-requires

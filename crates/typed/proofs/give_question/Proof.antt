@@ -1,4 +1,4 @@
--- `give_question` meets its contract: the reader refuses, the output is too short, or the bytes go out.
+-- `give_question` meets its contract: the reading refuses, the output is too short, or the bytes go out.
 use native.Mathlib.Omega.{arith}
 use Rattle.query.specs.Decode.{decodeTagged}
 use Rattle.typed.proofs.Typing.{question-refused, question-no-room, question-written}

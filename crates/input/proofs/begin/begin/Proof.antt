@@ -1,4 +1,4 @@
--- `begin` meets its contract: by the layout and the reader, the first check that fails, or all in hand.
+-- `begin` meets its contract: by the layout and the reading, the first check that fails, or all in hand.
 use native.Mathlib.Omega.{arith}
 use mathlib.Core.Path.{refl, sym, _∙_}
 use Rattle.catalogue.specs.Decode.{decodeCatalogue}

@@ -1,4 +1,4 @@
--- The contracts of the reader: its answer and its tables are those of the reading.
+-- The contracts of the two that read: answer and tables are those of the reading.
 use Prim.Native.Nat.{ℕ, _+_, _-_, _*_, _≤_, _<_}
 use mathlib.Core.Path.{_≡_}
 use mathlib.Core.List.{List, _++_}
@@ -8,13 +8,13 @@ use Rattle.fields.specs.Header.{headerSize}
 use Rattle.strategy.specs.Tree.{Tree, Forest, InSpan}
 use Rattle.strategy.specs.Propagation.{Ancestor, enclosing, enclosingIn}
 use Rattle.predicate.specs.Meaning.{Predicate}
-use Rattle.reader.specs.declared.member.Progress.{Progress}
-use Rattle.reader.specs.declared.member.Progress.the-variants.{Refused, Next}
+use Rattle.reading.specs.declared.member.Progress.{Progress}
+use Rattle.reading.specs.declared.member.Progress.the-variants.{Refused, Next}
 use Rattle.query.specs.Format.{predicateLimit, depthLimit}
 use Rattle.query.specs.Decode.{Read, member, members}
 use Rattle.records.specs.Offsets.{HasPayload, HasFields}
 use Rattle.records.specs.Table.{predicatesAt}
-use Rattle.reader.specs.Tables.{Tables}
+use Rattle.reading.specs.Tables.{Tables}
 use Rattle.ancestors.specs.Ancestors.{ancestorsSize, ancestorsOf, Low, Under, SameHeights, Spans}
 use Rattle.query.specs.Sound.{IsRefusal}
 
@@ -59,7 +59,7 @@ abbrev pub MembersReported : (tags q : List ℕ) → (at end depth n : ℕ) → 
 MembersReported tags q at end depth n r T T′ =
     (f : ℕ) → 2 * (end - at) + 1 < f → Reported {A = Forest ℕ} q enclosingIn n (members f tags q at end depth (predicatesAt q (T .offsets) n)) r T T′
 
--- the contract of the member reader, and of the group reader
+-- the contract of `read_member`, and of `read_group`
 pub record MemberRead (tags q : List ℕ) (at end depth n : ℕ) (r : Progress) (T T′ : Tables) : Type 0 where
   pub within : StaysWithin (at + headerSize) end depth n q r T T′
   pub exact : MemberReported tags q at end depth n r T T′

@@ -1,4 +1,4 @@
--- The whole query: the reader's answer and tables are handed on as `decodeTagged` says.
+-- The whole query: the reading's answer and tables are handed on as `decodeTagged` says.
 use Prim.Native.Nat.{ℕ, _+_, _-_, _*_, _≤_, _<_}
 use native.Mathlib.Omega.{arith}
 use mathlib.Core.Path.{_≡_, refl, ap, subst}
@@ -15,14 +15,14 @@ use Rattle.predicate.specs.Meaning.{Predicate}
 use Rattle.predicate.specs.Payload.{kindFits}
 use Rattle.bools.specs.Bools.{and-left}
 use Rattle.predicate.proofs.PayloadLaws.{valid-payload}
-use Rattle.reader.specs.declared.member.Progress.the-variants as progress
-use Rattle.reader.specs.declared.whole.Reading.the-variants.{Refused, Accepted}
+use Rattle.reading.specs.declared.member.Progress.the-variants as progress
+use Rattle.reading.specs.declared.whole.Reading.the-variants.{Refused, Accepted}
 use Rattle.query.specs.Format.{bytesAfterQuery}
 use Rattle.query.specs.Decode.{payloadOf, Read, member, wholeQuery, decodeTagged}
 use Rattle.records.specs.Table.{recordAt, predicateIn, predicatesAt}
-use Rattle.reader.specs.Tables.{Tables, HasTables}
-use Rattle.reader.specs.Reader.{Reported, MemberRead}
-use Rattle.reader.specs.QueryRead.{Recorded, QueryRead}
+use Rattle.reading.specs.Tables.{Tables, HasTables}
+use Rattle.reading.specs.Reading.{Reported, MemberRead}
+use Rattle.reading.specs.QueryRead.{Recorded, QueryRead}
 use Rattle.query.proofs.Readings.{Fits, Each, SoundTree, member-sound}
 use Rattle.query.proofs.Accepted.{each-at}
 use Rattle.records.proofs.Records.{predicates-length, predicates-at}

@@ -8,14 +8,14 @@ use Rattle.fields.specs.Decoded.{Decoded, refused, accepted}
 use Rattle.strategy.specs.Tree.{size, Numbered, NonEmpty}
 use Rattle.strategy.specs.Propagation.{enclosing}
 use Rattle.predicate.specs.Payload.{validPayload}
-use Rattle.reader.specs.declared.whole.Reading.{Reading}
-use Rattle.reader.specs.declared.whole.Reading.the-variants.{Refused, Accepted}
+use Rattle.reading.specs.declared.whole.Reading.{Reading}
+use Rattle.reading.specs.declared.whole.Reading.the-variants.{Refused, Accepted}
 use Rattle.query.specs.Format.{predicateLimit}
 use Rattle.query.specs.Query.{Query}
 use Rattle.query.specs.Decode.{payloadOf}
 use Rattle.records.specs.Offsets.{HasFields}
 use Rattle.records.specs.Table.{recordAt, predicateIn, predicatesAt}
-use Rattle.reader.specs.Tables.{Tables, HasTables}
+use Rattle.reading.specs.Tables.{Tables, HasTables}
 use Rattle.ancestors.specs.Ancestors.{ancestorsOf, Low, Spans}
 use Rattle.query.specs.Sound.{IsRefusal}
 

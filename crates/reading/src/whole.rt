@@ -1,10 +1,10 @@
-// A whole query read into the reader's tables.
+// A whole query read into the tables of the reading.
 use crate::member::Progress;
 use query::format::Group;
 use query::format::Refusal;
 ghost use Rattle.query.specs.Decode.{decodeTagged};
-ghost use Rattle.reader.specs.Tables.{tables, HasTables};
-ghost use Rattle.reader.specs.QueryRead.{QueryRead};
+ghost use Rattle.reading.specs.Tables.{tables, HasTables};
+ghost use Rattle.reading.specs.QueryRead.{QueryRead};
 
 pub enum Reading {
     Refused(u8),

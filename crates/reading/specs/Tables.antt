@@ -1,4 +1,4 @@
--- The reader's tables.
+-- The tables of a reading.
 use Prim.Native.Nat.{ℕ}
 use mathlib.Core.Path.{_≡_}
 use mathlib.Core.List.{List}

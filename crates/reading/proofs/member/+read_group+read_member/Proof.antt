@@ -1,24 +1,24 @@
--- The group reader and the member reader meet their contracts: the bytes left fall from call to call, and each path is a law of a reading.
+-- `read_group` and `read_member` meet their contracts: the bytes left fall from call to call, and each path is a law of a reading.
 use borrow.Author.Needs.{needs}
 use native.Mathlib.Omega.{arith}
 use Prim.Native.Nat.{ℕ, _+_, _-_, _*_, _<_}
 use mathlib.Core.Path.{refl}
 use denote.Ref.{now}
 use Rattle.query.specs.Format.{depthOf}
-use Rattle.reader.specs.Tables.{tables}
-use Rattle.reader.proofs.Progress.{deeper-by-one, InGroup, in-group-none, in-group-end, in-group-refused, in-group-more, member-refused, member-leaf, leaf-within, member-group-refused, member-group, group-within}
+use Rattle.reading.specs.Tables.{tables}
+use Rattle.reading.proofs.Progress.{deeper-by-one, InGroup, in-group-none, in-group-end, in-group-refused, in-group-more, member-refused, member-leaf, leaf-within, member-group-refused, member-group, group-within}
 use borrow.Fn.Kinds.{In}
 use borrow.Fn.PlainCycle.{Measures, is, falls, and}
-use Rattle.reader.proofs.member.read_group.Reads as read-group
-use Rattle.reader.proofs.member.read_group.Kinds as read-group-kinds
-use Rattle.reader.proofs.member.+read_group+read_member.Lts-read_group as read-group-lts
-use Rattle.reader.proofs.member.read_member.Reads as read-member
-use Rattle.reader.proofs.member.read_member.Kinds as read-member-kinds
-use Rattle.reader.proofs.member.+read_group+read_member.Lts-read_member as read-member-lts
+use Rattle.reading.proofs.member.read_group.Reads as read-group
+use Rattle.reading.proofs.member.read_group.Kinds as read-group-kinds
+use Rattle.reading.proofs.member.+read_group+read_member.Lts-read_group as read-group-lts
+use Rattle.reading.proofs.member.read_member.Reads as read-member
+use Rattle.reading.proofs.member.read_member.Kinds as read-member-kinds
+use Rattle.reading.proofs.member.+read_group+read_member.Lts-read_member as read-member-lts
 use Rattle.ancestors.proofs.close_group.Reads as close-group-reads
 use Rattle.members.proofs.field.read_field.Reads as read-field-reads
-use Rattle.reader.proofs.member.+read_group+read_member.{statement}
-use Rattle.reader.proofs.member.+read_group+read_member.Tie.{close}
+use Rattle.reading.proofs.member.+read_group+read_member.{statement}
+use Rattle.reading.proofs.member.+read_group+read_member.Tie.{close}
 
 abbrev μ-read-group : Measures 4 read-group-kinds.ps ℕ
 μ-read-group κs a = 2 * (a .1 .1 .1 .0 - a .1 .1 .0) + 1
@@ -42,7 +42,7 @@ abbrev read-member-below : ℕ → In 4 read-member-kinds.ps
 read-member-below t =
     and 4 read-member-kinds.ps (falls 4 read-member-kinds.ps _<_ μ-read-member t) read-member.Pre
 
--- what each reader may rely on of those that it calls: of the other reader only where the measure falls
+-- what each may rely on of those that it calls: of the other only where the measure falls
 abbrev group-claims : ℕ → read-group-lts.Claims
 group-claims t = (read-member-below t, read-member.Post)
 

@@ -1,11 +1,11 @@
 -- `read_query` meets its contract: the reading begins with the whole query and no predicates, and is handed on by its cases.
 use native.Mathlib.Omega.{arith}
 use denote.Ref.{now}
-use Rattle.reader.specs.Tables.{tables}
-use Rattle.reader.proofs.WholeQuery.{whole-refused, whole-left, whole-accepted}
+use Rattle.reading.specs.Tables.{tables}
+use Rattle.reading.proofs.WholeQuery.{whole-refused, whole-left, whole-accepted}
 use borrow.Author.Needs.{needs}
-use Rattle.reader.proofs.whole.read_query.Statement.{statement}
-use Rattle.reader.proofs.whole.read_query.Tie as tie
+use Rattle.reading.proofs.whole.read_query.Statement.{statement}
+use Rattle.reading.proofs.whole.read_query.Tie as tie
 
 read-member-requires : tie.Need-read-member-requires
 read-member-requires c κs = search needs

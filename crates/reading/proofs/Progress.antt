@@ -1,4 +1,4 @@
--- How a reading goes on from what the parts of the reader answer: a law for each path of the code.
+-- How a reading goes on from what its parts answer: a law for each path of the code.
 use Prim.Native.Nat.{ℕ, zero, suc, _+_, _-_, _*_, _≤_, _<_}
 use native.Mathlib.Nat.{add-assoc, add-zero}
 use native.Mathlib.Omega.{arith}
@@ -18,15 +18,15 @@ use Rattle.predicate.specs.Meaning.{Predicate}
 use Rattle.predicate.specs.Payload.{predicateOf, payloadHead}
 use Rattle.query.specs.declared.member.MemberField.{MemberField}
 use Rattle.query.specs.declared.member.MemberField.the-variants as field
-use Rattle.reader.specs.declared.member.Progress.{Progress}
-use Rattle.reader.specs.declared.member.Progress.the-variants.{Refused, Next}
+use Rattle.reading.specs.declared.member.Progress.{Progress}
+use Rattle.reading.specs.declared.member.Progress.the-variants.{Refused, Next}
 use Rattle.query.specs.Format.{predicateLimit, depthLimit, depthOf}
 use Rattle.query.specs.Decode.{payloadAt, memberField, Read, settlingOf, asGroup, memberBefore, memberThen, member, members}
 use Rattle.records.specs.Offsets.{HasPayload}
 use Rattle.records.specs.Table.{predicatesAt}
-use Rattle.reader.specs.Tables.{Tables, tables}
+use Rattle.reading.specs.Tables.{Tables, tables}
 use Rattle.ancestors.specs.Ancestors.{ancestorsWidth, ancestorsSize, heightAt, ancestorOver, ancestorsOf, Low, Under, SameHeights, Spans, Closed}
-use Rattle.reader.specs.Reader.{AncestorsGained, Reported, MemberReported, MembersReported, MemberRead, MembersRead, StaysWithin, Readable}
+use Rattle.reading.specs.Reading.{AncestorsGained, Reported, MemberReported, MembersReported, MemberRead, MembersRead, StaysWithin, Readable}
 use Rattle.records.proofs.Records.{predicates-put, payload-put, record-shows}
 use Rattle.ancestors.proofs.AncestorLaws.{fresh-height, fresh-kept, fresh-none, fresh-old, fresh-low, fresh-spans}
 use Rattle.query.proofs.Readings.{SoundTree, SoundForest, member-sound, members-sound}
@@ -112,7 +112,7 @@ module _ (q : List ℕ) (n : ℕ) (T T1 T2 : Tables) where
         ancestors = gained-group n (length ps) tag f T T1 T2 (s .counted) (h .ancestors) (rw y at C);
       }
 
--- the paths of the group reader
+-- the paths of `read_group`
 
 module _ (tags q : List ℕ) (at end depth n : ℕ) (T T1 : Tables) where
   pub members-end : at ≡ end → MembersReported tags q at end depth n (Next at n) T T
@@ -135,7 +135,7 @@ module _ (tags q : List ℕ) (at end depth n : ℕ) (T T1 : Tables) where
       simp tests (then-reported q n T T1 T2 tags at end (length (predicatesAt q (T .offsets) n)) (member k tags q at end depth (predicatesAt q (T .offsets) n)) p m r
       (λ earlier next. members k tags q next end depth earlier) (member-sound k tags q at end depth (predicatesAt q (T .offsets) n)) (h k (omega arith)) (g k (omega arith)))
 
-  -- the paths of the member reader
+  -- the paths of `read_member`
 
   module _ (f : MemberField) (f-is : f ≡ memberField tags q depth (predicatesAt q (T .offsets) n) (headerAt q at end)) where
     pub member-refused : (e : ℕ) → f ≡ field.Refused e → MemberReported tags q at end depth n (Refused e) T T1

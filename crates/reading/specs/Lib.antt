@@ -1,3 +1,3 @@
 pub mod Tables
-pub mod Reader
+pub mod Reading
 pub mod QueryRead

@@ -1,9 +1,9 @@
-// The reader of a query: a group holds members, and a member may be a group again.
+// The reading of a query: a group holds members, and a member may be a group again.
 use ancestors::Ancestors;
 use query::member::MemberField;
 ghost use Rattle.query.specs.Format.{depthOf};
-ghost use Rattle.reader.specs.Tables.{tables};
-ghost use Rattle.reader.specs.Reader.{Readable, MemberRead, MembersRead};
+ghost use Rattle.reading.specs.Tables.{tables};
+ghost use Rattle.reading.specs.Reading.{Readable, MemberRead, MembersRead};
 
 // A refusal, or the place after what was read and the number of predicates up to there.
 pub enum Progress {

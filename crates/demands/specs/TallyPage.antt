@@ -1,0 +1,34 @@
+-- A TALLY FOR EACH READER (order 7): what a sequence of runs leaves; proofs/TallyPage.antt proves each statement of this page. What one run does to the
+-- tally stands on the demands page (`Demand2Tally`, `Demand2OtherReaders`, `Demand1Refused`); words as there.
+use Prim.Native.Nat.{ℕ, _+_, _/_, _%_, _^_, _≤_}
+use mathlib.Core.Path.{_≡_}
+use mathlib.Core.Bool.{_&&_, cond}
+use mathlib.Core.List.{List, [], _∷_}
+use lib.ListN.{length, replicate}
+use lib.Dec.{eqb}
+use Rattle.demands.specs.Run.{Lent, counterAt}
+use Rattle.demands.specs.Demands.{InBytes, after, IsReader}
+
+-- "any sequence of runs, each lent the tally as the last left it": the first is lent this tally, and this is what the last leaves. Nothing else is asked
+-- of a run: catalogues, questions, orders, readers and tables may differ from run to run, and be such that it is refused
+abbrev pub Through : (tally : List ℕ) → (runs : List Lent) → (left : List ℕ) → Type 0
+Through tally [] left = left ≡ tally
+Through tally (l ∷ ls) left = InBytes (l .request) × (l .tally ≡ tally) × Through (after l .tally) ls left
+
+-- "the look counts of that reader's accepted runs": a run's look count if it is this reader's and accepted, else 0
+abbrev pub looksBy : (reader : ℕ) → Lent → ℕ
+looksBy reader l = cond (eqb (l .reader) reader && eqb (after l .word % 2 ^ 8) 0) (after l .word / 2 ^ 40) 0
+
+-- and their sum
+abbrev pub sumBy : (reader : ℕ) → List Lent → ℕ
+sumBy reader [] = 0
+sumBy reader (l ∷ ls) = looksBy reader l + sumBy reader ls
+
+-- "From zeros, over any sequence of runs, each lent the tally as the last left it, every number is the sum of the look counts of that reader's accepted
+-- runs."
+abbrev pub TallySums : Type 0
+TallySums = (runs : List Lent) (left : List ℕ) → Through (replicate 128 0) runs left → (length left ≡ 128) × ((r : ℕ) → IsReader r → counterAt left r ≡ sumBy r runs)
+
+-- and from any tally at all every number grows by that sum
+abbrev pub TallyGrows : Type 0
+TallyGrows = (tally : List ℕ) (runs : List Lent) (left : List ℕ) → Through tally runs left → (r : ℕ) → counterAt left r ≡ counterAt tally r + sumBy r runs

@@ -1,3 +1,0 @@
-// The reader of a query: its members, each with those of its own, and the whole.
-pub mod member;
-pub mod whole;
