@@ -33,7 +33,7 @@
 #include <stdint.h>
 
 /* The release; the pkg-config file has the same. */
-#define SEARCHROOM_VERSION "0.6.0"
+#define SEARCHROOM_VERSION "0.7.0"
 
 #ifdef __cplusplus
 extern "C" {
@@ -50,7 +50,8 @@ enum {
     SEARCHROOM_MAX_DEPTH = 8,            /* groups inside each other, the outermost being 1 */
     SEARCHROOM_LISTED_BYTES = 256,       /* the most bytes that a run writes to the listed table */
     SEARCHROOM_LOOKS_BYTES = 16384,      /* the most bytes that a run writes to the looks table */
-    SEARCHROOM_TALLY_BYTES = 8,          /* bytes of the house tally */
+    SEARCHROOM_READERS = 16,             /* readers, 0 to 15 */
+    SEARCHROOM_TALLY_BYTES = 128,        /* bytes of the tally, eight for each reader */
     SEARCHROOM_COPY_FIELD_BYTES = 7,     /* bytes that a copy writes for each look */
     SEARCHROOM_COPY_BYTES = 917504,      /* the most bytes that a copy writes to its output */
     SEARCHROOM_MAX_TYPED = 16384,        /* bytes of a typed question */
@@ -101,7 +102,7 @@ enum {
     SEARCHROOM_BAD_ORDER = 15,
     /* Run: the listed table or the looks table is too short. */
     SEARCHROOM_SHORT_TABLE = 16,
-    /* Run: the tally is not eight bytes, or the sum would pass 2^64 - 1. */
+    /* Run: the tally is not 128 bytes, or the sum would pass 2^64 - 1 for this reader. */
     SEARCHROOM_BAD_TALLY = 17,
     /* Outcome: no such entry or condition. */
     SEARCHROOM_NO_SUCH_PLACE = 18,
@@ -112,7 +113,9 @@ enum {
     /* Typed question: the output is too short for the question's bytes. */
     SEARCHROOM_SHORT_TYPED_OUTPUT = 22,
     /* Catalogue: the mark has a length that does not fit the number of entries, or a one bit after the last entry's. */
-    SEARCHROOM_BAD_MARK = 23
+    SEARCHROOM_BAD_MARK = 23,
+    /* Run: no such reader: the number is over 15. */
+    SEARCHROOM_NO_SUCH_READER = 24
 };
 
 /* The refusal's number in a packed word, SEARCHROOM_ACCEPTED where the call is accepted. */
@@ -144,12 +147,13 @@ static inline const char *searchroom_refusal_text(unsigned refusal)
     case SEARCHROOM_QUESTION_LEFT_OVER: return "bytes are left over after the question";
     case SEARCHROOM_BAD_ORDER: return "the order does not hold each condition number once and nothing else";
     case SEARCHROOM_SHORT_TABLE: return "a table is too short";
-    case SEARCHROOM_BAD_TALLY: return "the tally is not eight bytes, or the sum would pass 2^64 - 1";
+    case SEARCHROOM_BAD_TALLY: return "the tally is not 128 bytes, or the sum would pass 2^64 - 1 for this reader";
     case SEARCHROOM_NO_SUCH_PLACE: return "there is no such entry or condition";
     case SEARCHROOM_SHORT_OUTPUT: return "the output is too short for the copy";
     case SEARCHROOM_MISSPELLED: return "the typed question is over 16,384 bytes or misspelled";
     case SEARCHROOM_SHORT_TYPED_OUTPUT: return "the output is too short for the typed question's bytes";
     case SEARCHROOM_BAD_MARK: return "the mark of the catalogue has a wrong length or a stray bit";
+    case SEARCHROOM_NO_SUCH_READER: return "there is no such reader: readers are 0 to 15";
     default: return "unknown refusal";
     }
 }
@@ -230,7 +234,7 @@ uint64_t searchroom_outcome(const uint8_t *catalogue, size_t catalogue_len,
 static inline unsigned searchroom_answer(uint64_t word) { return searchroom_first(word); }
 
 /*
- * Runs a question over a catalogue in a running order.
+ * Runs a question over a catalogue in a running order, for a reader.
  *
  * A withdrawn entry is not listed, and no look is registered there. Every other entry is listed exactly if the question's tree
  * holds of it, blank taken as no. On each of these the conditions are taken in the running order, n bytes that hold each
@@ -239,26 +243,40 @@ static inline unsigned searchroom_answer(uint64_t word) { return searchroom_firs
  * its no giving the tree different values. Any way of working in the same order that is right whatever the pattern of outcomes
  * makes each of these looks, so none makes fewer.
  *
+ *     reader  the reader whose looks these are, 0 to 15; of an accepted run nothing but the tally depends on it
  *     listed  the listed table, at least one row of bits; its first row is written: the listed entries
  *     looks   the looks table, at least n rows; its first n rows are written, one for each condition in condition-number
  *             order: the entries at which a look at it is registered
- *     tally   the house tally, eight bytes, a number; the look count is added to it
+ *     tally   the tally, sixteen numbers of eight bytes, one for each reader (searchroom_tally_of); the look count is added
+ *             to this reader's, and every other byte of it stays as it is
  * Further bytes of listed and looks stay as they are. SEARCHROOM_LISTED_BYTES and SEARCHROOM_LOOKS_BYTES bytes are enough for
- * any run.
+ * any run. A tally starts as SEARCHROOM_TALLY_BYTES zeros. Lend it to each run as the last left it: every number is then the
+ * sum of the look counts of that reader's accepted runs.
  *
  * Results: first the found count, the number of listed entries (searchroom_found); third the look count, the number of
  * registered looks (searchroom_look_count).
- * Refusals: 1 to 14 and 23 as for searchroom_check_question; then 15, then 16, then 17. Nothing is then written.
+ * Refusals: 1 to 14 and 23 as for searchroom_check_question; then 15, then 16, then 24, the reader is over 15 (any 64-bit
+ * number may be given), then 17. Nothing is then written.
  */
 uint64_t searchroom_run(const uint8_t *catalogue, size_t catalogue_len,
                         const uint8_t *question, size_t question_len,
                         const uint8_t *order, size_t order_len,
+                        uint64_t reader,
                         uint8_t *listed, size_t listed_len,
                         uint8_t *looks, size_t looks_len,
                         uint8_t *tally, size_t tally_len);
 
 static inline unsigned searchroom_found(uint64_t word) { return searchroom_first(word); }
 static inline uint32_t searchroom_look_count(uint64_t word) { return searchroom_third(word); }
+
+/* The number of a reader, who must be one of 0 to 15, in a tally. */
+static inline uint64_t searchroom_tally_of(const uint8_t *tally, unsigned reader)
+{
+    uint64_t number = 0;
+    for (unsigned at = 8 * reader; at < 8 * reader + 8; at++)
+        number = number << 8 | tally[at];
+    return number;
+}
 
 /* The number of bytes of a row of bits for so many entries. */
 static inline size_t searchroom_row_bytes(unsigned entries) { return ((size_t)entries + 7) / 8; }

@@ -1,20 +1,27 @@
 /*
- * A small reading room: checks a catalogue and a question, runs the question, and prints the entries found, how often each
- * condition was looked at, and the steward's copy: every look with its outcome.
+ * A small reading room: checks a catalogue and a question, runs the question for a reader, and prints the entries found, how
+ * often each condition was looked at, the reader's tally, and the steward's copy: every look with its outcome.
  *
- *     reading_room FOLDER
+ *     reading_room FOLDER [READER]
  *
- * The folder holds catalogue.bin, question.bin and order.bin.
+ * The folder holds catalogue.bin, question.bin and order.bin. The reader is 0 to 15, 0 where none is named.
  */
+#include <inttypes.h>
 #include <searchroom.h>
 #include <stdio.h>
 #include <stdlib.h>
+#include <string.h>
 
 /* A file's bytes. */
 typedef struct {
     uint8_t *bytes;
     size_t len;
 } File;
+
+/* How much the catalogue and the question hold. */
+typedef struct {
+    unsigned entries, columns, present, conditions; /* present: not withdrawn */
+} Size;
 
 /* Reads a file of the folder; ends the program where it cannot be read. Of a catalogue it reads the most columns and the longest
    field behind them: a longer one is refused as the whole would be. */
@@ -72,26 +79,25 @@ static unsigned withdrawn(File catalogue, unsigned entries, unsigned columns)
 }
 
 /* Prints the number of entries and columns, and of withdrawn entries if there are any. */
-static void print_size(unsigned entries, unsigned columns, unsigned present)
+static void print_size(Size size)
 {
-    printf("%u entries in %u columns", entries, columns);
-    if (present < entries)
-        printf(", %u withdrawn", entries - present);
+    printf("%u entries in %u columns", size.entries, size.columns);
+    if (size.present < size.entries)
+        printf(", %u withdrawn", size.entries - size.present);
     printf("\n");
 }
 
 /* Prints the listed entries of a run, and at how many entries each condition was looked at. */
-static void print_run(uint64_t ran, unsigned entries, unsigned present, unsigned conditions,
-                      const uint8_t *listed, const uint8_t *looks)
+static void print_run(uint64_t ran, Size size, const uint8_t *listed, const uint8_t *looks)
 {
     printf("%u found:", searchroom_found(ran));
-    for (unsigned e = 0; e < entries; e++)
+    for (unsigned e = 0; e < size.entries; e++)
         if (searchroom_bit(listed, e))
             printf(" %u", e);
-    printf("\n%u looks instead of %u:\n", (unsigned)searchroom_look_count(ran), present * conditions);
-    size_t row = searchroom_row_bytes(entries);
-    for (unsigned c = 0; c < conditions; c++)
-        printf("  condition %u at %u entries\n", c, ones(looks + c * row, entries));
+    printf("\n%u looks instead of %u:\n", (unsigned)searchroom_look_count(ran), size.present * size.conditions);
+    size_t row = searchroom_row_bytes(size.entries);
+    for (unsigned c = 0; c < size.conditions; c++)
+        printf("  condition %u at %u entries\n", c, ones(looks + c * row, size.entries));
 }
 
 /* Prints the looks of a copy, a line for each entry. How the looks of one entry follow each other is left open, so they are
@@ -115,38 +121,60 @@ static void print_copy(const uint8_t *copy, size_t len)
     }
 }
 
+/* The reader that a word names: a number in decimal. Ends the program where it is none. A number over 2^64 - 1 becomes that one,
+   and the engine says that there is no such reader. */
+static uint64_t reader_named(const char *word)
+{
+    if (*word == '\0' || word[strspn(word, "0123456789")] != '\0') {
+        fprintf(stderr, "%s: the reader is a number\n", word);
+        exit(2);
+    }
+    return strtoull(word, NULL, 10);
+}
+
+/* Runs the question for the reader and prints what was found, and the reader's number in a tally that starts at zeros. */
+static void run(File catalogue, File question, File order, uint64_t reader, Size size)
+{
+    /* Tables that are long enough for any run. */
+    static uint8_t listed[SEARCHROOM_LISTED_BYTES], looks[SEARCHROOM_LOOKS_BYTES], tally[SEARCHROOM_TALLY_BYTES];
+    uint64_t ran = accepted("run", searchroom_run(catalogue.bytes, catalogue.len, question.bytes, question.len,
+                                                  order.bytes, order.len, reader, listed, sizeof listed,
+                                                  looks, sizeof looks, tally, sizeof tally));
+    print_run(ran, size, listed, looks);
+    printf("tally of reader %u: %" PRIu64 "\n", (unsigned)reader, searchroom_tally_of(tally, (unsigned)reader));
+}
+
+/* Makes the steward's copy of the same run and prints it. */
+static void copy(File catalogue, File question, File order)
+{
+    static uint8_t output[SEARCHROOM_COPY_BYTES];
+    uint64_t copied = accepted("copy", searchroom_copy(catalogue.bytes, catalogue.len, question.bytes, question.len,
+                                                       order.bytes, order.len, output, sizeof output));
+    printf("the steward's copy, %u bytes:\n", (unsigned)searchroom_written(copied));
+    print_copy(output, searchroom_written(copied));
+}
+
 int main(int argc, char **argv)
 {
-    if (argc != 2) {
-        fprintf(stderr, "usage: %s FOLDER\n", argv[0]);
+    if (argc != 2 && argc != 3) {
+        fprintf(stderr, "usage: %s FOLDER [READER]\n", argv[0]);
         return 2;
     }
+    uint64_t reader = argc == 3 ? reader_named(argv[2]) : 0;
     File catalogue = read_file(argv[1], "catalogue.bin");
     File question = read_file(argv[1], "question.bin");
     File order = read_file(argv[1], "order.bin");
 
-    uint64_t size = accepted("catalogue", searchroom_check_catalogue(catalogue.bytes, catalogue.len));
-    unsigned entries = searchroom_entries(size), columns = searchroom_columns(size);
-    unsigned present = entries - withdrawn(catalogue, entries, columns);
-    print_size(entries, columns, present);
+    uint64_t holds = accepted("catalogue", searchroom_check_catalogue(catalogue.bytes, catalogue.len));
+    Size size = {searchroom_entries(holds), searchroom_columns(holds), 0, 0};
+    size.present = size.entries - withdrawn(catalogue, size.entries, size.columns);
+    print_size(size);
+    uint64_t asks = accepted("question", searchroom_check_question(catalogue.bytes, catalogue.len,
+                                                                   question.bytes, question.len));
+    size.conditions = searchroom_conditions(asks);
 
-    uint64_t asked = accepted("question", searchroom_check_question(catalogue.bytes, catalogue.len,
-                                                                    question.bytes, question.len));
-    unsigned conditions = searchroom_conditions(asked);
-
-    /* Tables that are long enough for any run, and a tally that starts at zero. */
-    static uint8_t listed[SEARCHROOM_LISTED_BYTES], looks[SEARCHROOM_LOOKS_BYTES], tally[SEARCHROOM_TALLY_BYTES];
-    uint64_t ran = accepted("run", searchroom_run(catalogue.bytes, catalogue.len, question.bytes, question.len,
-                                                  order.bytes, order.len, listed, sizeof listed, looks, sizeof looks,
-                                                  tally, sizeof tally));
-    print_run(ran, entries, present, conditions, listed, looks);
-
-    static uint8_t copy[SEARCHROOM_COPY_BYTES];
-    uint64_t copied = accepted("copy", searchroom_copy(catalogue.bytes, catalogue.len, question.bytes, question.len,
-                                                       order.bytes, order.len, copy, sizeof copy));
-    printf("the steward's copy, %u bytes:\n", (unsigned)searchroom_written(copied));
-    print_copy(copy, searchroom_written(copied));
-
+    run(catalogue, question, order, reader, size);
+    copy(catalogue, question, order);
     free(catalogue.bytes);
     free(question.bytes);
     free(order.bytes);

@@ -117,8 +117,8 @@ static void expect_run(unsigned entries)
     size_t listed_len = row + FURTHER, looks_len = CONDITIONS * row + FURTHER;
     uint8_t *catalogue = lend(made, catalogue_len);
     uint8_t *listed = lend(filled, listed_len), *looks = lend(filled, looks_len);
-    uint8_t tally[8] = {0};
-    uint64_t word = searchroom_run(catalogue, catalogue_len, question, sizeof question, order, sizeof order, listed,
+    uint8_t tally[SEARCHROOM_TALLY_BYTES] = {0};
+    uint64_t word = searchroom_run(catalogue, catalogue_len, question, sizeof question, order, sizeof order, 1, listed,
                                    listed_len, looks, looks_len, tally, sizeof tally);
     EXPECT_EQ(searchroom_refusal(word), SEARCHROOM_ACCEPTED);
     unsigned found = 0, looked = 0;
@@ -130,7 +130,7 @@ static void expect_run(unsigned entries)
     }
     EXPECT_EQ(searchroom_found(word), found);
     EXPECT_EQ(searchroom_look_count(word), looked);
-    EXPECT_EQ(tally[6] * 256u + tally[7], looked);
+    EXPECT_EQ(searchroom_tally_of(tally, 1), looked);
     for (unsigned bit = entries; bit < 8 * row; bit++)
         EXPECT_EQ(searchroom_bit(listed, bit) + searchroom_bit(looks + 2 * row, bit), 0);
     EXPECT(are_all(FILL, listed + row, FURTHER) && are_all(FILL, looks + CONDITIONS * row, FURTHER));

@@ -81,7 +81,7 @@ static void parish_copied(void)
 static void expect_as_run(const uint8_t order[3])
 {
     uint8_t listed[1], looks[3], tally[SEARCHROOM_TALLY_BYTES] = {0};
-    uint64_t ran = searchroom_run(catalogue, catalogue_len, question, question_len, order, 3, listed, sizeof listed, looks,
+    uint64_t ran = searchroom_run(catalogue, catalogue_len, question, question_len, order, 3, 0, listed, sizeof listed, looks,
                                   sizeof looks, tally, sizeof tally);
     uint64_t word = copy(order, 3, SEARCHROOM_COPY_BYTES);
     expect_accepted(word, FIELD * (size_t)searchroom_look_count(ran));

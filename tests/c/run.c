@@ -7,7 +7,9 @@
 static uint8_t *catalogue, *question;
 static size_t catalogue_len, question_len;
 
-/* A run of the parish with tables of these lengths, every table against an unreadable page and filled with one byte. */
+enum { TALLY = SEARCHROOM_TALLY_BYTES };
+
+/* A run of the parish by reader 0 with tables of these lengths, every table against an unreadable page and filled with one byte. */
 typedef struct {
     const uint8_t *order;
     size_t order_len, listed_len, looks_len, tally_len;
@@ -15,7 +17,7 @@ typedef struct {
 } Lengths;
 
 /* The tables afterwards. */
-static uint8_t listed[SEARCHROOM_LISTED_BYTES], looks[SEARCHROOM_LOOKS_BYTES], tally[64];
+static uint8_t listed[SEARCHROOM_LISTED_BYTES], looks[SEARCHROOM_LOOKS_BYTES], tally[2 * TALLY];
 
 static uint64_t run(Lengths with)
 {
@@ -25,7 +27,7 @@ static uint64_t run(Lengths with)
     uint8_t *lent_listed = lend(listed, with.listed_len);
     uint8_t *lent_looks = lend(looks, with.looks_len);
     uint8_t *lent_tally = lend(tally, with.tally_len);
-    uint64_t word = searchroom_run(catalogue, catalogue_len, question, question_len, with.order, with.order_len,
+    uint64_t word = searchroom_run(catalogue, catalogue_len, question, question_len, with.order, with.order_len, 0,
                                    lent_listed, with.listed_len, lent_looks, with.looks_len, lent_tally, with.tally_len);
     memcpy(listed, lent_listed, with.listed_len);
     memcpy(looks, lent_looks, with.looks_len);
@@ -52,14 +54,14 @@ static const uint8_t forward[] = {0, 1, 2}, backward[] = {2, 1, 0}, repeated[] =
 
 static void parish_in_order(void)
 {
-    uint64_t word = run((Lengths){forward, 3, 1, 3, 8, 0});
+    uint64_t word = run((Lengths){forward, 3, 1, 3, TALLY, 0});
     EXPECT_EQ(searchroom_refusal(word), SEARCHROOM_ACCEPTED);
     EXPECT_EQ(searchroom_found(word), 2);
     EXPECT_EQ(searchroom_second(word), 0);
     EXPECT_EQ(searchroom_look_count(word), 6);
     EXPECT_EQ(listed[0], 5);
     EXPECT(memcmp(looks, (const uint8_t[]){7, 1, 6}, 3) == 0);
-    EXPECT(memcmp(tally, (const uint8_t[]){0, 0, 0, 0, 0, 0, 0, 6}, 8) == 0);
+    EXPECT(memcmp(tally, (const uint8_t[]){0, 0, 0, 0, 0, 0, 0, 6}, 8) == 0 && are_all(0, tally + 8, TALLY - 8));
     EXPECT_EQ(searchroom_row_bytes(3), 1);
     EXPECT_EQ(searchroom_row_bytes(9), 2);
     EXPECT_EQ(searchroom_bit(listed, 1), 0);
@@ -68,7 +70,7 @@ static void parish_in_order(void)
 
 static void parish_in_reverse(void)
 {
-    uint64_t word = run((Lengths){backward, 3, 1, 3, 8, 0});
+    uint64_t word = run((Lengths){backward, 3, 1, 3, TALLY, 0});
     EXPECT_EQ(searchroom_found(word), 2);
     EXPECT_EQ(searchroom_look_count(word), 7);
     EXPECT_EQ(listed[0], 5);
@@ -79,8 +81,8 @@ static void undated_is_not_outside_the_century(void)
 {
     static const uint8_t outside[] = {80, 0, 10, 0, 128, 0, 0, 6, 0xA4, 0, 0, 7, 7}, order[] = {0};
     memset(tally, 0, sizeof tally);
-    uint64_t word = searchroom_run(catalogue, catalogue_len, outside, sizeof outside, order, sizeof order, listed,
-                                   sizeof listed, looks, sizeof looks, tally, SEARCHROOM_TALLY_BYTES);
+    uint64_t word = searchroom_run(catalogue, catalogue_len, outside, sizeof outside, order, sizeof order, 0, listed,
+                                   sizeof listed, looks, sizeof looks, tally, TALLY);
     EXPECT_EQ(searchroom_refusal(word), SEARCHROOM_ACCEPTED);
     EXPECT_EQ(searchroom_found(word), 1);
     EXPECT_EQ(searchroom_look_count(word), 3);
@@ -104,8 +106,8 @@ static void found_with_or_without_the_accent(void)
             uint8_t asked[5 + LEN] = {80, 0, 2 + LEN, 0, kind};
             memcpy(asked + 5, names[sought], LEN);
             memset(tally, 0, sizeof tally);
-            uint64_t word = searchroom_run(made, sizeof made, asked, sizeof asked, order, sizeof order, listed,
-                                           sizeof listed, looks, sizeof looks, tally, SEARCHROOM_TALLY_BYTES);
+            uint64_t word = searchroom_run(made, sizeof made, asked, sizeof asked, order, sizeof order, 0, listed,
+                                           sizeof listed, looks, sizeof looks, tally, TALLY);
             EXPECT_EQ(searchroom_refusal(word), SEARCHROOM_ACCEPTED);
             EXPECT_EQ(searchroom_found(word), 4);
             EXPECT_EQ(listed[0], 15);
@@ -119,23 +121,23 @@ static void found_with_or_without_the_accent(void)
 
 static void longer_tables_keep_their_further_bytes(void)
 {
-    uint64_t word = run((Lengths){forward, 3, 40, 90, 8, FILL});
+    uint64_t word = run((Lengths){forward, 3, 40, 90, TALLY, FILL});
     EXPECT_EQ(searchroom_found(word), 2);
     EXPECT_EQ(listed[0], 5);
     EXPECT(memcmp(looks, (const uint8_t[]){7, 1, 6}, 3) == 0);
     EXPECT(are_all(FILL, listed + 1, 39) && are_all(FILL, looks + 3, 87));
-    EXPECT(memcmp(tally, (const uint8_t[]){FILL, FILL, FILL, FILL, FILL, FILL, FILL, FILL + 6}, 8) == 0);
+    EXPECT(are_all(FILL, tally, 7) && tally[7] == FILL + 6 && are_all(FILL, tally + 8, TALLY - 8));
 }
 
 static void refusals_alter_nothing(void)
 {
-    expect_refused((Lengths){forward, 2, 1, 3, 8, 9}, SEARCHROOM_BAD_ORDER);
-    expect_refused((Lengths){repeated, 3, 1, 3, 8, 9}, SEARCHROOM_BAD_ORDER);
-    expect_refused((Lengths){forward, 3, 0, 3, 8, 9}, SEARCHROOM_SHORT_TABLE);
-    expect_refused((Lengths){forward, 3, 1, 2, 8, 9}, SEARCHROOM_SHORT_TABLE);
-    expect_refused((Lengths){forward, 3, 1, 3, 7, 9}, SEARCHROOM_BAD_TALLY);
-    expect_refused((Lengths){forward, 3, 1, 3, 9, 9}, SEARCHROOM_BAD_TALLY);
-    expect_refused((Lengths){forward, 3, 1, 3, 8, 0xFF}, SEARCHROOM_BAD_TALLY);
+    expect_refused((Lengths){forward, 2, 1, 3, TALLY, 9}, SEARCHROOM_BAD_ORDER);
+    expect_refused((Lengths){repeated, 3, 1, 3, TALLY, 9}, SEARCHROOM_BAD_ORDER);
+    expect_refused((Lengths){forward, 3, 0, 3, TALLY, 9}, SEARCHROOM_SHORT_TABLE);
+    expect_refused((Lengths){forward, 3, 1, 2, TALLY, 9}, SEARCHROOM_SHORT_TABLE);
+    expect_refused((Lengths){forward, 3, 1, 3, TALLY - 1, 9}, SEARCHROOM_BAD_TALLY);
+    expect_refused((Lengths){forward, 3, 1, 3, TALLY + 1, 9}, SEARCHROOM_BAD_TALLY);
+    expect_refused((Lengths){forward, 3, 1, 3, TALLY, 0xFF}, SEARCHROOM_BAD_TALLY);
     expect_refused((Lengths){repeated, 3, 0, 0, 0, 9}, SEARCHROOM_BAD_ORDER);
     expect_refused((Lengths){forward, 3, 0, 0, 0, 9}, SEARCHROOM_SHORT_TABLE);
     question_len--;

@@ -31,7 +31,7 @@ static void put_mark(uint8_t mark) { put_after_columns((const uint8_t[]){87, 0, 
 
 static uint64_t run(Lent *lent)
 {
-    return searchroom_run(catalogue, catalogue_len, question, question_len, order, sizeof order, lent->listed,
+    return searchroom_run(catalogue, catalogue_len, question, question_len, order, sizeof order, 0, lent->listed,
                           sizeof lent->listed, lent->looks, sizeof lent->looks, lent->tally, sizeof lent->tally);
 }
 
@@ -102,7 +102,7 @@ static void each_mark_of_the_parish(void)
         EXPECT_EQ(searchroom_look_count(word), 2 * present);
         EXPECT_EQ(lent.listed[0], 5 & house);
         EXPECT(lent.looks[0] == (7 & house) && lent.looks[1] == (1 & house) && lent.looks[2] == (6 & house));
-        EXPECT(memcmp(lent.tally, (const uint8_t[]){0, 0, 0, 0, 0, 0, 0, (uint8_t)(2 * present)}, sizeof lent.tally) == 0);
+        EXPECT_EQ(searchroom_tally_of(lent.tally, 0), 2 * present);
         word = copy(&lent);
         size_t written = 2 * present * FIELD;
         EXPECT_EQ(searchroom_refusal(word), SEARCHROOM_ACCEPTED);
@@ -152,8 +152,8 @@ static void longest_mark(void)
     uint8_t *mark = made + column + 3;
     for (unsigned entry = 0; entry < entries; entry += 3)
         mark[entry / 8] |= (uint8_t)(1 << entry % 8);
-    uint64_t word = searchroom_run(made, size, not_blank, sizeof not_blank, first, sizeof first, listed, sizeof listed, looks,
-                                   sizeof looks, tally, sizeof tally);
+    uint64_t word = searchroom_run(made, size, not_blank, sizeof not_blank, first, sizeof first, 0, listed, sizeof listed,
+                                   looks, sizeof looks, tally, sizeof tally);
     EXPECT_EQ(searchroom_refusal(word), SEARCHROOM_ACCEPTED);
     EXPECT_EQ(searchroom_found(word), entries - (entries + 2) / 3);
     EXPECT_EQ(searchroom_look_count(word), searchroom_found(word));

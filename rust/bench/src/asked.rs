@@ -1,6 +1,6 @@
 use evaluator::{Catalogue, Column, Condition, Question, Test, Tree};
 use generator::{Rng, column, county, encode_catalogue, encode_question, question_of, running_order};
-use searchroom::Counts;
+use searchroom::{Counts, Tally};
 
 /// A catalogue and a question with its running order, as bytes.
 pub struct Asked {
@@ -29,7 +29,7 @@ impl Asked {
     }
 
     fn run(&self, listed: &mut [u8], looks: &mut [u8]) -> Counts {
-        searchroom::run(&self.catalogue, &self.question, &self.order, listed, looks, &mut [0; 8])
+        searchroom::run(&self.catalogue, &self.question, &self.order, 0, listed, looks, &mut [0; Tally::BYTES])
             .expect("the benchmark's questions are accepted")
     }
 }

@@ -36,7 +36,7 @@ pub const QUESTION_LEFT_OVER: Number = 14;
 pub const ORDER: Number = 15;
 /// A table is too short.
 pub const TABLE: Number = 16;
-/// The tally is not eight bytes, or the sum would pass 2^64 − 1.
+/// The tally is not of 128 bytes, or the sum would pass 2^64 − 1 for this reader.
 pub const TALLY: Number = 17;
 /// No such entry or condition.
 pub const NO_SUCH_PLACE: Number = 18;
@@ -50,3 +50,5 @@ pub const MISSPELLED: Number = 21;
 pub const TYPED_OUTPUT: Number = 22;
 /// The mark's length is not ceiling(E / 8), or a bit after the last entry's is one.
 pub const MARK: Number = 23;
+/// The reader is over 15.
+pub const READER: Number = 24;

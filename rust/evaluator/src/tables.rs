@@ -11,9 +11,17 @@ pub struct Ran {
     pub tally: Vec<u8>,
 }
 
-/// Runs a question: the tables are given as they were lent. A refusal alters none of them.
-pub fn run(catalogue: &[u8], question: &[u8], order: &[u8], listed: &[u8], looks: &[u8], tally: &[u8]) -> Ran {
-    accepted_run(catalogue, question, order, listed, looks, tally).unwrap_or_else(|number| Ran {
+/// Runs a question for a reader: the tables are given as they were lent. A refusal alters none of them.
+pub fn run(
+    catalogue: &[u8],
+    question: &[u8],
+    order: &[u8],
+    reader: u64,
+    listed: &[u8],
+    looks: &[u8],
+    tally: &[u8],
+) -> Ran {
+    accepted_run(catalogue, question, order, reader, listed, looks, tally).unwrap_or_else(|number| Ran {
         word: refused(number),
         listed: listed.to_vec(),
         looks: looks.to_vec(),
@@ -25,6 +33,7 @@ fn accepted_run(
     catalogue: &[u8],
     question: &[u8],
     order: &[u8],
+    reader: u64,
     listed: &[u8],
     looks: &[u8],
     tally: &[u8],
@@ -36,16 +45,29 @@ fn accepted_run(
     if listed.len() < row || looks.len() < count * row {
         return Err(refusal::TABLE);
     }
-    let tally: [u8; 8] = tally.try_into().map_err(|_| refusal::TALLY)?;
+    if reader > 15 {
+        return Err(refusal::READER);
+    }
     let found = find(&catalogue, &question, &order);
-    let sum = u64::from_be_bytes(tally).checked_add(found.look_count() as u64).ok_or(refusal::TALLY)?;
+    let tally = tally_after(tally, reader as usize, found.look_count() as u64)?;
     let Found { listed: entries, looks: conditions } = &found;
     Ok(Ran {
         word: pack(found.found_count(), 0, found.look_count()),
         listed: with_front(listed, bits(entries)),
         looks: with_front(looks, conditions.iter().flat_map(|entries| bits(entries)).collect()),
-        tally: sum.to_be_bytes().to_vec(),
+        tally,
     })
+}
+
+/// Order 7: the tally is "sixteen numbers of eight bytes", and "only that reader's number grows", by the looks of the run.
+fn tally_after(tally: &[u8], reader: usize, looks: u64) -> Result<Vec<u8>, Number> {
+    if tally.len() != 128 {
+        return Err(refusal::TALLY);
+    }
+    let number = |bytes: &[u8]| u64::from_be_bytes(bytes.try_into().expect("eight bytes"));
+    let mut numbers: Vec<u64> = tally.chunks(8).map(number).collect();
+    numbers[reader] = numbers[reader].checked_add(looks).ok_or(refusal::TALLY)?;
+    Ok(numbers.into_iter().flat_map(u64::to_be_bytes).collect())
 }
 
 /// An order is n bytes holding each condition number once.

@@ -33,11 +33,28 @@ fn register_of_the_parish() {
 
 #[test]
 fn tables_of_the_parish() {
-    let ran = run(CATALOGUE, QUESTION, &[0, 1, 2], &[255; 2], &[255; 4], &[0, 0, 0, 0, 0, 0, 0, 250]);
+    let tally = [&[0, 0, 0, 0, 0, 0, 0, 250].repeat(2), &[9; 112][..]].concat();
+    let ran = run(CATALOGUE, QUESTION, &[0, 1, 2], 1, &[255; 2], &[255; 4], &tally);
     assert_eq!(ran.word, 2 << 8 | 6 << 40);
     assert_eq!(ran.listed, [0b101, 255]);
     assert_eq!(ran.looks, [0b111, 0b001, 0b110, 255]);
-    assert_eq!(ran.tally, [0, 0, 0, 0, 0, 0, 1, 0]);
+    assert_eq!(ran.tally[..16], [0, 0, 0, 0, 0, 0, 0, 250, 0, 0, 0, 0, 0, 0, 1, 0]);
+    assert_eq!(ran.tally[16..], [9; 112]);
+}
+
+/// Order 7: "24, reader over 15, after 16", and then 17 "for a tally not of 128 bytes or a sum too large for this reader".
+#[test]
+fn refusals_for_reader_and_tally() {
+    let parish = |reader, looks: &[u8], tally: &[u8]| {
+        let ran = run(CATALOGUE, QUESTION, &[0, 1, 2], reader, &[0], looks, tally);
+        assert!(ran.word > 255 || (ran.looks == looks && ran.tally == tally), "a refusal altered a table");
+        ran.word as u8
+    };
+    let full = [[0; 120].as_slice(), &[255; 8]].concat();
+    assert_eq!([0, 14, 15].map(|reader| parish(reader, &[0; 3], &full)), [0, 0, 17]);
+    assert_eq!([16, 17, u64::MAX].map(|reader| parish(reader, &[0; 3], &full)), [24; 3]);
+    assert_eq!([0, 8, 127, 128, 129].map(|length| parish(15, &[0; 3], &vec![0; length])), [17, 17, 17, 0, 17]);
+    assert_eq!((parish(16, &[0; 2], &[]), parish(16, &[0; 3], &[])), (16, 24));
 }
 
 /// A condition and its opposite at a value that meets the one, at a value that meets the other, and at a blank, at which

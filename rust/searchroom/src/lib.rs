@@ -18,6 +18,7 @@ mod question;
 mod refusal;
 mod run;
 mod sys;
+mod tally;
 mod typed;
 mod word;
 
@@ -27,6 +28,7 @@ pub use copy::{COPY_BYTES, Look, Looks, copy, copy_of, looks};
 pub use question::{Answer, check_question, outcome};
 pub use refusal::Refusal;
 pub use run::{Counts, run};
+pub use tally::Tally;
 pub use typed::{MAX_TYPED, TYPED_BYTES, typed, typed_question};
 pub use word::Word;
 

@@ -50,12 +50,13 @@ refusals! {
     QuestionLeftOver = 14, "bytes are left over after the question";
     BadOrder = 15, "the order does not hold each condition number once and nothing else";
     ShortTable = 16, "a table is too short";
-    BadTally = 17, "the tally is not eight bytes, or the sum would pass 2^64 - 1";
+    BadTally = 17, "the tally is not 128 bytes, or the sum would pass 2^64 - 1 for this reader";
     NoSuchPlace = 18, "there is no such entry or condition";
     ShortOutput = 20, "the output is too short for the copy";
     Misspelled = 21, "the typed question is over 16,384 bytes or misspelled";
     ShortTypedOutput = 22, "the output is too short for the typed question's bytes";
     BadMark = 23, "the mark of the catalogue has a length that does not fit the number of entries, or a one bit after the last entry's";
+    NoSuchReader = 24, "there is no such reader: readers are 0 to 15";
 }
 
 impl Refusal {

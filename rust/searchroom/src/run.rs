@@ -9,28 +9,30 @@ pub struct Counts {
     pub looks: u32,
 }
 
-/// Runs a question over a catalogue in a running order, into tables of the caller's. It takes
+/// Runs a question over a catalogue in a running order, for a reader, into tables of the caller's. It takes
 /// [`Answer::Blank`](crate::Answer::Blank) as no. A withdrawn entry is not listed and has no looks.
 ///
 /// With E entries and n conditions, a row takes ceiling(E / 8) bytes: entry e is the bit of weight 2^(e mod 8) in byte
 /// e div 8, unused bits zero. `listed` receives one row, `looks` one row for each condition in condition-number order;
-/// further bytes of either stay as they are. `tally` is eight bytes, most significant first, to which the look count is
-/// added. A refusal alters none of the three.
+/// further bytes of either stay as they are. `tally` is the bytes of a [`Tally`](crate::Tally), in which the look count is added
+/// to this reader's number; every other byte of it stays. Of an accepted run nothing but the tally depends on the reader.
+/// A refusal alters none of the three.
 ///
 /// [`consult`](crate::consult) does the same with tables of its own.
 ///
 /// # Errors
-/// Those of [`check_question`](crate::check_question), then [`Refusal::BadOrder`], [`Refusal::ShortTable`] and
-/// [`Refusal::BadTally`].
+/// Those of [`check_question`](crate::check_question), then [`Refusal::BadOrder`], [`Refusal::ShortTable`],
+/// [`Refusal::NoSuchReader`] and [`Refusal::BadTally`].
 pub fn run(
     catalogue: &[u8],
     question: &[u8],
     order: &[u8],
+    reader: u64,
     listed: &mut [u8],
     looks: &mut [u8],
     tally: &mut [u8],
 ) -> Result<Counts, Refusal> {
-    let word = run_word(catalogue, question, order, listed, looks, tally).accepted()?;
+    let word = run_word(catalogue, question, order, reader, listed, looks, tally).accepted()?;
     Ok(Counts { found: word.first(), looks: word.third() })
 }
 
@@ -39,6 +41,7 @@ pub fn run_word(
     catalogue: &[u8],
     question: &[u8],
     order: &[u8],
+    reader: u64,
     listed: &mut [u8],
     looks: &mut [u8],
     tally: &mut [u8],
@@ -53,6 +56,7 @@ pub fn run_word(
             question.len(),
             order.as_ptr(),
             order.len(),
+            reader,
             listed.as_mut_ptr(),
             listed.len(),
             looks.as_mut_ptr(),

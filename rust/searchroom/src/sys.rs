@@ -26,6 +26,7 @@ unsafe extern "C" {
         question_len: usize,
         order: *const u8,
         order_len: usize,
+        reader: u64,
         listed: *mut u8,
         listed_len: usize,
         looks: *mut u8,

@@ -1,7 +1,7 @@
 use evaluator::{Catalogue, Column, Condition, Question, Ran, Test, Tree, pack};
 use generator::{Pattern, Rng};
 
-use crate::{Run, compare_copy, compare_run, fewer};
+use crate::{READERS, Run, compare_copy, compare_run, fewer, tally_of};
 
 /// Makes the run in an order and its copy, and sees that both are accepted. Where less is to be tried, some are not copied.
 pub fn compare_both(rng: &mut Rng, label: &str, catalogue: &Catalogue, question: &Question, order: &[u8]) -> Ran {
@@ -21,7 +21,7 @@ pub fn look_count(ran: &Ran) -> usize {
     (ran.word >> 40) as usize
 }
 
-/// A run with tables and tally of any bytes, the tables often longer than they must be.
+/// Any reader's run with tables and tally of any bytes, the tables often longer than they must be.
 fn lending(rng: &mut Rng, catalogue: &Catalogue, question: &Question, order: &[u8]) -> Run {
     let fit = Run::fitting(catalogue, question, order);
     let mut table = |fit: &[u8]| {
@@ -29,9 +29,9 @@ fn lending(rng: &mut Rng, catalogue: &Catalogue, question: &Question, order: &[u
         rng.bytes(fit.len() + more)
     };
     let (listed, looks) = (table(&fit.listed), table(&fit.looks));
-    // A tally that no run passes.
-    let tally = (rng.next_u64() >> 1).to_be_bytes().to_vec();
-    Run { listed, looks, tally, ..fit }
+    // Numbers that no run fills.
+    let tally = tally_of([(); READERS].map(|()| rng.next_u64() >> 1));
+    Run { reader: rng.below(READERS) as u64, listed, looks, tally, ..fit }
 }
 
 /// Runs and copies a condition on column 1 where it is due everywhere, and where another on column 0 leaves it due at some

@@ -14,7 +14,7 @@ use generator::{
 use searchroom::TYPED_BYTES;
 
 use crate::{
-    PARISH_CATALOGUE, PARISH_ORDER, PARISH_QUESTION, PARISH_TEXT, Run, Seen, Typing, compare_catalogue, compare_copy,
+    PARISH_ORDER, PARISH_TEXT, Run, Seen, Typing, any_reader, any_tally, compare_catalogue, compare_copy,
     compare_outcome, compare_question, compare_run, compare_typed, damage_some,
 };
 
@@ -47,14 +47,7 @@ pub struct Fuzz {
 impl Fuzz {
     pub fn new(seed: u64) -> Fuzz {
         let mut rng = Rng::new(seed);
-        let parish = Run {
-            catalogue: PARISH_CATALOGUE.to_vec(),
-            question: PARISH_QUESTION.to_vec(),
-            order: PARISH_ORDER.to_vec(),
-            listed: vec![0; 1],
-            looks: vec![0; 3],
-            tally: vec![0; 8],
-        };
+        let parish = Run::parish(PARISH_ORDER);
         let mut kept = vec![Given::default(), Given { run: parish.clone(), text: PARISH_TEXT.into() }];
         for count in [1, 2, 3, 4, 5, 6, 7, 8, 9, 63, 64, 64] {
             let (entries, columns, depth) = (rng.between(0, 18), rng.between(1, 4), rng.between(1, 8));
@@ -208,18 +201,16 @@ fn change_tables(rng: &mut Rng, given: &mut Run) {
             *table = rng.bytes(length);
         }
     }
-    if rng.chance(20) {
-        given.tally = (u64::MAX - rng.below(200) as u64).to_be_bytes().to_vec();
-    }
 }
 
-/// Gives an accepted question an order and tables that fit it.
+/// Gives an accepted question an order and tables that fit it, and mostly a reader and a tally that do.
 fn fit(rng: &mut Rng, given: &mut Run) {
     let word = question_word(&given.catalogue, &given.question);
     if let (Ok(catalogue), 0) = (read_catalogue(&given.catalogue), word as u8) {
         let (row, count) = (catalogue.entries.div_ceil(8), (word >> 8) as usize);
         given.order = running_order(rng, count);
         (given.listed, given.looks) = (rng.bytes(row), rng.bytes(row * count));
-        given.tally = rng.bytes(8);
+        given.reader = any_reader(rng, 10);
+        given.tally = any_tally(rng, given.reader, 10);
     }
 }

@@ -15,6 +15,7 @@ mod report;
 mod room;
 mod run;
 mod seen;
+mod tally;
 mod typed;
 
 pub use both::{compare_both, compare_condition, look_count};
@@ -32,6 +33,7 @@ pub use report::hex;
 pub use room::Room;
 pub use run::{Run, compare_run};
 pub use seen::Seen;
+pub use tally::{NO_READERS, NO_TALLIES, READERS, any_reader, any_tally, tally_of, tally_with};
 pub use typed::{Typing, compare_reading, compare_typed};
 
 use generator::encode_mark;

@@ -3,7 +3,7 @@ use std::fmt;
 use evaluator::{Catalogue, Question, Ran};
 use generator::{encode_catalogue, encode_question};
 
-use crate::{Copying, Lent, Side, fault, hex};
+use crate::{Copying, Lent, PARISH_CATALOGUE, PARISH_QUESTION, READERS, Side, fault, hex, tally_of};
 
 /// All that a run is given, the tables as they are lent.
 #[derive(Clone, Debug, Default)]
@@ -11,6 +11,7 @@ pub struct Run {
     pub catalogue: Vec<u8>,
     pub question: Vec<u8>,
     pub order: Vec<u8>,
+    pub reader: u64,
     pub listed: Vec<u8>,
     pub looks: Vec<u8>,
     pub tally: Vec<u8>,
@@ -22,21 +23,35 @@ impl fmt::Display for Run {
         for (name, bytes) in parts.into_iter().zip(self.slices()) {
             writeln!(f, "{name}: {}", hex(bytes))?;
         }
-        Ok(())
+        writeln!(f, "reader: {}", self.reader)
     }
 }
 
 impl Run {
-    /// A run with tables just long enough, filled with ones, and a tally of 0.
+    /// A run of reader 0 with tables just long enough, filled with ones, and a tally of zeros.
     pub fn fitting(catalogue: &Catalogue, question: &Question, order: &[u8]) -> Run {
         let row = catalogue.entries.div_ceil(8);
         Run {
             catalogue: encode_catalogue(catalogue),
             question: encode_question(question),
             order: order.to_vec(),
+            reader: 0,
             listed: vec![0xFF; row],
             looks: vec![0xFF; row * question.conditions.len()],
-            tally: vec![0; 8],
+            tally: tally_of([0; READERS]),
+        }
+    }
+
+    /// The parish's run of reader 0 in this order, with tables just long enough and a tally, all of them zeros.
+    pub fn parish(order: &[u8]) -> Run {
+        Run {
+            catalogue: PARISH_CATALOGUE.to_vec(),
+            question: PARISH_QUESTION.to_vec(),
+            order: order.to_vec(),
+            reader: 0,
+            listed: vec![0; 1],
+            looks: vec![0; 3],
+            tally: tally_of([0; READERS]),
         }
     }
 
@@ -53,8 +68,8 @@ impl Run {
 /// Makes a run by the engine, in guarded memory, and by the evaluator: the word and every lent byte afterwards must be
 /// the same. Gives the evaluator's results.
 pub fn compare_run(label: &str, given: &Run) -> Ran {
-    let expected =
-        evaluator::run(&given.catalogue, &given.question, &given.order, &given.listed, &given.looks, &given.tally);
+    let Run { catalogue, question, order, reader, listed, looks, tally } = given;
+    let expected = evaluator::run(catalogue, question, order, *reader, listed, looks, tally);
     fault::trying(label);
     for side in Side::BOTH {
         let mut lent = given.slices().map(|bytes| Lent::new(bytes, side));
@@ -63,6 +78,7 @@ pub fn compare_run(label: &str, given: &Run) -> Ran {
             catalogue.bytes(),
             question.bytes(),
             order.bytes(),
+            *reader,
             listed.bytes_mut(),
             looks.bytes_mut(),
             tally.bytes_mut(),

@@ -3,7 +3,7 @@
 
 use evaluator::{Catalogue, Column, Condition, Question, Test, Tree, pack, refused};
 use generator::{Rng, alike, encode_catalogue, encode_question, field, latin_1};
-use searchroom::{Answer, consult, copy_of, looks, outcome};
+use searchroom::{Answer, Tally, consult, copy_of, looks, outcome};
 use trials::{
     Run, compare_condition, compare_copy, compare_outcome, compare_question, compare_reading, compare_run, fewer, ones,
 };
@@ -192,7 +192,7 @@ fn typed_with_or_without_the_accent() {
     let catalogue = encode_catalogue(&Catalogue { columns: vec![numbers, made.columns[0].clone()], ..made });
     let found = |text: &str| {
         let question = compare_reading(&catalogue, text).expect("an accepted text");
-        let found = consult(&catalogue, &question, &[0], &mut 0).expect("an accepted run");
+        let found = consult(&catalogue, &question, &[0], 0, &mut Tally::default()).expect("an accepted run");
         found.listed().map_while(|entry| NAMES.get(entry)).copied().collect::<Vec<_>>()
     };
     for name in ["Andre", r"Andr\E9", r"ANDR\C9", r"\E0\F1dre"] {

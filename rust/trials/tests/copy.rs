@@ -6,7 +6,7 @@ use generator::{
     Rng, catalogue_of, encode_catalogue, field, question, question_of, running_order, tree_of, twelve_kinds,
     with_outcomes,
 };
-use searchroom::{Answer, COPY_BYTES, Look, Refusal, consult, copy, copy_of, looks, outcome};
+use searchroom::{Answer, COPY_BYTES, Look, Refusal, Tally, consult, copy, copy_of, looks, outcome};
 use trials::{
     Copying, Damaged, FILL, PARISH_CATALOGUE, PARISH_ORDER, PARISH_QUESTION, Run, Seen, compare_copy, fewer,
     marked_parish, seeds, sizes,
@@ -35,7 +35,7 @@ fn parish(order: &[u8], length: usize) -> (u64, Vec<u8>) {
 /// the looks.
 fn expect_as_run(label: &str, catalogue: &Catalogue, question: &Question, order: &[u8]) -> Vec<Look> {
     let given = Run::fitting(catalogue, question, order);
-    let found = consult(&given.catalogue, &given.question, order, &mut 0).expect("an accepted run");
+    let found = consult(&given.catalogue, &given.question, order, 0, &mut Tally::default()).expect("an accepted run");
     let written = 7 * found.counts().looks as usize;
     for length in [written, written + 5, written.saturating_sub(1)] {
         let expected = if length < written { refused(20) } else { pack(0, 0, written) };

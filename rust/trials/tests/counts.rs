@@ -5,7 +5,7 @@
 use count_calls::{BYTES, LINE, count, count_bytes, count_lines};
 use evaluator::{Catalogue, Question, Tree, pack, refused};
 use generator::{Rng, catalogue_of, question_of, running_order, with_outcomes};
-use trials::{ENTRIES_AT_ENDS, Lent, Run, Side, compare_copy, compare_run, fewer, ones, trying};
+use trials::{ENTRIES_AT_ENDS, Lent, Run, Side, compare_copy, compare_run, fewer, ones, tally_with, trying};
 
 /// The most lines that count.
 const LINES: usize = BYTES / LINE;
@@ -229,7 +229,7 @@ fn expect_run(rng: &mut Rng, label: &str, catalogue: &Catalogue, question: &Ques
     let ((listed, more_listed), (looks, more_looks)) = (ran.listed.split_at(row), ran.looks.split_at(rows));
     let (found, look_count) = (ones(listed) as usize, ones(looks) as usize);
     assert_eq!(ran.word, pack(found, 0, look_count), "{label}: answered (left), of the written rows (right)");
-    assert_eq!(ran.tally, (look_count as u64).to_be_bytes(), "{label}");
+    assert_eq!(ran.tally, tally_with(0, look_count as u64), "{label}");
     assert!(more_listed.iter().chain(more_looks).all(|&byte| byte == 0xFF), "{label}: further bytes were altered");
     let written = 7 * look_count;
     let copied = compare_copy(label, &given.copying(&lend(written)));

@@ -5,19 +5,19 @@ use std::collections::BTreeMap;
 use std::fs;
 use std::path::Path;
 
-use searchroom::{Answer, COPY_BYTES, MAX_TYPED, Refusal, TYPED_BYTES, typed_question};
+use searchroom::{Answer, COPY_BYTES, MAX_TYPED, Refusal, TYPED_BYTES, Tally, typed_question};
 use trials::PARISH_CATALOGUE;
 
 const HEADER: &str = include_str!("../../../include/searchroom.h");
 
 /// A constant of the header and the crates' constant that it repeats.
-const SAME: [(&str, &str); 30] = [
+const SAME: [(&str, &str); 31] = [
     ("MAX_ENTRIES", "Row::LIMIT"),
     ("MAX_COLUMNS", "Column::LIMIT"),
     ("MAX_TEXT", "Text::LIMIT"),
     ("MAX_CONDITIONS", "Predicate::LIMIT"),
     ("MAX_DEPTH", "Group::DEPTH_LIMIT"),
-    ("TALLY_BYTES", "Counter::SIZE"),
+    ("READERS", "Tally::READERS"),
     ("COPY_FIELD_BYTES", "ProbeField::SIZE"),
     ("MAX_TYPED", "TypedText::LIMIT"),
     ("CATALOGUE_FIELD", "Refusal::FIELD_CUT"),
@@ -42,6 +42,7 @@ const SAME: [(&str, &str); 30] = [
     ("MISSPELLED", "Refusal::TEXT_MISSPELLED"),
     ("SHORT_TYPED_OUTPUT", "Refusal::TYPED_OUTPUT_TOO_SHORT"),
     ("BAD_MARK", "Refusal::BAD_MARK"),
+    ("NO_SUCH_READER", "Refusal::NO_SUCH_READER"),
 ];
 
 /// Refusal 19 is the program's, and no call of the library gives it.
@@ -95,6 +96,7 @@ fn header_has_the_constants_of_the_crates() {
     expected.insert("MARK_BYTES".to_string(), row);
     expected.insert("LISTED_BYTES".to_string(), row);
     expected.insert("LOOKS_BYTES".to_string(), row * of["Predicate::LIMIT"]);
+    expected.insert("TALLY_BYTES".to_string(), of["Tally::READERS"] * of["Counter::SIZE"]);
     let most_looks = of["Row::LIMIT"] * of["Predicate::LIMIT"];
     expected.insert("COPY_BYTES".to_string(), of["ProbeField::SIZE"] * most_looks);
     // The first field, text columns alone, and the mark.
@@ -114,7 +116,13 @@ fn header_has_the_constants_of_the_crates() {
     for name in header.keys().chain(expected.keys()) {
         assert_eq!(header.get(name), expected.get(name), "SEARCHROOM_{name}: the header's and the crates'");
     }
-    for (name, of_wrapper) in [("COPY_BYTES", COPY_BYTES), ("MAX_TYPED", MAX_TYPED), ("TYPED_BYTES", TYPED_BYTES)] {
+    for (name, of_wrapper) in [
+        ("READERS", Tally::READERS as usize),
+        ("TALLY_BYTES", Tally::BYTES),
+        ("COPY_BYTES", COPY_BYTES),
+        ("MAX_TYPED", MAX_TYPED),
+        ("TYPED_BYTES", TYPED_BYTES),
+    ] {
         assert_eq!(header[name], of_wrapper as u64, "SEARCHROOM_{name}: the header's and the wrapper's");
     }
 }

@@ -10,8 +10,8 @@ use trials::{
 
 /// A run over a catalogue, with tables and tally filled with one byte: is the number in column 0 blank?
 fn asking(catalogue: Vec<u8>) -> Run {
-    let [listed, looks, tally] = [256, 256, 8].map(|length| vec![FILL; length]);
-    Run { catalogue, question: field(80, &[0, 1]), order: vec![0], listed, looks, tally }
+    let [listed, looks, tally] = [256, 256, 128].map(|length| vec![FILL; length]);
+    Run { catalogue, question: field(80, &[0, 1]), order: vec![0], reader: 0, listed, looks, tally }
 }
 
 /// So many entries with a number each, none of them blank; then these bytes.

@@ -4,22 +4,11 @@ use evaluator::{Answer, Catalogue, Column, Condition, Question, Ran, Test, Tree,
 use generator::{
     Rng, catalogue, catalogue_of, encode_catalogue, field, question, question_of, running_order, twelve_kinds,
 };
-use searchroom::{Refusal, consult};
+use searchroom::{Refusal, Tally, consult};
 use trials::{
-    Damaged, OUTSIDE_THE_CENTURY, PARISH_CATALOGUE, PARISH_ORDER, PARISH_QUESTION, Run, Seen, compare_run,
-    marked_parish,
+    Damaged, NO_TALLIES, OUTSIDE_THE_CENTURY, PARISH_CATALOGUE, PARISH_ORDER, PARISH_QUESTION, Run, Seen, any_reader,
+    any_tally, compare_run, marked_parish, tally_with,
 };
-
-fn parish(order: &[u8]) -> Run {
-    Run {
-        catalogue: PARISH_CATALOGUE.to_vec(),
-        question: PARISH_QUESTION.to_vec(),
-        order: order.to_vec(),
-        listed: vec![0],
-        looks: vec![0; 3],
-        tally: vec![0; 8],
-    }
-}
 
 /// One entry for each pattern of `count` outcomes: condition c is met at entry e exactly if bit c of e is one.
 fn every_pattern(count: usize) -> (Catalogue, Vec<Condition>) {
@@ -31,36 +20,30 @@ fn every_pattern(count: usize) -> (Catalogue, Vec<Condition>) {
 
 #[test]
 fn proved_cases_1_and_2_as_run() {
-    let ran = compare_run("P1", &parish(PARISH_ORDER));
+    let ran = compare_run("P1", &Run::parish(PARISH_ORDER));
     assert_eq!(ran.word, pack(2, 0, 6));
-    assert_eq!(
-        (ran.listed, ran.looks, ran.tally),
-        (vec![0b101], vec![0b111, 0b001, 0b110], vec![0, 0, 0, 0, 0, 0, 0, 6])
-    );
-    let ran = compare_run("P2", &parish(&[2, 1, 0]));
+    assert_eq!((ran.listed, ran.looks, ran.tally), (vec![0b101], vec![0b111, 0b001, 0b110], tally_with(0, 6)));
+    let ran = compare_run("P2", &Run::parish(&[2, 1, 0]));
     assert_eq!((ran.word, ran.listed), (pack(2, 0, 7), vec![0b101]));
     assert_eq!(ran.looks.iter().map(|row| row.count_ones()).collect::<Vec<_>>(), [2, 2, 3]);
 }
 
 #[test]
 fn wrapper_gives_the_parish_as_values() {
-    let mut tally = 250;
-    let found = consult(PARISH_CATALOGUE, PARISH_QUESTION, PARISH_ORDER, &mut tally).expect("accepted");
-    assert_eq!((found.counts().found, found.counts().looks, tally), (2, 6, 256));
+    let mut tally = Tally::default();
+    let found = consult(PARISH_CATALOGUE, PARISH_QUESTION, PARISH_ORDER, 0, &mut tally).expect("accepted");
+    assert_eq!((found.counts().found, found.counts().looks, tally.of(0)), (2, 6, Some(6)));
     assert_eq!(found.listed().collect::<Vec<_>>(), [0, 2]);
     let looked_at = |condition| found.looked_at(condition).collect::<Vec<_>>();
     assert_eq!([0, 1, 2, 3].map(looked_at), [vec![0, 1, 2], vec![0], vec![1, 2], vec![]]);
-    let order = consult(PARISH_CATALOGUE, PARISH_QUESTION, &[0; 1_000], &mut tally);
-    assert_eq!((order, tally), (Err(Refusal::BadOrder), 256));
-    let mut full = u64::MAX - 5;
-    assert_eq!(consult(PARISH_CATALOGUE, PARISH_QUESTION, PARISH_ORDER, &mut full), Err(Refusal::BadTally));
-    assert_eq!(full, u64::MAX - 5);
+    let order = consult(PARISH_CATALOGUE, PARISH_QUESTION, &[0; 1_000], 0, &mut tally);
+    assert_eq!((order, tally.of(0)), (Err(Refusal::BadOrder), Some(6)));
 }
 
 /// Of 1701, 1822 and a blank the second alone is listed, and each is looked at.
 #[test]
 fn undated_entry_is_not_outside_the_century() {
-    let given = Run { question: OUTSIDE_THE_CENTURY.to_vec(), looks: vec![0], ..parish(&[0]) };
+    let given = Run { question: OUTSIDE_THE_CENTURY.to_vec(), looks: vec![0], ..Run::parish(&[0]) };
     let ran = compare_run("outside the century", &given);
     assert_eq!((ran.word, ran.listed, ran.looks), (pack(1, 0, 3), vec![0b010], vec![0b111]));
 }
@@ -80,7 +63,7 @@ fn condition_and_its_opposite() {
                     catalogue: encode_catalogue(&made),
                     question: field(tag, &members),
                     looks: vec![0; 2],
-                    ..parish(&[first as u8, second as u8])
+                    ..Run::parish(&[first as u8, second as u8])
                 };
                 let label = format!("kind {}, group of tag {tag}, condition {first} first", pair[0].number);
                 let ran = compare_run(&label, &given);
@@ -102,7 +85,7 @@ fn proved_case_7_no_entries() {
             let given = Run {
                 listed: vec![7; tables],
                 looks: vec![7; tables],
-                tally: tally.to_be_bytes().to_vec(),
+                tally: tally_with(0, tally),
                 ..Run::fitting(&nobody, &asked, &order)
             };
             let ran = compare_run("no entries", &given);
@@ -114,7 +97,7 @@ fn proved_case_7_no_entries() {
 #[test]
 fn proved_case_10_and_other_orders() {
     let two = field(79, &[80, 0, 2, 0, 1, 80, 0, 2, 0, 129]);
-    let with = |order: &[u8]| Run { question: two.clone(), looks: vec![0; 2], ..parish(order) };
+    let with = |order: &[u8]| Run { question: two.clone(), looks: vec![0; 2], ..Run::parish(order) };
     for order in [[0, 1], [1, 0]] {
         assert_eq!(compare_run("a right order", &with(&order)).word as u8, 0);
     }
@@ -189,7 +172,7 @@ fn tables_of_every_length() {
 
 #[test]
 fn proved_case_11_and_other_tallies() {
-    let with = |tally: u64| Run { tally: tally.to_be_bytes().to_vec(), ..parish(PARISH_ORDER) };
+    let with = |number| Run { tally: tally_with(0, number), ..Run::parish(PARISH_ORDER) };
     // The parish's run has six looks.
     for (tally, fits) in [
         (0, true),
@@ -204,7 +187,7 @@ fn proved_case_11_and_other_tallies() {
     ] {
         let ran = compare_run(&format!("tally {tally}"), &with(tally));
         if fits {
-            assert_eq!((ran.word, ran.tally), (pack(2, 0, 6), (tally + 6).to_be_bytes().to_vec()), "tally {tally}");
+            assert_eq!((ran.word, ran.tally), (pack(2, 0, 6), tally_with(0, tally + 6)), "tally {tally}");
         } else {
             assert_eq!(ran.word, refused(17), "tally {tally}");
         }
@@ -217,9 +200,9 @@ fn proved_case_11_and_other_tallies() {
         ..with(u64::MAX)
     };
     assert_eq!(compare_run("P11", &one).word, refused(17));
-    for length in [0, 1, 7, 9, 16, 128] {
+    for length in NO_TALLIES {
         for byte in [0, 255] {
-            let given = Run { tally: vec![byte; length], ..parish(PARISH_ORDER) };
+            let given = Run { tally: vec![byte; length], ..Run::parish(PARISH_ORDER) };
             assert_eq!(compare_run(&format!("tally of {length} bytes"), &given).word, refused(17));
         }
     }
@@ -227,11 +210,13 @@ fn proved_case_11_and_other_tallies() {
 
 #[test]
 fn earlier_of_two_refusals_decides() {
-    let sound = parish(PARISH_ORDER);
-    let mut worse = Run { tally: vec![0; 7], ..sound.clone() };
+    let sound = Run::parish(PARISH_ORDER);
+    let mut worse = Run { tally: vec![0; 8], ..sound.clone() };
     assert_eq!(compare_run("17 alone", &worse).word, refused(17));
+    worse.reader = 16;
+    assert_eq!(compare_run("24 before 17", &worse).word, refused(24));
     worse.looks.pop();
-    assert_eq!(compare_run("16 before 17", &worse).word, refused(16));
+    assert_eq!(compare_run("16 before 24", &worse).word, refused(16));
     worse = Run { listed: vec![], ..worse };
     assert_eq!(compare_run("16 by both tables", &worse).word, refused(16));
     worse.order = vec![0, 1, 1];
@@ -349,30 +334,9 @@ fn largest_run() {
     assert_eq!(ran.word, pack(2_048, 0, 131_072));
     assert_eq!(ran.looks, vec![0xFF; 16_384]);
     for (tally, word) in [(u64::MAX - 131_072, pack(2_048, 0, 131_072)), (u64::MAX - 131_071, refused(17))] {
-        let given = Run { tally: tally.to_be_bytes().to_vec(), ..full.clone() };
+        let given = Run { tally: tally_with(0, tally), ..full.clone() };
         assert_eq!(compare_run("largest run, fullest tally", &given).word, word);
     }
-}
-
-/// From zeros, over a sequence of runs, the tally is the sum of the look counts of the accepted ones.
-#[test]
-fn tally_over_a_sequence_of_runs() {
-    let mut tally = vec![0; 8];
-    let mut sum = 0;
-    for seed in 0..200 {
-        let mut rng = Rng::new(seed);
-        let made = catalogue_of(&mut rng, 9, 3);
-        let asked = question_of(&mut rng, &made, 5, 3);
-        let mut order = running_order(&mut rng, 5);
-        if seed % 5 == 0 {
-            order.pop();
-        }
-        let ran = compare_run(&format!("seed {seed}"), &Run { tally, ..Run::fitting(&made, &asked, &order) });
-        sum += ran.word >> 40;
-        tally = ran.tally;
-        assert_eq!(tally, sum.to_be_bytes(), "after seed {seed}");
-    }
-    assert!(sum > 1_000);
 }
 
 #[test]
@@ -412,14 +376,11 @@ fn random_and_damaged_runs_reach_every_refusal() {
         };
         let (listed, looks) = (length(&mut rng, row), length(&mut rng, row * conditions));
         let (listed, looks) = (rng.bytes(listed), rng.bytes(looks));
-        let tally = match rng.below(20) {
-            0 => (u64::MAX - rng.below(40) as u64).to_be_bytes().to_vec(),
-            1 => vec![0; *rng.pick(&[0, 7, 9])],
-            _ => rng.next_u64().to_be_bytes().to_vec(),
-        };
-        let given = Run { catalogue, question, order, listed, looks, tally };
+        let reader = any_reader(&mut rng, 5);
+        let tally = any_tally(&mut rng, reader, 5);
+        let given = Run { catalogue, question, order, reader, listed, looks, tally };
         seen.count(compare_run(&format!("seed {seed}"), &given).word);
     }
     seen.assert_each(0..=17, 10);
-    seen.assert_each(23..=23, 10);
+    seen.assert_each(23..=24, 10);
 }

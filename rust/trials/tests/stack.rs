@@ -61,7 +61,7 @@ struct Given {
 
 extern "C" fn every_call(given: *mut c_void) -> *mut c_void {
     // SAFETY: the one argument that the test passes, which it does not use meanwhile.
-    let Given { run: Run { catalogue, question, order, listed, looks, tally }, text, output, numbers } =
+    let Given { run: Run { catalogue, question, order, reader, listed, looks, tally }, text, output, numbers } =
         unsafe { &mut *given.cast::<Given>() };
     let words = [
         searchroom::raw::typed(catalogue, text.as_bytes(), output),
@@ -69,7 +69,7 @@ extern "C" fn every_call(given: *mut c_void) -> *mut c_void {
         searchroom::raw::check_question(catalogue, question),
         searchroom::raw::outcome(catalogue, question, 0, 0),
         searchroom::raw::outcome(catalogue, question, 0, 1),
-        searchroom::raw::run(catalogue, question, order, listed, looks, tally),
+        searchroom::raw::run(catalogue, question, order, *reader, listed, looks, tally),
         searchroom::raw::copy(catalogue, question, order, output),
     ];
     *numbers = words.map(|word| word.number());

@@ -6,7 +6,7 @@ use generator::{
     Misspelling, Rng, catalogue, catalogue_of, encode_catalogue, encode_question, field, misspell, question,
     question_of, typable_question,
 };
-use searchroom::{MAX_TYPED, Refusal, TYPED_BYTES, check_question, consult, typed, typed_question};
+use searchroom::{MAX_TYPED, Refusal, TYPED_BYTES, Tally, check_question, consult, typed, typed_question};
 use trials::{
     FILL, PARISH_CATALOGUE, PARISH_ORDER, PARISH_QUESTION, PARISH_TEXT, Seen, Typing, compare_reading, compare_typed,
     damaged_catalogue, fewer, marked_parish, seeds,
@@ -79,7 +79,7 @@ fn wrapper_gives_the_parish_as_values() {
 fn typed_question_is_run() {
     let found = |text: &str, order: &[u8]| {
         let question = typed_question(PARISH_CATALOGUE, text.as_bytes()).expect("an accepted text");
-        let found = consult(PARISH_CATALOGUE, &question, order, &mut 0).expect("an accepted run");
+        let found = consult(PARISH_CATALOGUE, &question, order, 0, &mut Tally::default()).expect("an accepted run");
         found.listed().collect::<Vec<_>>()
     };
     assert_eq!(found(PARISH_TEXT, PARISH_ORDER), [0, 2]);

@@ -6,11 +6,11 @@ use generator::{
     BLOCK, Pattern, Rng, catalogue_of, encode_bits, encode_catalogue, encode_mark, encode_question, field, question,
     question_of, running_order, tree_of, twelve_kinds, with_outcomes,
 };
-use searchroom::{Answer, Look, consult, copy_of, looks, outcome};
+use searchroom::{Answer, Look, Tally, consult, copy_of, looks, outcome};
 use trials::{
     Copying, ENTRIES_AT_ENDS, FILL, PARISH_ORDER, PARISH_QUESTION, PARISH_TEXT, Run, compare_both, compare_copy,
     compare_every_call, compare_outcome, compare_question, compare_reading, compare_run, fewer, look_count,
-    marked_parish, ones, seeds, sizes,
+    marked_parish, ones, seeds, sizes, tally_with,
 };
 
 /// The same catalogue with a mark.
@@ -83,18 +83,16 @@ fn parish_with_each_mark() {
         let (label, house) = (format!("parish, mark {mark:03b}"), !mark);
         let given = Run {
             catalogue: marked_parish(mark),
-            question: PARISH_QUESTION.to_vec(),
-            order: PARISH_ORDER.to_vec(),
             listed: vec![FILL; 2],
             looks: vec![FILL; 4],
-            tally: vec![0; 8],
+            ..Run::parish(PARISH_ORDER)
         };
         let ran = compare_run(&label, &given);
         assert_eq!(ran.listed, [0b101 & house, FILL], "{label}");
         assert_eq!(ran.looks, [0b111 & house, 0b001 & house, 0b110 & house, FILL], "{label}");
         let present = fields.iter().filter(|[entry, ..]| house >> entry & 1 == 1);
         let expected: Vec<u8> = present.flat_map(|[entry, number, is]| [76, 0, 4, 0, *entry, *number, *is]).collect();
-        assert_eq!(usize::from(ran.tally[7]), expected.len() / 7, "{label}");
+        assert_eq!(ran.tally, tally_with(0, expected.len() as u64 / 7), "{label}");
         let copied = compare_copy(&label, &given.copying(&vec![0; expected.len()]));
         assert_eq!(copied.output, expected, "{label}");
     }
@@ -103,9 +101,9 @@ fn parish_with_each_mark() {
 #[test]
 fn wrapper_gives_the_marked_parish_as_values() {
     let catalogue = marked_parish(0b001);
-    let mut tally = 250;
-    let found = consult(&catalogue, PARISH_QUESTION, PARISH_ORDER, &mut tally).expect("an accepted run");
-    assert_eq!((found.counts().found, found.counts().looks, tally), (1, 4, 254));
+    let mut tally = Tally::default();
+    let found = consult(&catalogue, PARISH_QUESTION, PARISH_ORDER, 0, &mut tally).expect("an accepted run");
+    assert_eq!((found.counts().found, found.counts().looks, tally.of(0)), (1, 4, Some(4)));
     assert_eq!(found.listed().collect::<Vec<_>>(), [2]);
     let looked_at = |condition| found.looked_at(condition).collect::<Vec<_>>();
     assert_eq!([0, 1, 2].map(looked_at), [vec![1, 2], vec![], vec![1, 2]]);
@@ -126,7 +124,7 @@ fn each_kind_at_a_withdrawn_entry() {
             let label = format!("kind {}, mark {mark:03b}", kind.number);
             let catalogue = [encode_catalogue(&made), encode_mark(&[mark])].concat();
             let (listed, looks) = (vec![FILL], vec![FILL]);
-            let given = Run { catalogue, question: question.clone(), order: vec![0], listed, looks, tally: vec![0; 8] };
+            let given = Run { catalogue, question: question.clone(), listed, looks, ..Run::parish(&[0]) };
             let ran = compare_run(&label, &given);
             assert_eq!((ran.listed, ran.looks), (vec![yes & !mark], vec![0b111 & !mark]), "{label}");
             let answers = [0, 1, 2].map(|entry| compare_outcome(&label, &given.catalogue, &question, entry, 0));
@@ -192,7 +190,7 @@ fn every_entry_withdrawn() {
             let made = marked(&asked.catalogue, &vec![true; size]);
             let fit = Run::fitting(&made, &asked.question, &asked.order);
             for tally in [0, 250, u64::MAX] {
-                let tally = tally.to_be_bytes().to_vec();
+                let tally = tally_with(0, tally);
                 let ran = compare_run("all withdrawn", &Run { tally: tally.clone(), ..fit.clone() });
                 assert_eq!((ran.word, ran.tally), (pack(0, 0, 0), tally), "{size} entries");
                 assert!([ran.listed, ran.looks].concat().iter().all(|&byte| byte == 0), "{size} entries");
@@ -213,11 +211,11 @@ fn tables_have_a_place_for_withdrawn_entries() {
     // The last entry is withdrawn, and with it all that the second byte of a row has.
     let made = marked(&asked.catalogue, &[vec![false; 8], vec![true]].concat());
     let fit = Run::fitting(&made, &asked.question, &asked.order);
-    let full = Run { tally: (u64::MAX - 16).to_be_bytes().to_vec(), ..fit.clone() };
+    let full = Run { tally: tally_with(0, u64::MAX - 16), ..fit.clone() };
     for (given, word) in [
         (Run { listed: vec![0; 1], ..fit.clone() }, refused(16)),
         (Run { looks: vec![0; 3], ..fit.clone() }, refused(16)),
-        (Run { tally: (u64::MAX - 15).to_be_bytes().to_vec(), ..fit.clone() }, refused(17)),
+        (Run { tally: tally_with(0, u64::MAX - 15), ..fit.clone() }, refused(17)),
         (full, pack(8, 0, 16)),
     ] {
         assert_eq!(compare_run("the last withdrawn", &given).word, word);
