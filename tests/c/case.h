@@ -37,10 +37,11 @@ int are_all(uint8_t one, const uint8_t *bytes, size_t len);
 /* Expects the fields that a copy of the parish in the order 0, 1, 2 has for these entries, given as a row of bits (copy.c). */
 void expect_parish_fields(uint8_t entries, const uint8_t *fields);
 
-/* The cases of each call, and those of the mark. */
+/* The cases of each call, and those of the readers and of the mark. */
 void catalogue_cases(void);
 void question_cases(void);
 void run_cases(void);
+void readers_cases(void);
 void blocks_cases(void);
 void copy_cases(void);
 void typed_cases(void);

@@ -93,7 +93,7 @@ static void packed_word_is_taken_apart(void)
 static void every_refusal_has_a_text(void)
 {
     enum { program_alone = 19 };
-    for (unsigned number = SEARCHROOM_ACCEPTED; number <= SEARCHROOM_BAD_MARK; number++)
+    for (unsigned number = SEARCHROOM_ACCEPTED; number <= SEARCHROOM_NO_SUCH_READER; number++)
         if (number != program_alone)
             EXPECT(strcmp(searchroom_refusal_text(number), searchroom_refusal_text(255)) != 0);
 }

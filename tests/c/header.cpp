@@ -10,5 +10,10 @@ int main()
     uint64_t copied = searchroom_copy(bytes, sizeof bytes, blank, sizeof blank, order, sizeof order, output, sizeof output);
     const uint8_t text[] = {'c', '0', ' ', 'b', 'l', 'a', 'n', 'k'};
     uint64_t typed = searchroom_typed(bytes, sizeof bytes, text, sizeof text, output, sizeof output);
-    return searchroom_columns(checked) == 1 && copied == SEARCHROOM_ACCEPTED && searchroom_written(typed) == 5 ? 0 : 1;
+    uint8_t listed[1], looks[1], tally[SEARCHROOM_TALLY_BYTES] = {0};
+    tally[15] = 9;
+    uint64_t ran = searchroom_run(bytes, sizeof bytes, blank, sizeof blank, order, sizeof order, 1, listed, sizeof listed,
+                                  looks, sizeof looks, tally, sizeof tally);
+    bool counted = ran == SEARCHROOM_ACCEPTED && searchroom_tally_of(tally, 1) == 9;
+    return searchroom_columns(checked) == 1 && copied == SEARCHROOM_ACCEPTED && searchroom_written(typed) == 5 && counted ? 0 : 1;
 }

@@ -74,6 +74,7 @@ int main(void)
     catalogue_cases();
     question_cases();
     run_cases();
+    readers_cases();
     blocks_cases();
     copy_cases();
     typed_cases();

@@ -16,8 +16,7 @@ use std::fmt;
 /// assert_eq!([tally.of(2), tally.of(3), tally.of(16)], [Some(0), Some(1), None]);
 ///
 /// let kept: Vec<u8> = tally.bytes().to_vec();
-/// let read: [u8; Tally::BYTES] = kept.try_into().expect("128 bytes");
-/// assert_eq!(Tally::from(read), tally);
+/// assert_eq!(Tally::from_bytes(kept.try_into().expect("128 bytes")), tally);
 /// # Ok::<(), searchroom::Refusal>(())
 /// ```
 #[derive(Clone, PartialEq, Eq)]
@@ -32,6 +31,10 @@ impl Tally {
 
     /// The bytes of a tally.
     pub const BYTES: usize = Tally::READERS as usize * NUMBER;
+
+    pub fn from_bytes(bytes: [u8; Tally::BYTES]) -> Tally {
+        Tally(bytes)
+    }
 
     /// The number of a reader, if there is such a reader.
     pub fn of(&self, reader: u64) -> Option<u64> {
@@ -56,12 +59,6 @@ impl Default for Tally {
     /// Zeros.
     fn default() -> Tally {
         Tally([0; Tally::BYTES])
-    }
-}
-
-impl From<[u8; Tally::BYTES]> for Tally {
-    fn from(bytes: [u8; Tally::BYTES]) -> Tally {
-        Tally(bytes)
     }
 }
 

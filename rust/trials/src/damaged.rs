@@ -3,6 +3,8 @@ use generator::{
     Damage, MarkFault, Rng, catalogue_of, damage, encode_catalogue, faulty_mark, faulty_question, running_order,
 };
 
+use crate::{Run, any_reader, any_tally};
+
 /// The bytes of a catalogue: so many in a hundred damaged, and half as many with a fault of the mark.
 pub fn damaged_catalogue(rng: &mut Rng, made: &Catalogue, percent: usize) -> Vec<u8> {
     let mut bytes = encode_catalogue(made);
@@ -50,6 +52,24 @@ impl Damaged {
             damage_order(rng, &mut order);
         }
         Damaged { catalogue, question, order, entries, conditions }
+    }
+
+    /// A run of these with tables, a reader and a tally that mostly fit.
+    pub fn run(self, rng: &mut Rng) -> Run {
+        let Damaged { catalogue, question, order, entries, conditions } = self;
+        let mut table = |fit: usize| {
+            let length = match rng.below(20) {
+                0 => fit.saturating_sub(1),
+                1..4 => fit + rng.below(9),
+                _ => fit,
+            };
+            rng.bytes(length)
+        };
+        let row = entries.div_ceil(8);
+        let (listed, looks) = (table(row), table(row * conditions));
+        let reader = any_reader(rng, 5);
+        let tally = any_tally(rng, reader, 5);
+        Run { catalogue, question, order, reader, listed, looks, tally }
     }
 }
 

@@ -8,7 +8,7 @@ pub const NO_READERS: [u64; 10] =
     [16, 17, 1 << 8, 1 << 32, (1 << 32) + 3, 1 << 61, (1 << 61) + 1, 1 << 63, u64::MAX - 15, u64::MAX];
 
 /// Lengths that are no tally's.
-pub const NO_TALLIES: [usize; 10] = [0, 1, 7, 8, 9, 120, 127, 129, 136, 256];
+const NO_TALLIES: [usize; 10] = [0, 1, 7, 8, 9, 120, 127, 129, 136, 256];
 
 /// The bytes of the tally that has these numbers, one for each reader.
 pub fn tally_of(numbers: [u64; READERS]) -> Vec<u8> {

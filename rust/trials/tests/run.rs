@@ -6,8 +6,8 @@ use generator::{
 };
 use searchroom::{Refusal, Tally, consult};
 use trials::{
-    Damaged, NO_TALLIES, OUTSIDE_THE_CENTURY, PARISH_CATALOGUE, PARISH_ORDER, PARISH_QUESTION, Run, Seen, any_reader,
-    any_tally, compare_run, marked_parish, tally_with,
+    Damaged, OUTSIDE_THE_CENTURY, PARISH_CATALOGUE, PARISH_ORDER, PARISH_QUESTION, Run, Seen, compare_run,
+    marked_parish, tally_with,
 };
 
 /// One entry for each pattern of `count` outcomes: condition c is met at entry e exactly if bit c of e is one.
@@ -171,44 +171,6 @@ fn tables_of_every_length() {
 }
 
 #[test]
-fn proved_case_11_and_other_tallies() {
-    let with = |number| Run { tally: tally_with(0, number), ..Run::parish(PARISH_ORDER) };
-    // The parish's run has six looks.
-    for (tally, fits) in [
-        (0, true),
-        (1, true),
-        (250, true),
-        (0x00FF_FFFF_FFFF_FFFF, true),
-        (u64::MAX - 7, true),
-        (u64::MAX - 6, true),
-        (u64::MAX - 5, false),
-        (u64::MAX - 1, false),
-        (u64::MAX, false),
-    ] {
-        let ran = compare_run(&format!("tally {tally}"), &with(tally));
-        if fits {
-            assert_eq!((ran.word, ran.tally), (pack(2, 0, 6), tally_with(0, tally + 6)), "tally {tally}");
-        } else {
-            assert_eq!(ran.word, refused(17), "tally {tally}");
-        }
-    }
-    let one = Run {
-        catalogue: vec![67, 0, 3, 0, 1, 1, 78, 0, 4, 0, 0, 0, 0],
-        question: field(80, &[0, 1]),
-        order: vec![0],
-        looks: vec![0],
-        ..with(u64::MAX)
-    };
-    assert_eq!(compare_run("P11", &one).word, refused(17));
-    for length in NO_TALLIES {
-        for byte in [0, 255] {
-            let given = Run { tally: vec![byte; length], ..Run::parish(PARISH_ORDER) };
-            assert_eq!(compare_run(&format!("tally of {length} bytes"), &given).word, refused(17));
-        }
-    }
-}
-
-#[test]
 fn earlier_of_two_refusals_decides() {
     let sound = Run::parish(PARISH_ORDER);
     let mut worse = Run { tally: vec![0; 8], ..sound.clone() };
@@ -367,18 +329,7 @@ fn random_and_damaged_runs_reach_every_refusal() {
     let mut seen = Seen::none();
     for seed in 0..30_000 {
         let mut rng = Rng::new(seed);
-        let Damaged { catalogue, question, order, entries, conditions } = Damaged::new(&mut rng);
-        let row = entries.div_ceil(8);
-        let length = |rng: &mut Rng, fit: usize| match rng.below(20) {
-            0 => fit.saturating_sub(1),
-            1..4 => fit + rng.below(9),
-            _ => fit,
-        };
-        let (listed, looks) = (length(&mut rng, row), length(&mut rng, row * conditions));
-        let (listed, looks) = (rng.bytes(listed), rng.bytes(looks));
-        let reader = any_reader(&mut rng, 5);
-        let tally = any_tally(&mut rng, reader, 5);
-        let given = Run { catalogue, question, order, reader, listed, looks, tally };
+        let given = Damaged::new(&mut rng).run(&mut rng);
         seen.count(compare_run(&format!("seed {seed}"), &given).word);
     }
     seen.assert_each(0..=17, 10);
