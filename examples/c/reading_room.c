@@ -18,9 +18,9 @@ typedef struct {
     size_t len;
 } File;
 
-/* How much the catalogue and the question hold. */
+/* How much a catalogue and a question hold; the entries that are present are those not withdrawn. */
 typedef struct {
-    unsigned entries, columns, present, conditions; /* present: not withdrawn */
+    unsigned entries, columns, present, conditions;
 } Size;
 
 /* Reads a file of the folder; ends the program where it cannot be read. Of a catalogue it reads the most columns and the longest
@@ -79,11 +79,11 @@ static unsigned withdrawn(File catalogue, unsigned entries, unsigned columns)
 }
 
 /* Prints the number of entries and columns, and of withdrawn entries if there are any. */
-static void print_size(Size size)
+static void print_size(unsigned entries, unsigned columns, unsigned present)
 {
-    printf("%u entries in %u columns", size.entries, size.columns);
-    if (size.present < size.entries)
-        printf(", %u withdrawn", size.entries - size.present);
+    printf("%u entries in %u columns", entries, columns);
+    if (present < entries)
+        printf(", %u withdrawn", entries - present);
     printf("\n");
 }
 
@@ -121,15 +121,21 @@ static void print_copy(const uint8_t *copy, size_t len)
     }
 }
 
-/* The reader that a word names: a number in decimal. Ends the program where it is none. A number over 2^64 - 1 becomes that one,
-   and the engine says that there is no such reader. */
-static uint64_t reader_named(const char *word)
+/* Is the word a number in decimal? */
+static int is_number(const char *word) { return *word != '\0' && word[strspn(word, "0123456789")] == '\0'; }
+
+/* Checks the catalogue and the question, and prints how much the catalogue holds. */
+static Size check(File catalogue, File question)
 {
-    if (*word == '\0' || word[strspn(word, "0123456789")] != '\0') {
-        fprintf(stderr, "%s: the reader is a number\n", word);
-        exit(2);
-    }
-    return strtoull(word, NULL, 10);
+    Size size;
+    uint64_t word = accepted("catalogue", searchroom_check_catalogue(catalogue.bytes, catalogue.len));
+    size.entries = searchroom_entries(word);
+    size.columns = searchroom_columns(word);
+    size.present = size.entries - withdrawn(catalogue, size.entries, size.columns);
+    print_size(size.entries, size.columns, size.present);
+    word = accepted("question", searchroom_check_question(catalogue.bytes, catalogue.len, question.bytes, question.len));
+    size.conditions = searchroom_conditions(word);
+    return size;
 }
 
 /* Runs the question for the reader and prints what was found, and the reader's number in a tally that starts at zeros. */
@@ -156,25 +162,20 @@ static void copy(File catalogue, File question, File order)
 
 int main(int argc, char **argv)
 {
-    if (argc != 2 && argc != 3) {
+    if (argc < 2 || argc > 3 || (argc == 3 && !is_number(argv[2]))) {
         fprintf(stderr, "usage: %s FOLDER [READER]\n", argv[0]);
         return 2;
     }
-    uint64_t reader = argc == 3 ? reader_named(argv[2]) : 0;
+    /* A number over 2^64 - 1 becomes that one, which is no reader's either. */
+    uint64_t reader = argc == 3 ? strtoull(argv[2], NULL, 10) : 0;
     File catalogue = read_file(argv[1], "catalogue.bin");
     File question = read_file(argv[1], "question.bin");
     File order = read_file(argv[1], "order.bin");
 
-    uint64_t holds = accepted("catalogue", searchroom_check_catalogue(catalogue.bytes, catalogue.len));
-    Size size = {searchroom_entries(holds), searchroom_columns(holds), 0, 0};
-    size.present = size.entries - withdrawn(catalogue, size.entries, size.columns);
-    print_size(size);
-    uint64_t asks = accepted("question", searchroom_check_question(catalogue.bytes, catalogue.len,
-                                                                   question.bytes, question.len));
-    size.conditions = searchroom_conditions(asks);
-
+    Size size = check(catalogue, question);
     run(catalogue, question, order, reader, size);
     copy(catalogue, question, order);
+
     free(catalogue.bytes);
     free(question.bytes);
     free(order.bytes);

@@ -32,6 +32,7 @@ impl Tally {
     /// The bytes of a tally.
     pub const BYTES: usize = Tally::READERS as usize * NUMBER;
 
+    /// The tally that has these bytes.
     pub fn from_bytes(bytes: [u8; Tally::BYTES]) -> Tally {
         Tally(bytes)
     }
@@ -41,6 +42,7 @@ impl Tally {
         self.numbers().nth(reader.try_into().ok()?)
     }
 
+    /// The bytes, as [`run`](crate::run) is lent them.
     pub fn bytes(&self) -> &[u8; Tally::BYTES] {
         &self.0
     }
@@ -62,9 +64,9 @@ impl Default for Tally {
     }
 }
 
-/// The sixteen numbers.
+/// Shows the sixteen numbers.
 impl fmt::Debug for Tally {
     fn fmt(&self, f: &mut fmt::Formatter<'_>) -> fmt::Result {
-        f.debug_list().entries(self.numbers()).finish()
+        f.debug_tuple("Tally").field(&self.numbers().collect::<Vec<_>>()).finish()
     }
 }

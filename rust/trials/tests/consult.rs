@@ -80,7 +80,7 @@ fn ends_of_the_mark() {
     assert_eq!(consult("entries 0, 7, 8 and 9 withdrawn", &catalogue, &field(80, &[0, 129]), &[0]), expected);
 }
 
-/// The tally starts at zero in each consultation, and none leaves anything behind.
+/// The tally starts at zeros in each consultation, and none leaves anything behind.
 #[test]
 fn consulting_again_prints_the_same() {
     let room = parish();

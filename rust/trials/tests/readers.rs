@@ -4,7 +4,7 @@
 
 use evaluator::{Catalogue, Column, Ran, pack, refused};
 use generator::{Rng, catalogue_of, encode_catalogue, field, question, running_order};
-use searchroom::{Refusal, Tally, consult};
+use searchroom::{Consultation, Refusal, Tally};
 use trials::{
     Damaged, FILL, NO_READERS, PARISH_CATALOGUE, PARISH_ORDER, PARISH_QUESTION, READERS, Run, Seen, compare_run, fewer,
     look_count, marked_parish, seeds, tally_of, tally_with,
@@ -29,6 +29,11 @@ fn asking(entries: usize) -> Run {
         looks: row,
         ..Run::parish(&[0])
     }
+}
+
+/// Consults the parish as a user of the wrapper does.
+fn consult(order: &[u8], reader: u64, tally: &mut Tally) -> Result<Consultation, Refusal> {
+    searchroom::consult(PARISH_CATALOGUE, PARISH_QUESTION, order, reader, tally)
 }
 
 /// Makes the run, which must be refused with this number and alter nothing.
@@ -223,25 +228,27 @@ fn sums_over_a_sequence_of_runs() {
     assert!(sums.iter().all(|&sum| sum > runs / 16), "some reader has few looks: {sums:?}");
 }
 
-/// Numbers that soon can grow no more, beside others that can: a run that would pass one leaves all as they were.
+/// Numbers that soon can grow no more: a run that would pass one leaves all as they were.
 #[test]
 fn sums_up_to_full_over_a_sequence_of_runs() {
-    let runs = seeds(2_000).end;
-    let mut rng = Rng::new(2);
-    let near = [(); READERS].map(|()| u64::MAX - rng.below(400) as u64);
+    let (runs, mut rng) = (seeds(2_000).end, Rng::new(2));
+    let near = [(); READERS].map(|()| u64::MAX - rng.between(50, 400) as u64);
     let Sequence { sums, seen, .. } = Sequence::of(runs, 2, near);
-    seen.assert_each(17..=17, runs as u32 / 20);
-    assert!(sums.iter().zip(&near).all(|(sum, start)| sum > start), "some reader was refused from the start: {sums:?}");
-    let mut beside = [0; READERS];
-    beside.iter_mut().step_by(2).for_each(|number| *number = u64::MAX);
-    let Sequence { sums, .. } = Sequence::of(runs, 3, beside);
-    assert!((0..READERS).all(|reader| (sums[reader] == u64::MAX) == (reader % 2 == 0)), "{sums:?}");
+    seen.assert_each(17..=17, runs as u32 / 10);
+    assert!(sums.iter().zip(&near).all(|(sum, start)| sum > start), "{sums:?} from {near:?} on");
+}
+
+/// Every second number is full and stays so, the others grow from zero.
+#[test]
+fn sums_beside_full_numbers_over_a_sequence_of_runs() {
+    let mut full = [0; READERS];
+    full.iter_mut().step_by(2).for_each(|number| *number = u64::MAX);
+    let Sequence { sums, .. } = Sequence::of(seeds(2_000).end, 3, full);
+    assert!(sums.iter().zip(full).all(|(&sum, start)| (sum == u64::MAX) == (start == u64::MAX) && sum > 0), "{sums:?}");
 }
 
 #[test]
 fn wrapper_adds_to_its_readers_number() {
-    let consult =
-        |order: &[u8], reader, tally: &mut Tally| consult(PARISH_CATALOGUE, PARISH_QUESTION, order, reader, tally);
     let mut tally = Tally::default();
     assert_eq!(tally.bytes(), &[0; Tally::BYTES]);
     for (reader, sum) in [(15, 6), (0, 6), (15, 12), (3, 6)] {
@@ -250,7 +257,7 @@ fn wrapper_adds_to_its_readers_number() {
     }
     let sums = [6, 0, 0, 6, 0, 0, 0, 0, 0, 0, 0, 0, 0, 0, 0, 12];
     assert_eq!(tally.bytes().as_slice(), tally_of(sums));
-    assert_eq!(format!("{tally:?}"), format!("{sums:?}"));
+    assert_eq!(format!("{tally:?}"), format!("Tally({sums:?})"));
     for (order, reader, refusal) in [
         (PARISH_ORDER, 16, Refusal::NoSuchReader),
         (PARISH_ORDER, u64::MAX, Refusal::NoSuchReader),
@@ -269,11 +276,10 @@ fn wrapper_refuses_a_full_number() {
     let with = |number| Tally::from_bytes(tally_with(9, number).try_into().expect("128 bytes"));
     let mut tally = with(u64::MAX - LOOKS + 1);
     let before = tally.clone();
-    let refused = consult(PARISH_CATALOGUE, PARISH_QUESTION, PARISH_ORDER, 9, &mut tally);
-    assert_eq!((refused, &tally), (Err(Refusal::BadTally), &before));
-    assert!(consult(PARISH_CATALOGUE, PARISH_QUESTION, PARISH_ORDER, 8, &mut tally).is_ok());
+    assert_eq!((consult(PARISH_ORDER, 9, &mut tally), &tally), (Err(Refusal::BadTally), &before));
+    assert!(consult(PARISH_ORDER, 8, &mut tally).is_ok());
     assert_eq!([8, 9, 10].map(|reader| tally.of(reader)), [Some(LOOKS), before.of(9), Some(0)]);
     let mut tally = with(u64::MAX - LOOKS);
-    assert!(consult(PARISH_CATALOGUE, PARISH_QUESTION, PARISH_ORDER, 9, &mut tally).is_ok());
+    assert!(consult(PARISH_ORDER, 9, &mut tally).is_ok());
     assert_eq!(tally, with(u64::MAX));
 }
