@@ -231,8 +231,8 @@ fn sums_over_a_sequence_of_runs() {
 /// Numbers that soon can grow no more: a run that would pass one leaves all as they were.
 #[test]
 fn sums_up_to_full_over_a_sequence_of_runs() {
-    let (runs, mut rng) = (seeds(2_000).end, Rng::new(2));
-    let near = [(); READERS].map(|()| u64::MAX - rng.between(50, 400) as u64);
+    let (runs, mut rng) = (seeds(4_000).end, Rng::new(2));
+    let near = [(); READERS].map(|()| u64::MAX - rng.between(20, 60) as u64);
     let Sequence { sums, seen, .. } = Sequence::of(runs, 2, near);
     seen.assert_each(17..=17, runs as u32 / 10);
     assert!(sums.iter().zip(&near).all(|(sum, start)| sum > start), "{sums:?} from {near:?} on");
@@ -243,7 +243,7 @@ fn sums_up_to_full_over_a_sequence_of_runs() {
 fn sums_beside_full_numbers_over_a_sequence_of_runs() {
     let mut full = [0; READERS];
     full.iter_mut().step_by(2).for_each(|number| *number = u64::MAX);
-    let Sequence { sums, .. } = Sequence::of(seeds(2_000).end, 3, full);
+    let Sequence { sums, .. } = Sequence::of(seeds(4_000).end, 3, full);
     assert!(sums.iter().zip(full).all(|(&sum, start)| (sum == u64::MAX) == (start == u64::MAX) && sum > 0), "{sums:?}");
 }
 
