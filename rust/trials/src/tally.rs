@@ -24,10 +24,12 @@ pub fn tally_with(reader: usize, number: u64) -> Vec<u8> {
 
 /// Any reader; in so many cases of a hundred a number that is no reader's.
 pub fn any_reader(rng: &mut Rng, percent: usize) -> u64 {
-    match rng.chance(percent) {
-        false => rng.below(READERS) as u64,
-        true if rng.chance(10) => rng.next_u64(),
-        true => *rng.pick(&NO_READERS),
+    if !rng.chance(percent) {
+        rng.below(READERS) as u64
+    } else if rng.chance(10) {
+        rng.next_u64()
+    } else {
+        *rng.pick(&NO_READERS)
     }
 }
 
