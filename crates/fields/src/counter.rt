@@ -19,7 +19,7 @@ pub struct Tally;
 impl Tally {
     pub const READERS: u64 = 16;
 
-    pub const SIZE: usize = 16 * Counter::SIZE;
+    pub const SIZE: usize = Tally::READERS as usize * Counter::SIZE;
 }
 
 // The number of the eight bytes at a place; summed from the low half on, which compiles to one load.

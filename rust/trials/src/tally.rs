@@ -38,7 +38,7 @@ pub fn any_reader(rng: &mut Rng, percent: usize) -> u64 {
 pub fn any_tally(rng: &mut Rng, reader: u64, percent: usize) -> Vec<u8> {
     let mut numbers = [(); READERS].map(|()| rng.next_u64());
     if rng.chance(percent) {
-        let beside = reader as usize + rng.pick(&[0, 0, 1, READERS - 1]);
+        let beside = reader as usize % READERS + rng.pick(&[0, 0, 1, READERS - 1]);
         numbers[beside % READERS] = u64::MAX - rng.below(40) as u64;
     }
     let mut tally = tally_of(numbers);
