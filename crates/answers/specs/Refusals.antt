@@ -10,8 +10,8 @@ abbrev pub tableTooShort : ℕ
 tableTooShort = 16
 
 -- order 7: "Refusal 17 is for a tally not of 128 bytes or a sum too large for this reader"
-abbrev pub counterRefused : ℕ
-counterRefused = 17
+abbrev pub tallyRefused : ℕ
+tallyRefused = 17
 
 -- "18, no such entry or condition"
 abbrev pub noSuchRowOrPredicate : ℕ

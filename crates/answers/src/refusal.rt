@@ -6,7 +6,7 @@ impl Refusal {
 
     pub const TABLE_TOO_SHORT: u8 = 16;
 
-    pub const COUNTER_REFUSED: u8 = 17;
+    pub const TALLY_REFUSED: u8 = 17;
 
     pub const NO_SUCH_ROW_OR_PREDICATE: u8 = 18;
 

@@ -84,7 +84,7 @@ module _ (C : Catalogue) where
   pub withdrawn-unmarked : C .mark ≡ unmarked → (row : ℕ) → isWithdrawn C row ≡ false
   withdrawn-unmarked h row = rw h (bit-past [] row (omega arith))
 
--- WHAT THE READER FINDS
+-- WHAT THE READING FINDS
 
 -- a mark with every check passed
 pub mark-whole : (b : List ℕ) (rows at tag start end : ℕ) (h : Header) → h ≡ headerAt b at (length b) → h ≡ Field tag start end → (at ≡ length b → ⊥) → getD b at 0 ≡ markTag

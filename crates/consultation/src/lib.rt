@@ -1,6 +1,6 @@
 // One consultation: a run of reader 0 with the tally at zero, and its register.
+use answers::tally::Tally;
 use bitmaps::copy::Line;
-use fields::counter::Tally;
 use query::format::Predicate;
 ghost use Prim.Native.Nat.{_≤_};
 ghost use lib.ListN.{length};

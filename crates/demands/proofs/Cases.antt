@@ -4,14 +4,14 @@ use native.Mathlib.Nat.{mul-zero}
 use native.Mathlib.Omega.{arith}
 use mathlib.Core.Path.{_≡_, refl, sym, ap, _∙_}
 use mathlib.Core.Bool.{Bool, true, xor}
-use mathlib.Core.List.{List, [], _++_, append-assoc}
-use lib.ListN.{length, take, drop, take-append-drop}
+use mathlib.Core.List.{List, []}
+use lib.ListN.{length}
 use lib.Dec.{eqb, ltb}
 use lib.Count.{ones, onesIn as digitOnes}
 use Rattle.fields.specs.Decoded.{Decoded, refused, accepted}
 use Rattle.fields.specs.Numbers.{numberAt, bytesOf, Bytes}
-use Rattle.fields.proofs.Laws.{length-bytes}
-use Rattle.fields.proofs.Written.{number-written, number-small}
+use Rattle.fields.proofs.PlaceLaws.{put-same}
+use Rattle.fields.proofs.Written.{number-small}
 use Rattle.fields.specs.Header.{headerAt}
 use Rattle.catalogue.specs.Catalogue.{Catalogue}
 use Rattle.slots.specs.Slots.{textAt, textsAt, zerosAt, validSlot, validSlots}
@@ -36,8 +36,9 @@ use Rattle.input.specs.Input.{Input, withQuery, decodeInput}
 use Rattle.answers.specs.Checks.{checked}
 use Rattle.answers.specs.declared.word.Answer.the-variants.{Refused, Accepted}
 use Rattle.answers.specs.Word.{packed}
-use Rattle.demands.specs.Run.{lent, ran, rowCount, predicateCount, taskOf, selection, probeBitmaps, tablesFit, counterSize, readerLimit, tallySize, counterPlace, counterAt, tallyAfter, counterFits, runOn, runOf}
+use Rattle.demands.specs.Run.{lent, ran, rowCount, predicateCount, taskOf, selection, probeBitmaps, tablesFit, counterSize, readerLimit, tallySize, counterPlace, counterAt, tallyAfter, tallyFits, runOn, runOf}
 use Rattle.demands.specs.Parish.{parish, yearBlank, both as bothMembers, question, nested}
+use Rattle.demands.specs.Demands.{IsReader}
 use Rattle.demands.specs.Cases.{Holds, questionCheck, findsNothing, noRows, oneRow, cases, AllHold}
 use Rattle.demands.proofs.CaseInputs.{parish-input, both-input, one-input, run-on}
 
@@ -56,19 +57,14 @@ its-catalogue C (refused e) i h = let z : _≡_ {A = ℕ} 0 1 = cc in absurd (om
 its-catalogue C (accepted Q) i h = let z : record { catalogue = C; query = Q } ≡ i = cc in ap (λ (j : Input). j .catalogue) (sym z)
 
 -- a tally to which nothing is added
-same-tally : (tally : List ℕ) (reader : ℕ) → Bytes tally → length tally ≡ tallySize → reader < readerLimit
-    → (counterFits tally reader 0 ≡ true) × (tallyAfter tally reader 0 ≡ tally)
+same-tally : (tally : List ℕ) (reader : ℕ) → Bytes tally → length tally ≡ 128 → IsReader reader
+    → (tallyFits tally reader 0 ≡ true) × (tallyAfter tally reader 0 ≡ tally)
 same-tally tally reader bytes n l =
-    let at : ℕ = counterPlace reader in
     let number : ℕ = counterAt tally reader in
     let z : number + 0 ≡ number = omega arith in
     let size : eqb (length tally) tallySize ≡ true = rw n in
-    let sum : ltb (number + 0) (2 ^ 64) ≡ true = ltb-yes (number + 0) (2 ^ 64) (omega (arith, number-small tally bytes at counterSize)) in
-    let whole : drop at tally ≡ bytesOf counterSize number ++ drop (at + counterSize) tally = number-written tally bytes at counterSize (omega arith) in (
-      both size sum,
-      rw (z, length-bytes counterSize number) (append-assoc (take at tally) (bytesOf counterSize number) (drop (at + counterSize) tally)
-          ∙ ap (λ (rest : List ℕ). take at tally ++ rest) (sym whole) ∙ take-append-drop at tally),
-    )
+    let sum : ltb (number + 0) (2 ^ 64) ≡ true = ltb-yes (number + 0) (2 ^ 64) (omega (arith, number-small tally bytes (counterPlace reader) counterSize)) in
+    (both size sum, rw z (put-same (counterPlace reader) counterSize tally bytes (omega arith)))
 
 -- a run over no rows
 module _ (i : Input) (b q order : List ℕ) (reader : ℕ) (listed looks tally : List ℕ) (z : rowCount i ≡ 0) where
@@ -85,12 +81,12 @@ module _ (i : Input) (b q order : List ℕ) (reader : ℕ) (listed looks tally :
       let y : bytesFor (rowCount i) ≡ 0 = rw z in
       rw (y, mul-zero (predicateCount i)) (both (leb-yes 0 (length listed) (omega arith)) (leb-yes 0 (length looks) (omega arith)))
 
-  no-rows-run : isOrder (predicateCount i) order ≡ true → reader < readerLimit → Bytes tally → length tally ≡ tallySize
+  no-rows-run : isOrder (predicateCount i) order ≡ true → IsReader reader → Bytes tally → length tally ≡ 128
       → runOn i (lent b q order reader listed looks tally) ≡ ran (packed (Accepted 0 0 0)) listed looks tally
   unfolding runOn checked onesIn
   no-rows-run o l bytes n =
       let t = same-tally tally reader bytes n l in
-      rw (o, tables-fit, no-selection, no-probes, ltb-yes reader readerLimit l, t .0, t .1)
+      rw (o, tables-fit, no-selection, no-probes, ltb-yes reader readerLimit (omega arith), t .0, t .1)
 
 finds-nothing : Holds (findsNothing noRows)
 unfolding numberAt headerAt numbersAt countsAt firstFieldOf columnOf columnsAt markFieldAt decodeCatalogue decodeInput runOf

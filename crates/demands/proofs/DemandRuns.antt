@@ -14,9 +14,9 @@ use Rattle.bitmaps.specs.Bitmap.{bytesFor}
 use Rattle.rows.specs.Task.{isSelected}
 use Rattle.input.specs.Input.{Input}
 use Rattle.answers.specs.declared.word.Answer.the-variants.{Refused, Accepted}
-use Rattle.answers.specs.Refusals.{notOrder, tableTooShort, noSuchReader, counterRefused}
+use Rattle.answers.specs.Refusals.{notOrder, tableTooShort, noSuchReader, tallyRefused}
 use Rattle.answers.specs.Checks.{checked}
-use Rattle.demands.specs.Run.{Lent, rowCount, predicateCount, taskOf, foundCount, lookCount, readerLimit, counterAt, tablesFit, counterFits, accept, refuse, runOn, runOf}
+use Rattle.demands.specs.Run.{Lent, rowCount, predicateCount, taskOf, foundCount, lookCount, readerLimit, counterAt, tablesFit, tallyFits, accept, refuse, runOn, runOf}
 use Rattle.demands.specs.Demands.{Gives, InBytes, after, Reads, FormBroken, RunningOrder, TablesFit, IsReader, TallyFits, Kept, FirstBroken, badForm, badOrder, badTables, badReader, badTally}
 use Rattle.demands.proofs.DemandLaws.{reads-input, broken-input, input-cases, broken-range, unpacked}
 use Rattle.demands.proofs.DemandTables.{count-le, order-plain, found-count, look-count-le}
@@ -41,11 +41,11 @@ is-reader : (reader : ℕ) → ltb reader readerLimit ≡ true → IsReader read
 is-reader reader h = omega (arith, ltb-lt reader readerLimit h)
 
 module _ (i : Input) (order : List ℕ) (reader : ℕ) (tally : List ℕ) where
-  tally-yes : TallyFits i order reader tally → counterFits tally reader (lookCount (taskOf i order)) ≡ true
+  tally-yes : TallyFits i order reader tally → tallyFits tally reader (lookCount (taskOf i order)) ≡ true
   tally-yes t =
       both (ap (λ (k : ℕ). eqb k 128) (t .0) ∙ eqb-self 128) (ltb-yes (counterAt tally reader + lookCount (taskOf i order)) (2 ^ 64) (t .1))
 
-  tally-fits : counterFits tally reader (lookCount (taskOf i order)) ≡ true → TallyFits i order reader tally
+  tally-fits : tallyFits tally reader (lookCount (taskOf i order)) ≡ true → TallyFits i order reader tally
   tally-fits h =
       let p = and-parts (eqb (length tally) 128) (ltb (counterAt tally reader + lookCount (taskOf i order)) (2 ^ 64)) h in
       (eqb-eq (length tally) 128 (p .0), ltb-lt (counterAt tally reader + lookCount (taskOf i order)) (2 ^ 64) (p .1))
@@ -88,7 +88,7 @@ module _ (l : Lent) where
         order-plain (predicateCount i) (l .request .order) .1 o,
         tables-yes i (l .listed) (l .looks) t,
         reader-yes (l .reader) k,
-        not-true (counterFits (l .tally) (l .reader) (lookCount (taskOf i (l .request .order)))) (λ h. n (tally-fits i (l .request .order) (l .reader) (l .tally) h)),
+        not-true (tallyFits (l .tally) (l .reader) (lookCount (taskOf i (l .request .order)))) (λ h. n (tally-fits i (l .request .order) (l .reader) (l .tally) h)),
         z,
       )
 
@@ -107,13 +107,13 @@ module _ (l : Lent) where
   run-cases bytes = forms (input-cases (l .request .catalogue) (l .request .question) (bytes .0) (bytes .1))
     where
       counter : (i : Input) → Reads (l .request .catalogue) (l .request .question) i → RunningOrder i (l .request .order) → TablesFit i (l .listed) (l .looks)
-          → IsReader (l .reader) → (b : Bool) → counterFits (l .tally) (l .reader) (lookCount (taskOf i (l .request .order))) ≡ b → Cases
+          → IsReader (l .reader) → (b : Bool) → tallyFits (l .tally) (l .reader) (lookCount (taskOf i (l .request .order))) ≡ b → Cases
       counter i r o t k true h = inl (i, record { forms = r; order = o; tables = t; reader = k; tally = tally-fits i (l .request .order) (l .reader) (l .tally) h })
-      counter i r o t k false h = inr (counterRefused, badTally i r o t k (λ y. clash (tally-yes i (l .request .order) (l .reader) (l .tally) y) h) refl)
+      counter i r o t k false h = inr (tallyRefused, badTally i r o t k (λ y. clash (tally-yes i (l .request .order) (l .reader) (l .tally) y) h) refl)
 
       readers : (i : Input) → Reads (l .request .catalogue) (l .request .question) i → RunningOrder i (l .request .order) → TablesFit i (l .listed) (l .looks)
           → (b : Bool) → ltb (l .reader) readerLimit ≡ b → Cases
-      readers i r o t true h = counter i r o t (is-reader (l .reader) h) (counterFits (l .tally) (l .reader) (lookCount (taskOf i (l .request .order)))) refl
+      readers i r o t true h = counter i r o t (is-reader (l .reader) h) (tallyFits (l .tally) (l .reader) (lookCount (taskOf i (l .request .order)))) refl
       readers i r o t false h = inr (noSuchReader, badReader i r o t (λ y. clash (reader-yes (l .reader) y) h) refl)
 
       tables : (i : Input) → Reads (l .request .catalogue) (l .request .question) i → RunningOrder i (l .request .order) → (b : Bool) → fits i (l .listed) (l .looks) ≡ b → Cases

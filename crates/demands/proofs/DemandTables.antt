@@ -6,8 +6,8 @@ use mathlib.Core.Path.{_≡_, refl, sym, ap, _∙_, subst}
 use mathlib.Core.Bool.{Bool, true, false, not, _&&_, _||_, cond}
 use mathlib.Core.Logic.{_↔_, _⊎_, inl, inr}
 use mathlib.Core.List.{List, [], _∷_, _++_}
-use lib.ListN.{length, take, drop, length-drop}
-use lib.Seq.{take-append-seam, drop-append-seam, take-append-le, drop-append-le}
+use lib.ListN.{length, take, drop}
+use lib.Seq.{take-append-seam, drop-append-seam}
 use lib.Dec.{eqb}
 use Rattle.bools.specs.Bools.{both, not-of-true, and-parts, eqb-eq, eqb-self, eqb-ne, same?, ltb-yes, ltb-no}
 use Rattle.strategy.specs.Assignment.{Assignment, Among, elem, Once}
@@ -20,6 +20,7 @@ use Rattle.strategy.specs.TraceLaws.{trace-among, trace-once, trace-due}
 use Rattle.bitmaps.specs.Sums.{sumOf, digit, countOf}
 use Rattle.bitmaps.specs.SumLaws.{sum-same, sum-added, sum-zero, count-same}
 use Rattle.fields.specs.Output.{putFront}
+use Rattle.fields.proofs.OutputLaws.{part-of-front}
 use Rattle.bitmaps.specs.Bitmap.{bytesFor, bitmap}
 use Rattle.bitmaps.specs.Bit.{bit}
 use Rattle.bitmaps.specs.BitmapLaws.{bitmap-length, bitmap-bytes, bitmap-bit, bitmap-ones, bitmaps-length, bitmaps-line, bitmaps-ones}
@@ -111,10 +112,7 @@ module _ (new old : List ℕ) (s : ℕ) (e : length new ≡ s) where
   front-old = ap (λ (k : ℕ). drop k (putFront new old)) (sym e) ∙ drop-append-seam new (drop (length new) old) ∙ ap (λ (k : ℕ). drop k old) e
 
 pub front-line : (new old : List ℕ) (s n c : ℕ) → length new ≡ n * s → c < n → take s (drop (c * s) (putFront new old)) ≡ take s (drop (c * s) new)
-front-line new old s n c e l =
-    let fits : c * s + s ≤ n * s = omega (arith, mul-le-mul-right s l) in
-    ap (take s) (drop-append-le (c * s) new (drop (length new) old) (omega arith))
-    ∙ take-append-le s (drop (c * s) new) (drop (length new) old) (omega (arith, length-drop (c * s) new))
+front-line new old s n c e l = part-of-front new (drop (length new) old) (c * s) s (omega (arith, mul-le-mul-right s l))
 
 -- ORDERS AND LOOKS
 

@@ -6,12 +6,15 @@ use mathlib.Core.Path.{_≡_, refl, sym, ap, _∙_, subst}
 use mathlib.Core.Bool.{Bool, true, false, not, _&&_, cond}
 use mathlib.Core.Logic.{_↔_, _⊎_, inl, inr}
 use mathlib.Core.List.{List, [], _∷_}
-use lib.ListN.{length, take, drop}
+use lib.ListN.{length, take}
+use lib.Seq.{take-at}
 use lib.Dec.{ltb}
 use Rattle.fields.specs.Decoded.{Decoded, refused, accepted}
-use Rattle.fields.specs.Numbers.{bytesOf}
-use Rattle.fields.specs.Output.{putAt}
-use Rattle.fields.proofs.PlaceLaws.{put-front-stays, put-bytes, put-rest-stays, put-size, put-number, put-number-before, put-number-behind}
+use Rattle.fields.specs.Numbers.{bytesOf, Bytes}
+use Rattle.fields.proofs.ByteLaws.{bytes-number, bytes-put}
+use Rattle.fields.proofs.Laws.{length-bytes}
+use Rattle.fields.proofs.OutputLaws.{put-there, part-before, rest-behind, put-length}
+use Rattle.fields.proofs.PlaceLaws.{put-number}
 use Rattle.catalogue.specs.Catalogue.{marked, withMark, isWithdrawn}
 use Rattle.catalogue.specs.Encode.{encodeCatalogue}
 use Rattle.catalogue.specs.Formed.{FormedBits}
@@ -52,8 +55,8 @@ use Rattle.answers.specs.Refusals.{noSuchRowOrPredicate}
 use Rattle.answers.specs.Word.{packed}
 use Rattle.answers.specs.Answers.{questionAnswer, outcomeNumber, outcomeAnswer}
 use Rattle.answers.proofs.Outcomes.{outcome-small}
-use Rattle.demands.specs.Run.{Lent, rowCount, predicateCount, taskOf, selection, probeBitmaps, foundCount, lookCount, counterAt}
-use Rattle.demands.specs.Demands.{after, Reads, RunningOrder, lineBytes, Kept, FirstBroken, Present, ifPresent, pattern, treeValue, LineOf, listedLine, looksLine}
+use Rattle.demands.specs.Run.{Lent, rowCount, predicateCount, taskOf, selection, probeBitmaps, foundCount, lookCount, counterAt, tallyAfter}
+use Rattle.demands.specs.Demands.{after, Reads, RunningOrder, lineBytes, counterBytes, Kept, FirstBroken, Present, ifPresent, pattern, treeValue, LineOf, listedLine, looksLine}
 use Rattle.demands.specs.Demands.{Demand1CatalogueForm, Demand1QuestionForm, Demand1Payload, Demand1FormsWritten, Demand1WrittenOnce, Demand1Mark, Demand1AfterColumns, Demand1FrontToBack, Demand1Number, Demand1Refused, Demand1Accepted, Demand1Limits, Demand1Catalogue, Demand1Question, Demand1Outcome}
 use Rattle.demands.specs.Demands.{Gives, outcomeWord, Reads, conditionOf, Demand2Blank, Demand2AsNo, Demand2Opposite, Demand2AsBefore, Demand2Tree, Demand2Listed, Demand2Looks, Demand2Withdrawn, Demand2Further, Demand2Counts, Demand2Tally, Demand2OtherReaders, Demand3, Demand3Ours, Demand3Count, Demand3Run}
 use Rattle.demands.proofs.AfterColumns.{after-other, after-cut, after-bad, after-more, after-mark}
@@ -269,30 +272,38 @@ module _ (l : Lent) (i : Input) (k : Kept l i) where
   in-tally : place + 8 ≤ length (l .tally)
   in-tally = omega (arith, k .reader, k .tally .0)
 
-  left : after l .tally ≡ putAt place (bytesOf 8 sum) (l .tally)
-  left = ap (λ (s : _). s .tally) (kept-run l i k)
+  its-tally : after l .tally ≡ tallyAfter (l .tally) (l .reader) (lookCount (taskOf i (l .request .order)))
+  its-tally = ap (λ (s : _). s .tally) (kept-run l i k)
+
+  fits : place + length (bytesOf 8 sum) ≤ length (l .tally)
+  fits = omega (arith, in-tally, length-bytes 8 sum)
 
   grown : counterAt (after l .tally) (l .reader) ≡ sum
-  grown = rw left (put-number place 8 sum (l .tally) in-tally (omega (arith, k .tally .1)))
+  grown = rw its-tally (put-number place 8 sum (l .tally) in-tally (omega (arith, k .tally .1)))
 
-  others : (r : ℕ) → (r ≡ l .reader → ⊥) → (ltb r (l .reader) ≡ true) ⊎ (ltb r (l .reader) ≡ false) → counterAt (after l .tally) r ≡ counterAt (l .tally) r
-  others r ne (inl h) = rw left (put-number-before place 8 sum (l .tally) in-tally (r * 8) (omega (arith, ltb-lt r (l .reader) h)))
-  others r ne (inr h) = rw left (put-number-behind place 8 sum (l .tally) in-tally (r * 8) (omega (arith, ltb-le r (l .reader) h)))
+  its-bytes : counterBytes (after l .tally) (l .reader) ≡ bytesOf 8 sum
+  its-bytes = rw its-tally (ap (take 8) (put-there place (bytesOf 8 sum) (l .tally) fits) ∙ take-at (bytesOf 8 sum) _ 8 (length-bytes 8 sum))
+
+  pub bytes-stay : Bytes (l .tally) → Bytes (after l .tally)
+  bytes-stay h = rw its-tally (bytes-put place (bytesOf 8 sum) (l .tally) (bytes-number 8 sum) h)
+
+  others : (r : ℕ) → (r ≡ l .reader → ⊥) → (ltb r (l .reader) ≡ true) ⊎ (ltb r (l .reader) ≡ false) → counterBytes (after l .tally) r ≡ counterBytes (l .tally) r
+  others r ne (inl h) = rw its-tally (part-before place (bytesOf 8 sum) (l .tally) fits (r * 8) 8 (omega (arith, ltb-lt r (l .reader) h)))
+  others r ne (inr h) =
+      rw its-tally (ap (take 8) (rest-behind place (bytesOf 8 sum) (l .tally) fits (r * 8) (omega (arith, ltb-le r (l .reader) h, length-bytes 8 sum))))
 
 pub demand-2-tally : Demand2Tally
 demand-2-tally l i k = (
   kept-gives l i k .4,
   subst (λ (x : ℕ). lookCount (taskOf i (l .request .order)) ≤ x) (mul-comm (predicateCount i) (rowCount i)) (look-count-le i (l .request .order) (rowCount i) (omega arith)),
   grown l i k,
+  rw (grown l i k) (its-bytes l i k),
 )
 
 pub demand-2-other-readers : Demand2OtherReaders
 demand-2-other-readers l i k = (
+  ap length (its-tally l i k) ∙ put-length (place l i k) (bytesOf 8 (sum l i k)) (l .tally) (fits l i k) ∙ k .tally .0,
   λ r ne. others l i k r ne (which (ltb r (l .reader))),
-  ap length (left l i k) ∙ put-size (place l i k) 8 (sum l i k) (l .tally) (in-tally l i k) ∙ k .tally .0,
-  ap (take (place l i k)) (left l i k) ∙ put-front-stays (place l i k) 8 (sum l i k) (l .tally) (in-tally l i k),
-  ap (drop (place l i k + 8)) (left l i k) ∙ put-rest-stays (place l i k) 8 (sum l i k) (l .tally) (in-tally l i k),
-  rw (grown l i k) (ap (λ (t : List ℕ). take 8 (drop (place l i k) t)) (left l i k) ∙ put-bytes (place l i k) 8 (sum l i k) (l .tally) (in-tally l i k)),
 )
 
 pub demand-2-further : Demand2Further

@@ -1,5 +1,5 @@
 -- Document 01's proved cases P1 to P11: what each says of the written meanings, gathered in one list.
-use Prim.Native.Nat.{ℕ, _<_}
+use Prim.Native.Nat.{ℕ}
 use mathlib.Core.Path.{_≡_}
 use mathlib.Core.Bool.{Bool, true, false}
 use mathlib.Core.List.{List, [], _∷_, _++_}
@@ -17,7 +17,8 @@ use Rattle.answers.specs.declared.word.Answer.{Answer}
 use Rattle.answers.specs.declared.word.Answer.the-variants.{Refused, Accepted}
 use Rattle.answers.specs.Word.{packed}
 use Rattle.answers.specs.Answers.{catalogueAnswer, questionAnswer}
-use Rattle.demands.specs.Run.{lent, Ran, ran, predicateCount, readerLimit, tallySize, runOf}
+use Rattle.demands.specs.Run.{lent, Ran, ran, predicateCount, runOf}
+use Rattle.demands.specs.Demands.{IsReader}
 use Rattle.demands.specs.Parish.{parish, yearBlank, both, question, nested}
 
 pub data Case : Type 0 where
@@ -41,7 +42,7 @@ Holds (catalogueCheck b a) = catalogueAnswer (decodeCatalogue b) ≡ a
 Holds (questionCheck b q a) = questionAnswer (decodeInput b q) ≡ a
 Holds (findsNothing b) =
     (q order : List ℕ) (reader : ℕ) (listed looks tally : List ℕ) (i : Input) → decodeInput b q ≡ accepted i → isOrder (predicateCount i) order ≡ true
-    → reader < readerLimit → Bytes tally → length tally ≡ tallySize
+    → IsReader reader → Bytes tally → length tally ≡ 128
     → runOf (lent b q order reader listed looks tally) ≡ ran (packed (Accepted 0 0 0)) listed looks tally
 Holds (folds x y) = fold x ≡ y
 Holds (numberOutcome kind o n a) = outcomeOf (numbers (n ∷ [])) kind o 0 ≡ a
@@ -54,13 +55,13 @@ zeros n = replicate n 0
 -- P1 and P2, by reader 0: looks 3, 1, 2 and 2, 2, 3 for conditions 0, 1, 2; entries 0 and 2 listed
 abbrev pub p1 : List Case
 p1 =
-    runs parish question (0 ∷ 1 ∷ 2 ∷ []) 0 (zeros 1) (zeros 3) (zeros tallySize)
+    runs parish question (0 ∷ 1 ∷ 2 ∷ []) 0 (zeros 1) (zeros 3) (zeros 128)
     (ran (packed (Accepted 2 0 6)) (0b101 ∷ []) (0b111 ∷ 0b001 ∷ 0b110 ∷ []) (zeros 7 ++ (6 ∷ []) ++ zeros 120))
     ∷ []
 
 abbrev pub p2 : List Case
 p2 =
-    runs parish question (2 ∷ 1 ∷ 0 ∷ []) 0 (zeros 1) (zeros 3) (zeros tallySize)
+    runs parish question (2 ∷ 1 ∷ 0 ∷ []) 0 (zeros 1) (zeros 3) (zeros 128)
     (ran (packed (Accepted 2 0 7)) (0b101 ∷ []) (0b011 ∷ 0b011 ∷ 0b111 ∷ []) (zeros 7 ++ (7 ∷ []) ++ zeros 120))
     ∷ []
 
@@ -107,7 +108,7 @@ p9 = questionCheck parish (nested 9 yearBlank) (Refused 10) ∷ []
 
 -- "order 00 00 for two conditions: 15"
 abbrev pub p10 : List Case
-p10 = runs parish both (0 ∷ 0 ∷ []) 0 (zeros 1) (zeros 2) (zeros tallySize) (ran (packed (Refused 15)) (zeros 1) (zeros 2) (zeros tallySize)) ∷ []
+p10 = runs parish both (0 ∷ 0 ∷ []) 0 (zeros 1) (zeros 2) (zeros 128) (ran (packed (Refused 15)) (zeros 1) (zeros 2) (zeros 128)) ∷ []
 
 -- "tally 2^64 − 1 and one look: 17"; order 7: "case P11 sets that reader's number", here reader 5's
 abbrev pub oneRow : List ℕ

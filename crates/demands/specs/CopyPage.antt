@@ -24,7 +24,7 @@ looksOf i r = lookCount (taskOf i (r .order))
 abbrev pub copyBytes : Input → Request → ℕ
 copyBytes i r = 7 * looksOf i r
 
--- a copy that breaks nothing: "Inputs are those of a run without tables and tally."
+-- a copy that breaks nothing: "Inputs are those of a run without tables and tally.", and until order 8 without its reader
 pub record CopyKept (r : Request) (output : List ℕ) (i : Input) : Type 0 where
   pub forms : Reads (r .catalogue) (r .question) i
   pub order : RunningOrder i (r .order)

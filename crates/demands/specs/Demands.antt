@@ -94,9 +94,13 @@ TablesFit i listed looks = (lineBytes i ≤ length listed) × (predicateCount i 
 abbrev pub IsReader : (reader : ℕ) → Type 0
 IsReader reader = reader ≤ 15
 
--- order 7: "sixteen numbers of eight bytes", `counterAt` being one reader's: the tally is 128 bytes, and this reader's sum does not pass 2^64 − 1
+-- order 7: "Refusal 17 is for a tally not of 128 bytes or a sum too large for this reader": `counterAt` is a reader's number, of eight bytes
 abbrev pub TallyFits : Input → (order : List ℕ) → (reader : ℕ) → (tally : List ℕ) → Type 0
 TallyFits i order reader tally = (length tally ≡ 128) × (counterAt tally reader + lookCount (taskOf i order) < 2 ^ 64)
+
+-- and these are a reader's eight bytes
+abbrev pub counterBytes : (tally : List ℕ) → (reader : ℕ) → List ℕ
+counterBytes tally reader = take 8 (drop (reader * 8) tally)
 
 -- a run that breaks nothing
 pub record Kept (l : Lent) (i : Input) : Type 0 where
@@ -363,15 +367,13 @@ Demand2Tally =
     (l : Lent) (i : Input) → Kept l i
     → (after l .word / 2 ^ 40 ≡ lookCount (taskOf i (l .request .order))) × (lookCount (taskOf i (l .request .order)) ≤ rowCount i * predicateCount i)
     × (counterAt (after l .tally) (l .reader) ≡ counterAt (l .tally) (l .reader) + lookCount (taskOf i (l .request .order)))
+    × (counterBytes (after l .tally) (l .reader) ≡ bytesOf 8 (counterAt (after l .tally) (l .reader)))
 
--- order 7: "Only that reader's number grows.": the fifteen others stay, and so does every byte before and behind its eight
+-- order 7: "Only that reader's number grows.": every other byte of the 128 stays
 abbrev pub Demand2OtherReaders : Type 0
 Demand2OtherReaders =
     (l : Lent) (i : Input) → Kept l i
-    → ((r : ℕ) → (r ≡ l .reader → ⊥) → counterAt (after l .tally) r ≡ counterAt (l .tally) r)
-    × (length (after l .tally) ≡ 128) × (take (l .reader * 8) (after l .tally) ≡ take (l .reader * 8) (l .tally))
-    × (drop (l .reader * 8 + 8) (after l .tally) ≡ drop (l .reader * 8 + 8) (l .tally))
-    × (take 8 (drop (l .reader * 8) (after l .tally)) ≡ bytesOf 8 (counterAt (after l .tally) (l .reader)))
+    → (length (after l .tally) ≡ 128) × ((r : ℕ) → (r ≡ l .reader → ⊥) → counterBytes (after l .tally) r ≡ counterBytes (l .tally) r)
 
 -- "Longer tables keep their further bytes."
 abbrev pub Demand2Further : Type 0

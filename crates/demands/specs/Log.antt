@@ -56,7 +56,7 @@ abbrev pub inputLog : (sequence : (row : ℕ) → List ℕ) → Decoded Input �
 inputLog s (refused e) order output = refuseWriting e output
 inputLog s (accepted i) order output = logOn s i order output
 
--- "Inputs are those of a run without tables and tally.": 1 to 14 and 23 as for a run
+-- "Inputs are those of a run without tables and tally.", and until order 8 without its reader: 1 to 14 and 23 as for a run
 unfoldable pub logOf : (sequence : (row : ℕ) → List ℕ) → Request → (output : List ℕ) → Written
 logOf s r output = inputLog s (decodeInput (r .catalogue) (r .question)) (r .order) output
 

@@ -13,7 +13,7 @@ use Rattle.rows.specs.Task.{Task, isSelected, isProbed}
 use Rattle.input.specs.Input.{Input, decodeInput}
 use Rattle.answers.specs.declared.word.Answer.the-variants.{Refused, Accepted}
 use Rattle.answers.specs.Word.{packed}
-use Rattle.answers.specs.Refusals.{notOrder, tableTooShort, noSuchReader, counterRefused}
+use Rattle.answers.specs.Refusals.{notOrder, tableTooShort, noSuchReader, tallyRefused}
 use Rattle.answers.specs.Checks.{Checks, checked}
 
 -- what a run and a copy are asked: the bytes of a catalogue, a question and an order
@@ -101,8 +101,8 @@ tallyAfter tally reader k = putAt (counterPlace reader) (bytesOf counterSize (co
 abbrev pub tablesFit : (n size : ℕ) → (listed looks : ℕ) → Bool
 tablesFit n size listed looks = leb size listed && leb (n * size) looks
 
-abbrev pub counterFits : (tally : List ℕ) → (reader look-count : ℕ) → Bool
-counterFits tally reader k = eqb (length tally) tallySize && ltb (counterAt tally reader + k) (2 ^ 64)
+abbrev pub tallyFits : (tally : List ℕ) → (reader look-count : ℕ) → Bool
+tallyFits tally reader k = eqb (length tally) tallySize && ltb (counterAt tally reader + k) (2 ^ 64)
 
 -- order 7: "24, reader over 15"
 abbrev pub readerChecks : (reader : ℕ) → Checks
@@ -114,13 +114,13 @@ requestChecks n size order reader listed looks =
     (notOrder, isOrder n order) ∷ (tableTooShort, tablesFit n size listed looks) ∷ readerChecks reader
 
 -- and the one that needs the count: "Refusal 17 is for a tally not of 128 bytes or a sum too large for this reader"
-abbrev pub counterChecks : (tally : List ℕ) → (reader look-count : ℕ) → Checks
-counterChecks tally reader k = (counterRefused, counterFits tally reader k) ∷ []
+abbrev pub tallyChecks : (tally : List ℕ) → (reader look-count : ℕ) → Checks
+tallyChecks tally reader k = (tallyRefused, tallyFits tally reader k) ∷ []
 
 abbrev pub runChecks : Input → Lent → Checks
 runChecks i l =
     requestChecks (predicateCount i) (bytesFor (rowCount i)) (l .request .order) (l .reader) (length (l .listed)) (length (l .looks))
-    ++ counterChecks (l .tally) (l .reader) (lookCount (taskOf i (l .request .order)))
+    ++ tallyChecks (l .tally) (l .reader) (lookCount (taskOf i (l .request .order)))
 
 -- an accepted run: the two tables go out, their ones are its counts, and its reader's number gains the looks
 abbrev pub acceptWith : (selection probed : List ℕ) → (reader : ℕ) → (listed looks tally : List ℕ) → Ran

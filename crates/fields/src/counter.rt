@@ -1,4 +1,4 @@
-// A reader's number in the lent tally, our counter: a number of eight bytes.
+// A reader's number in the tally, our counter: eight bytes.
 ghost use mathlib.Core.Path.{_≡_};
 ghost use Prim.Native.Nat.{_+_, _≤_};
 ghost use lib.ListN.{length};
@@ -11,15 +11,6 @@ impl Counter {
     pub const SIZE: usize = 8;
 
     pub const LIMIT: u64 = 0xffff_ffff_ffff_ffff;
-}
-
-// The lent tally: a counter for each reader.
-pub struct Tally;
-
-impl Tally {
-    pub const READERS: u64 = 16;
-
-    pub const SIZE: usize = Tally::READERS as usize * Counter::SIZE;
 }
 
 // The number of the eight bytes at a place; summed from the low half on, which compiles to one load.

@@ -1,8 +1,8 @@
 // How a run ends: what will go out is counted, the counter tested, and only then the lent tables written.
 use answers::refusal::Refusal;
+use answers::tally::Tally;
 use answers::word::Answer;
 use fields::counter::Counter;
-use fields::counter::Tally;
 ghost use mathlib.Core.Path.{_≡_};
 ghost use Prim.Native.Nat.{_*_, _≤_, _<_};
 ghost use lib.ListN.{length};
@@ -28,14 +28,14 @@ pub fn finish(
     ensures { λ r. ⌜ (ran (packed r) (now (listed .exit)) (now (looks .exit)) (now (tally .exit)) ≡ finished (now (selected .entry)) (now (probed .entry)) n size reader (now (listed .entry)) (now (looks .entry)) (now (tally .entry))) × FitsWord r ⌝ }
 {
     if tally.len() != Tally::SIZE {
-        return Answer::Refused(Refusal::COUNTER_REFUSED);
+        return Answer::Refused(Refusal::TALLY_REFUSED);
     }
     let found = counts::lines::count_lines(selected, 1, size);
     let looked = counts::lines::count_lines(probed, n, size);
     let at = reader * Counter::SIZE;
     let before = fields::counter::eight_bytes(tally, at);
     if Counter::LIMIT - before < looked {
-        return Answer::Refused(Refusal::COUNTER_REFUSED);
+        return Answer::Refused(Refusal::TALLY_REFUSED);
     }
     bitmaps::copy::copy_lines(selected, listed, 1, size);
     bitmaps::copy::copy_lines(probed, looks, n, size);

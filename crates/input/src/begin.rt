@@ -28,7 +28,7 @@ fn refuse(refusal: u8) -> Beginning
     }
 }
 
-// Lays out the catalogue and reads the question against it, into the tables of both.
+// Lays out the catalogue and reads the question against it, into the tables of the reading.
 pub fn begin(
     catalogue: &[u8],
     question: &[u8],

@@ -26,7 +26,7 @@ use Rattle.records.specs.Offsets.{HasPayload}
 use Rattle.records.specs.Table.{predicatesAt}
 use Rattle.reading.specs.Tables.{Tables, tables}
 use Rattle.ancestors.specs.Ancestors.{ancestorsWidth, ancestorsSize, heightAt, ancestorOver, ancestorsOf, Low, Under, SameHeights, Spans, Closed}
-use Rattle.reading.specs.Reading.{AncestorsGained, Reported, MemberReported, MembersReported, MemberRead, MembersRead, StaysWithin, Readable}
+use Rattle.reading.specs.MemberRead.{AncestorsGained, Reported, MemberReported, MembersReported, MemberRead, MembersRead, StaysWithin, Readable}
 use Rattle.records.proofs.Records.{predicates-put, payload-put, record-shows}
 use Rattle.ancestors.proofs.AncestorLaws.{fresh-height, fresh-kept, fresh-none, fresh-old, fresh-low, fresh-spans}
 use Rattle.query.proofs.Readings.{SoundTree, SoundForest, member-sound, members-sound}

@@ -21,7 +21,7 @@ use Rattle.query.specs.Format.{bytesAfterQuery}
 use Rattle.query.specs.Decode.{payloadOf, Read, member, wholeQuery, decodeTagged}
 use Rattle.records.specs.Table.{recordAt, predicateIn, predicatesAt}
 use Rattle.reading.specs.Tables.{Tables, HasTables}
-use Rattle.reading.specs.Reading.{Reported, MemberRead}
+use Rattle.reading.specs.MemberRead.{Reported, MemberRead}
 use Rattle.reading.specs.QueryRead.{Recorded, QueryRead}
 use Rattle.query.proofs.Readings.{Fits, Each, SoundTree, member-sound}
 use Rattle.query.proofs.Accepted.{each-at}

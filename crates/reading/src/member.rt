@@ -3,7 +3,7 @@ use ancestors::Ancestors;
 use query::member::MemberField;
 ghost use Rattle.query.specs.Format.{depthOf};
 ghost use Rattle.reading.specs.Tables.{tables};
-ghost use Rattle.reading.specs.Reading.{Readable, MemberRead, MembersRead};
+ghost use Rattle.reading.specs.MemberRead.{Readable, MemberRead, MembersRead};
 
 // A refusal, or the place after what was read and the number of predicates up to there.
 pub enum Progress {

@@ -1,6 +1,6 @@
 // The checks of a request that need no work.
 use answers::refusal::Refusal;
-use fields::counter::Tally;
+use answers::tally::Reader;
 ghost use mathlib.Core.Path.{_≡_};
 ghost use Prim.Native.Nat.{_≤_};
 ghost use Rattle.bitmaps.specs.Table.{lineSize};
@@ -29,7 +29,7 @@ pub fn check_request(
     if looks < n * size {
         return Refusal::TABLE_TOO_SHORT;
     }
-    if Tally::READERS <= reader {
+    if Reader::LIMIT <= reader {
         return Refusal::NO_SUCH_READER;
     }
     0

@@ -17,7 +17,7 @@ use Rattle.answers.specs.declared.word.Answer.the-variants.{Refused}
 use Rattle.answers.specs.Word.{FitsWord}
 use Rattle.answers.specs.Checks.{checked, refusalBy}
 use Rattle.answers.proofs.Checks.{checked-holds, checked-fails, checked-further}
-use Rattle.demands.specs.Run.{Lent, lent, Ran, refuse, taskOf, selection, probeBitmaps, requestChecks, counterChecks, lookCount, accept, runOn, runOf}
+use Rattle.demands.specs.Run.{Lent, lent, Ran, refuse, taskOf, selection, probeBitmaps, requestChecks, tallyChecks, lookCount, accept, runOn, runOf}
 use Rattle.request.proofs.Request.{request-kept}
 use Rattle.work.specs.Worked.{RunWorked}
 use Rattle.finish.specs.Finish.{finished}
@@ -48,7 +48,7 @@ module _ {b q : List ℕ} {r : Beginning} {T : Tables} (G : HasInput b q r T) (o
   -- the checks of the request, then that of the counter
   abbrev further : Ran
   further =
-      checked (counterChecks tally reader (lookCount (taskOf (G .input) order))) (λ e. refuse e listed looks tally) (accept (taskOf (G .input) order) asked)
+      checked (tallyChecks tally reader (lookCount (taskOf (G .input) order))) (λ e. refuse e listed looks tally) (accept (taskOf (G .input) order) asked)
 
   on-input : checked (requestChecks (r .n) size order reader (length listed) (length looks)) (λ e. refuse e listed looks tally) further ≡ runOf asked
   unfolding runOf runOn

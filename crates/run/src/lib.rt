@@ -1,4 +1,4 @@
-// Running a question in a given order.
+// Running a question in a given order, for a reader.
 use ancestors::Ancestors;
 use answers::word::Answer;
 use bitmaps::copy::Line;

@@ -1,6 +1,5 @@
 -- `finish` meets its contract: refused before anything is written, or every lent table as the end of a run says.
 use native.Mathlib.Omega.{arith}
-use mathlib.Core.Path.{refl}
 use Rattle.finish.proofs.Finishing.{lines-few, tally-size-wrong, counter-passed, counter-taken}
 use borrow.Author.Needs.{needs}
 use Rattle.finish.proofs.finish.Statement.{statement}
@@ -30,7 +29,7 @@ same-length c = search needs
 returns-2 : tie.Need-returns-2
 returns-2 c =
     let a = c .before in
-    (counter-passed _ _ _ _ _ _ _ _ _ _ _ (c .before .before .before .before .before .if1 .left) refl (a .eight-bytes .ensures) (c .before .before .before .count-lines2 .ensures .0) (c .if2 .taken), omega arith)
+    (counter-passed _ _ _ _ _ _ _ _ _ _ (c .before .before .before .before .before .if1 .left) (a .eight-bytes .ensures) (c .before .before .before .count-lines2 .ensures .0) (c .if2 .taken), omega arith)
 
 copy-lines-requires : tie.Need-copy-lines-requires
 copy-lines-requires c κs = search needs
@@ -58,7 +57,7 @@ returns-3 c =
     let a = c .before .before .before .before .before .before .before .before .before .before .before .before .before in
     let found = a .before .before .before .count-lines .ensures in
     let looked = a .before .before .count-lines2 .ensures in (
-      counter-taken _ _ _ _ _ _ _ _ _ _ _ (a .before .before .before .before .if1 .left) refl (a .eight-bytes .ensures) (looked .0) (omega arith) (omega arith) _ _ _ _ (found .0)
+      counter-taken _ _ _ _ _ _ _ _ _ _ (a .before .before .before .before .if1 .left) (a .eight-bytes .ensures) (looked .0) (omega arith) (omega arith) _ _ _ _ (found .0)
           (c .before .before .before .before .before .before .before .before .before .before .copy-lines .ensures) (c .before .before .before .before .before .before .copy-lines2 .ensures) (c .before .before .put-eight-bytes .ensures),
       omega (arith, found .1, looked .1, lines-few (a .before .before .before .before .before .before .before .before .before .before .args .n) (a .before .before .before .before .before .before .before .before .before .before .args .size) (omega arith) (omega arith)),
     )

@@ -1,4 +1,4 @@
--- The contracts of the two that read: answer and tables are those of the reading.
+-- The contracts of `read_member` and `read_group`: answer and tables are those of the reading.
 use Prim.Native.Nat.{ℕ, _+_, _-_, _*_, _≤_, _<_}
 use mathlib.Core.Path.{_≡_}
 use mathlib.Core.List.{List, _++_}
