@@ -6,8 +6,9 @@
  *
  * What a caller gives: byte slices, each a pointer and the number of bytes behind it, and numbers. Any bytes may be
  * given: the engine trusts none of them, and there is nothing to check beforehand. Three things only are the caller's:
- * a slice has the length given, a slice that a call writes overlaps no other slice of the same call, and no pointer is
- * NULL, even where the length is 0.
+ * a slice has the length given; a slice that a call writes overlaps no other slice of the same call and none of a call
+ * made at the same time (one tally is lent to one run at a time, even for different readers); and no pointer is NULL, even
+ * where the length is 0.
  *
  * What a caller gets: one 64-bit number, the packed word.
  *
@@ -102,7 +103,7 @@ enum {
     SEARCHROOM_BAD_ORDER = 15,
     /* Run: the listed table or the looks table is too short. */
     SEARCHROOM_SHORT_TABLE = 16,
-    /* Run: the tally is not 128 bytes, or the sum would pass 2^64 - 1 for this reader. */
+    /* Run: the tally is not 128 bytes, or this reader's sum would pass 2^64 - 1. */
     SEARCHROOM_BAD_TALLY = 17,
     /* Outcome: no such entry or condition. */
     SEARCHROOM_NO_SUCH_PLACE = 18,
@@ -114,7 +115,7 @@ enum {
     SEARCHROOM_SHORT_TYPED_OUTPUT = 22,
     /* Catalogue: the mark has a length that does not fit the number of entries, or a one bit after the last entry's. */
     SEARCHROOM_BAD_MARK = 23,
-    /* Run: no such reader: the number is over 15. */
+    /* Run: there is no such reader: readers are 0 to 15. */
     SEARCHROOM_NO_SUCH_READER = 24
 };
 
@@ -147,7 +148,7 @@ static inline const char *searchroom_refusal_text(unsigned refusal)
     case SEARCHROOM_QUESTION_LEFT_OVER: return "bytes are left over after the question";
     case SEARCHROOM_BAD_ORDER: return "the order does not hold each condition number once and nothing else";
     case SEARCHROOM_SHORT_TABLE: return "a table is too short";
-    case SEARCHROOM_BAD_TALLY: return "the tally is not 128 bytes, or the sum would pass 2^64 - 1 for this reader";
+    case SEARCHROOM_BAD_TALLY: return "the tally is not 128 bytes, or this reader's sum would pass 2^64 - 1";
     case SEARCHROOM_NO_SUCH_PLACE: return "there is no such entry or condition";
     case SEARCHROOM_SHORT_OUTPUT: return "the output is too short for the copy";
     case SEARCHROOM_MISSPELLED: return "the typed question is over 16,384 bytes or misspelled";
@@ -239,19 +240,21 @@ static inline unsigned searchroom_answer(uint64_t word) { return searchroom_firs
  * A withdrawn entry is not listed, and no look is registered there. Every other entry is listed exactly if the question's tree
  * holds of it, blank taken as no. On each of these the conditions are taken in the running order, n bytes that hold each
  * condition number once. A look at a condition is registered exactly if it is due: with the conditions earlier in the order at
- * their true outcomes, blank as no again, some outcomes of the later ones make this condition alone decide the tree, its yes and
- * its no giving the tree different values. Any way of working in the same order that is right whatever the pattern of outcomes
- * makes each of these looks, so none makes fewer.
+ * their true outcomes, blank as no again, some outcomes of the later ones make this condition alone decide the tree, its yes
+ * and its no giving the tree different values. Any way of working in the same order that is right whatever the pattern of
+ * outcomes makes each of these looks, so none makes fewer.
  *
  *     reader  the reader whose looks these are, 0 to 15; of an accepted run nothing but the tally depends on it
  *     listed  the listed table, at least one row of bits; its first row is written: the listed entries
  *     looks   the looks table, at least n rows; its first n rows are written, one for each condition in condition-number
  *             order: the entries at which a look at it is registered
- *     tally   the tally, sixteen numbers of eight bytes, one for each reader (searchroom_tally_of); the look count is added
- *             to this reader's, and every other byte of it stays as it is
+ *     tally   the tally, exactly SEARCHROOM_TALLY_BYTES bytes: for each reader r the looks so far, a number in bytes 8r to
+ *             8r + 7 (searchroom_tally_of); the look count is added to this reader's, every other byte stays as it is
  * Further bytes of listed and looks stay as they are. SEARCHROOM_LISTED_BYTES and SEARCHROOM_LOOKS_BYTES bytes are enough for
- * any run. A tally starts as SEARCHROOM_TALLY_BYTES zeros. Lend it to each run as the last left it: every number is then the
- * sum of the look counts of that reader's accepted runs.
+ * any run. A tally starts as zeros. Lend it to each run as the last left it: every number is then the sum of the look counts of
+ * that reader's accepted runs. To start a reader again, write zeros to that reader's eight bytes. A tally of eight bytes, as
+ * runs before 0.7.0 took it, is refused with 17: to keep its sum, put those bytes in the place of one reader in a tally of
+ * zeros.
  *
  * Results: first the found count, the number of listed entries (searchroom_found); third the look count, the number of
  * registered looks (searchroom_look_count).
@@ -269,11 +272,11 @@ uint64_t searchroom_run(const uint8_t *catalogue, size_t catalogue_len,
 static inline unsigned searchroom_found(uint64_t word) { return searchroom_first(word); }
 static inline uint32_t searchroom_look_count(uint64_t word) { return searchroom_third(word); }
 
-/* The number of a reader, who must be one of 0 to 15, in a tally. */
-static inline uint64_t searchroom_tally_of(const uint8_t *tally, unsigned reader)
+/* The looks that a tally holds for a reader, 0 to 15. */
+static inline uint64_t searchroom_tally_of(const uint8_t *tally, uint64_t reader)
 {
     uint64_t number = 0;
-    for (unsigned at = 8 * reader; at < 8 * reader + 8; at++)
+    for (uint64_t at = 8 * reader; at < 8 * reader + 8; at++)
         number = number << 8 | tally[at];
     return number;
 }
@@ -336,7 +339,8 @@ static inline unsigned searchroom_copied_outcome(const uint8_t *field) { return 
  *     not c0 in 1700..1799    `not ` before any of these: the opposite (kind + 128)
  *     all(MEMBER,MEMBER)      an all-of group (tag 65)
  *     any(MEMBER,MEMBER)      an any-of group (tag 79)
- * A group has one or more members, each again a condition or a group, with one comma between two and no `not ` before the group.
+ * A group has one or more members, each again a condition or a group, with one comma between two and no `not ` before the
+ * group.
  *
  * Outside quotes letters are small and no spaces stand but those shown. Nothing stands before or after: strip the newline at a
  * file's end. Columns are 0 to 255 and numbers 0 to 4,294,967,295, in decimal without leading zeros. Between quotes stand none

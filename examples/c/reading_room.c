@@ -23,8 +23,8 @@ typedef struct {
     unsigned entries, columns, present, conditions;
 } Size;
 
-/* Reads a file of the folder; ends the program where it cannot be read. Of a catalogue it reads the most columns and the longest
-   field behind them: a longer one is refused as the whole would be. */
+/* Reads a file of the folder; ends the program where it cannot be read. Of a catalogue it reads the most columns and the
+   longest field behind them: a longer one is refused as the whole would be. */
 static File read_file(const char *folder, const char *name)
 {
     char path[4096];
@@ -79,11 +79,11 @@ static unsigned withdrawn(File catalogue, unsigned entries, unsigned columns)
 }
 
 /* Prints the number of entries and columns, and of withdrawn entries if there are any. */
-static void print_size(unsigned entries, unsigned columns, unsigned present)
+static void print_size(Size size)
 {
-    printf("%u entries in %u columns", entries, columns);
-    if (present < entries)
-        printf(", %u withdrawn", entries - present);
+    printf("%u entries in %u columns", size.entries, size.columns);
+    if (size.present < size.entries)
+        printf(", %u withdrawn", size.entries - size.present);
     printf("\n");
 }
 
@@ -127,27 +127,29 @@ static int is_number(const char *word) { return *word != '\0' && word[strspn(wor
 /* Checks the catalogue and the question, and prints how much the catalogue holds. */
 static Size check(File catalogue, File question)
 {
-    Size size;
+    Size size = {0};
     uint64_t word = accepted("catalogue", searchroom_check_catalogue(catalogue.bytes, catalogue.len));
     size.entries = searchroom_entries(word);
     size.columns = searchroom_columns(word);
     size.present = size.entries - withdrawn(catalogue, size.entries, size.columns);
-    print_size(size.entries, size.columns, size.present);
+    print_size(size);
     word = accepted("question", searchroom_check_question(catalogue.bytes, catalogue.len, question.bytes, question.len));
     size.conditions = searchroom_conditions(word);
     return size;
 }
 
-/* Runs the question for the reader and prints what was found, and the reader's number in a tally that starts at zeros. */
+/* Runs the question for the reader and prints what was found, and the reader's number in the tally. */
 static void run(File catalogue, File question, File order, uint64_t reader, Size size)
 {
     /* Tables that are long enough for any run. */
-    static uint8_t listed[SEARCHROOM_LISTED_BYTES], looks[SEARCHROOM_LOOKS_BYTES], tally[SEARCHROOM_TALLY_BYTES];
+    static uint8_t listed[SEARCHROOM_LISTED_BYTES], looks[SEARCHROOM_LOOKS_BYTES];
+    /* The tally starts at zeros here; a real room keeps it and lends it to the next run. */
+    static uint8_t tally[SEARCHROOM_TALLY_BYTES];
     uint64_t ran = accepted("run", searchroom_run(catalogue.bytes, catalogue.len, question.bytes, question.len,
                                                   order.bytes, order.len, reader, listed, sizeof listed,
                                                   looks, sizeof looks, tally, sizeof tally));
     print_run(ran, size, listed, looks);
-    printf("tally of reader %u: %" PRIu64 "\n", (unsigned)reader, searchroom_tally_of(tally, (unsigned)reader));
+    printf("tally of reader %" PRIu64 ": %" PRIu64 "\n", reader, searchroom_tally_of(tally, reader));
 }
 
 /* Makes the steward's copy of the same run and prints it. */

@@ -15,5 +15,6 @@ int main()
     uint64_t ran = searchroom_run(bytes, sizeof bytes, blank, sizeof blank, order, sizeof order, 1, listed, sizeof listed,
                                   looks, sizeof looks, tally, sizeof tally);
     bool counted = ran == SEARCHROOM_ACCEPTED && searchroom_tally_of(tally, 1) == 9;
-    return searchroom_columns(checked) == 1 && copied == SEARCHROOM_ACCEPTED && searchroom_written(typed) == 5 && counted ? 0 : 1;
+    bool written = copied == SEARCHROOM_ACCEPTED && searchroom_written(typed) == 5;
+    return searchroom_columns(checked) == 1 && written && counted ? 0 : 1;
 }

@@ -103,6 +103,7 @@ static void each_mark_of_the_parish(void)
         EXPECT_EQ(lent.listed[0], 5 & house);
         EXPECT(lent.looks[0] == (7 & house) && lent.looks[1] == (1 & house) && lent.looks[2] == (6 & house));
         EXPECT_EQ(searchroom_tally_of(lent.tally, 0), 2 * present);
+        EXPECT(are_all(0, lent.tally + 8, sizeof lent.tally - 8));
         word = copy(&lent);
         size_t written = 2 * present * FIELD;
         EXPECT_EQ(searchroom_refusal(word), SEARCHROOM_ACCEPTED);

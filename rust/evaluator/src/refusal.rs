@@ -36,7 +36,7 @@ pub const QUESTION_LEFT_OVER: Number = 14;
 pub const ORDER: Number = 15;
 /// A table is too short.
 pub const TABLE: Number = 16;
-/// The tally is not of 128 bytes, or the sum would pass 2^64 − 1 for this reader.
+/// The tally is not 128 bytes, or this reader's sum would pass 2^64 − 1.
 pub const TALLY: Number = 17;
 /// No such entry or condition.
 pub const NO_SUCH_PLACE: Number = 18;

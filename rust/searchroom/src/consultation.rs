@@ -11,8 +11,11 @@ pub struct Consultation {
     looks: Vec<u8>,
 }
 
-/// Runs a question over a catalogue in a running order, and adds the look count to the reader's number in the tally. A withdrawn
-/// entry is not listed and has no looks.
+/// Runs a question over a catalogue in a running order, and adds the look count to the reader's number in the tally. A
+/// withdrawn entry is not listed and has no looks.
+///
+/// The reader is 0 to 15 ([`Tally::READERS`] of them); any other is refused with [`Refusal::NoSuchReader`]. The program
+/// `consult` is always reader 0; this call names its reader.
 ///
 /// ```
 /// // Years 1701, 1822 and a blank. Year from 1700 to 1799, or year blank.
@@ -27,8 +30,8 @@ pub struct Consultation {
 /// ```
 ///
 /// # Errors
-/// Those of [`run`], except [`Refusal::ShortTable`]. [`Refusal::BadTally`] comes only where the sum would pass 2^64 − 1 for this
-/// reader. A refusal leaves the tally as it was.
+/// Those of [`run`], except [`Refusal::ShortTable`]. [`Refusal::BadTally`] comes only where this reader's sum would pass
+/// 2^64 − 1. A refusal leaves the tally as it was.
 pub fn consult(
     catalogue: &[u8],
     question: &[u8],

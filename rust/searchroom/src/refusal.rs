@@ -50,7 +50,7 @@ refusals! {
     QuestionLeftOver = 14, "bytes are left over after the question";
     BadOrder = 15, "the order does not hold each condition number once and nothing else";
     ShortTable = 16, "a table is too short";
-    BadTally = 17, "the tally is not 128 bytes, or the sum would pass 2^64 - 1 for this reader";
+    BadTally = 17, "the tally is not 128 bytes, or this reader's sum would pass 2^64 - 1";
     NoSuchPlace = 18, "there is no such entry or condition";
     ShortOutput = 20, "the output is too short for the copy";
     Misspelled = 21, "the typed question is over 16,384 bytes or misspelled";

@@ -14,9 +14,10 @@ pub struct Counts {
 ///
 /// With E entries and n conditions, a row takes ceiling(E / 8) bytes: entry e is the bit of weight 2^(e mod 8) in byte
 /// e div 8, unused bits zero. `listed` receives one row, `looks` one row for each condition in condition-number order;
-/// further bytes of either stay as they are. `tally` is the bytes of a [`Tally`](crate::Tally), in which the look count is added
-/// to this reader's number; every other byte of it stays. Of an accepted run nothing but the tally depends on the reader.
-/// A refusal alters none of the three.
+/// further bytes of either stay as they are. `reader` is 0 to 15 ([`Tally::READERS`](crate::Tally::READERS) of them); any
+/// other is refused with [`Refusal::NoSuchReader`]. `tally` is the bytes of a [`Tally`](crate::Tally), which
+/// [`Tally::bytes_mut`](crate::Tally::bytes_mut) lends: the look count is added to this reader's number, every other byte
+/// stays. Of an accepted run nothing but the tally depends on the reader. A refusal alters none of the three.
 ///
 /// [`consult`](crate::consult) does the same with tables of its own.
 ///

@@ -1,7 +1,7 @@
 use evaluator::{Catalogue, Column, Condition, Question, Ran, Test, Tree, pack};
 use generator::{Pattern, Rng};
 
-use crate::{READERS, Run, compare_copy, compare_run, fewer, tally_of};
+use crate::{READERS, Run, compare_copy, compare_run, encode_tally, fewer};
 
 /// Makes the run in an order and its copy, and sees that both are accepted. Where less is to be tried, some are not copied.
 pub fn compare_both(rng: &mut Rng, label: &str, catalogue: &Catalogue, question: &Question, order: &[u8]) -> Ran {
@@ -30,7 +30,7 @@ fn lending(rng: &mut Rng, catalogue: &Catalogue, question: &Question, order: &[u
     };
     let (listed, looks) = (table(&fit.listed), table(&fit.looks));
     // Numbers that no run fills.
-    let tally = tally_of([(); READERS].map(|()| rng.next_u64() >> 1));
+    let tally = encode_tally([(); READERS].map(|()| rng.next_u64() >> 1));
     Run { reader: rng.below(READERS) as u64, listed, looks, tally, ..fit }
 }
 

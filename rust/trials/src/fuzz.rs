@@ -14,8 +14,8 @@ use generator::{
 use searchroom::TYPED_BYTES;
 
 use crate::{
-    PARISH_ORDER, PARISH_TEXT, Run, Seen, Typing, any_reader, any_tally, compare_catalogue, compare_copy,
-    compare_outcome, compare_question, compare_run, compare_typed, damage_some,
+    PARISH_CATALOGUE, PARISH_ORDER, Run, Seen, Typing, any_reader, any_tally, compare_catalogue, compare_copy,
+    compare_outcome, compare_question, compare_run, compare_typed, damage_some, nearly_full_tally,
 };
 
 /// No more inputs than this are kept.
@@ -34,6 +34,13 @@ struct Given {
     text: Vec<u8>,
 }
 
+impl Given {
+    /// The run and its question as it is typed.
+    fn of(run: Run) -> Given {
+        Given { text: spelling(&run.question).expect("a typed form").into(), run }
+    }
+}
+
 /// A fuzzing in progress. The same seed goes the same way.
 pub struct Fuzz {
     seed: u64,
@@ -47,15 +54,16 @@ pub struct Fuzz {
 impl Fuzz {
     pub fn new(seed: u64) -> Fuzz {
         let mut rng = Rng::new(seed);
-        let parish = Run::parish(PARISH_ORDER);
-        let mut kept = vec![Given::default(), Given { run: parish.clone(), text: PARISH_TEXT.into() }];
+        // One group more round it is too deep.
+        let deepest = (0..8).fold(field(80, &[0, 1]), |question, _| field(65, &question));
+        let deepest = Run::asking(PARISH_CATALOGUE.to_vec(), deepest, &[0]);
+        let mut kept = vec![Given::default(), Given::of(Run::parish(PARISH_ORDER)), Given::of(deepest)];
         for count in [1, 2, 3, 4, 5, 6, 7, 8, 9, 63, 64, 64] {
             let (entries, columns, depth) = (rng.between(0, 18), rng.between(1, 4), rng.between(1, 8));
             let made = catalogue_of(&mut rng, entries, columns);
             let asked = question_of(&mut rng, &made, count, depth);
-            let (catalogue, question) = (encode_catalogue(&made), encode_question(&asked));
-            let text = spelling(&question).expect("a typed form").into();
-            kept.push(Given { run: Run { catalogue, question, ..parish.clone() }, text });
+            let order = running_order(&mut rng, count);
+            kept.push(Given::of(Run::asking(encode_catalogue(&made), encode_question(&asked), &order)));
         }
         Fuzz { seed, rng, kept, met: HashSet::new(), steps: 0, seen: Seen::none() }
     }
@@ -98,14 +106,15 @@ impl Fuzz {
         let read = evaluator::typed(&run.catalogue, text, &[0; TYPED_BYTES]).word;
         let typed = self.output((read >> 40) as usize);
         let words = [
+            ran,
             compare_catalogue(&label, &run.catalogue),
             compare_question(&label, &run.catalogue, &run.question),
             compare_outcome(&label, &run.catalogue, &run.question, entry, condition),
-            ran,
             compare_copy(&label, &run.copying(&copied)).word,
             compare_typed(&label, &Typing { catalogue: &run.catalogue, text, output: &typed }).word,
         ];
-        words.iter().for_each(|&word| self.seen.count(word));
+        self.seen.count_run(run, ran);
+        words[1..].iter().for_each(|&word| self.seen.count(word));
         words
     }
 
@@ -200,6 +209,9 @@ fn change_tables(rng: &mut Rng, given: &mut Run) {
             let length = (table.len() + rng.below(4)).saturating_sub(rng.below(4));
             *table = rng.bytes(length);
         }
+    }
+    if rng.chance(20) {
+        given.tally = nearly_full_tally(rng, given.reader);
     }
 }
 

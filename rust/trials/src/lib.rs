@@ -33,7 +33,7 @@ pub use report::hex;
 pub use room::Room;
 pub use run::{Run, compare_run};
 pub use seen::Seen;
-pub use tally::{NO_READERS, READERS, any_reader, any_tally, tally_of, tally_with};
+pub use tally::{NOT_READERS, READERS, any_reader, any_tally, encode_tally, encode_tally_with, nearly_full_tally};
 pub use typed::{Typing, compare_reading, compare_typed};
 
 use generator::encode_mark;

@@ -1,9 +1,10 @@
 use std::fmt;
 
-use evaluator::{Catalogue, Question, Ran};
+use evaluator::{Catalogue, Question, Ran, catalogue_word};
 use generator::{encode_catalogue, encode_question};
+use searchroom::Tally;
 
-use crate::{Copying, Lent, PARISH_CATALOGUE, PARISH_QUESTION, READERS, Side, fault, hex, tally_of};
+use crate::{Copying, Lent, PARISH_CATALOGUE, PARISH_QUESTION, Side, fault, hex};
 
 /// All that a run is given, the tables as they are lent.
 #[derive(Clone, Debug, Default)]
@@ -28,31 +29,28 @@ impl fmt::Display for Run {
 }
 
 impl Run {
+    /// A run of reader 0 with a tally and tables of zeros, the tables just long enough if there are as many conditions as the
+    /// order has numbers.
+    pub fn asking(catalogue: Vec<u8>, question: Vec<u8>, order: &[u8]) -> Run {
+        let entries = (catalogue_word(&catalogue) >> 8 & 0xFFFF) as usize;
+        let row = entries.div_ceil(8);
+        let [listed, looks, tally] = [row, row * order.len(), Tally::BYTES].map(|length| vec![0; length]);
+        Run { catalogue, question, order: order.to_vec(), reader: 0, listed, looks, tally }
+    }
+
     /// A run of reader 0 with tables just long enough, filled with ones, and a tally of zeros.
     pub fn fitting(catalogue: &Catalogue, question: &Question, order: &[u8]) -> Run {
         let row = catalogue.entries.div_ceil(8);
         Run {
-            catalogue: encode_catalogue(catalogue),
-            question: encode_question(question),
-            order: order.to_vec(),
-            reader: 0,
             listed: vec![0xFF; row],
             looks: vec![0xFF; row * question.conditions.len()],
-            tally: tally_of([0; READERS]),
+            ..Run::asking(encode_catalogue(catalogue), encode_question(question), order)
         }
     }
 
-    /// The parish's run of reader 0 in this order, with tables just long enough and a tally, all of them zeros.
+    /// The parish's run of reader 0 in this order, with a tally and tables of zeros, the tables just long enough.
     pub fn parish(order: &[u8]) -> Run {
-        Run {
-            catalogue: PARISH_CATALOGUE.to_vec(),
-            question: PARISH_QUESTION.to_vec(),
-            order: order.to_vec(),
-            reader: 0,
-            listed: vec![0; 1],
-            looks: vec![0; 3],
-            tally: tally_of([0; READERS]),
-        }
+        Run { looks: vec![0; 3], ..Run::asking(PARISH_CATALOGUE.to_vec(), PARISH_QUESTION.to_vec(), order) }
     }
 
     /// The copy of the same catalogue, question and order, into this output.

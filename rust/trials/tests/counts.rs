@@ -1,11 +1,11 @@
-//! The counts of ones, by themselves and as a run and a copy answer them, against a count written apart, bit by bit. Eight bytes
-//! are counted at once and seven lines side by side, so what matters are the lengths and places at which a word or a group of
-//! lines ends.
+//! The counts of ones, by themselves and as a run and a copy answer them, against a count written apart, bit by bit. Eight
+//! bytes are counted at once and seven lines side by side, so what matters are the lengths and places at which a word or a
+//! group of lines ends.
 
 use count_calls::{BYTES, LINE, count, count_bytes, count_lines};
 use evaluator::{Catalogue, Question, Tree, pack, refused};
 use generator::{Rng, catalogue_of, question_of, running_order, with_outcomes};
-use trials::{ENTRIES_AT_ENDS, Lent, Run, Side, compare_copy, compare_run, fewer, ones, tally_with, trying};
+use trials::{ENTRIES_AT_ENDS, Lent, Run, Side, compare_copy, compare_run, encode_tally_with, fewer, ones, trying};
 
 /// The most lines that count.
 const LINES: usize = BYTES / LINE;
@@ -217,8 +217,8 @@ fn run_sizes() -> impl Iterator<Item = (usize, usize)> {
     sizes.filter(|&(entries, count)| !fewer() || entries * count < 2_500)
 }
 
-/// Makes a run and its copy, which must count the ones of the rows that the run wrote. All that they are lent is ones, and often
-/// more than they need. Gives the numbers of entries found and of looks.
+/// Makes a run and its copy, which must count the ones of the rows that the run wrote. All that they are lent is ones, and
+/// often more than they need. Gives the numbers of entries found and of looks.
 fn expect_run(rng: &mut Rng, label: &str, catalogue: &Catalogue, question: &Question) -> (usize, usize) {
     let order = running_order(rng, question.conditions.len());
     let fit = Run::fitting(catalogue, question, &order);
@@ -229,7 +229,7 @@ fn expect_run(rng: &mut Rng, label: &str, catalogue: &Catalogue, question: &Ques
     let ((listed, more_listed), (looks, more_looks)) = (ran.listed.split_at(row), ran.looks.split_at(rows));
     let (found, look_count) = (ones(listed) as usize, ones(looks) as usize);
     assert_eq!(ran.word, pack(found, 0, look_count), "{label}: answered (left), of the written rows (right)");
-    assert_eq!(ran.tally, tally_with(0, look_count as u64), "{label}");
+    assert_eq!(ran.tally, encode_tally_with(0, look_count as u64), "{label}");
     assert!(more_listed.iter().chain(more_looks).all(|&byte| byte == 0xFF), "{label}: further bytes were altered");
     let written = 7 * look_count;
     let copied = compare_copy(label, &given.copying(&lend(written)));

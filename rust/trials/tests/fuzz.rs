@@ -11,6 +11,7 @@ fn fuzz(seed: u64) {
     // 19 is the program's.
     fuzz.seen().assert_each(0..=18, 3);
     fuzz.seen().assert_each(20..=24, 3);
+    fuzz.seen().assert_sums(3);
     let (_, answers) = fuzz.progress();
     assert!(answers > 1_000, "{answers} kinds of answers met");
 }

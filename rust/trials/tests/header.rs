@@ -17,7 +17,7 @@ const SAME: [(&str, &str); 31] = [
     ("MAX_TEXT", "Text::LIMIT"),
     ("MAX_CONDITIONS", "Predicate::LIMIT"),
     ("MAX_DEPTH", "Group::DEPTH_LIMIT"),
-    ("READERS", "Tally::READERS"),
+    ("READERS", "Reader::LIMIT"),
     ("COPY_FIELD_BYTES", "ProbeField::SIZE"),
     ("MAX_TYPED", "TypedText::LIMIT"),
     ("CATALOGUE_FIELD", "Refusal::FIELD_CUT"),
@@ -36,7 +36,7 @@ const SAME: [(&str, &str); 31] = [
     ("QUESTION_LEFT_OVER", "Refusal::BYTES_AFTER_QUERY"),
     ("BAD_ORDER", "Refusal::NOT_ORDER"),
     ("SHORT_TABLE", "Refusal::TABLE_TOO_SHORT"),
-    ("BAD_TALLY", "Refusal::COUNTER_REFUSED"),
+    ("BAD_TALLY", "Refusal::TALLY_REFUSED"),
     ("NO_SUCH_PLACE", "Refusal::NO_SUCH_ROW_OR_PREDICATE"),
     ("SHORT_OUTPUT", "Refusal::OUTPUT_TOO_SHORT"),
     ("MISSPELLED", "Refusal::TEXT_MISSPELLED"),
@@ -96,7 +96,7 @@ fn header_has_the_constants_of_the_crates() {
     expected.insert("MARK_BYTES".to_string(), row);
     expected.insert("LISTED_BYTES".to_string(), row);
     expected.insert("LOOKS_BYTES".to_string(), row * of["Predicate::LIMIT"]);
-    expected.insert("TALLY_BYTES".to_string(), of["Tally::READERS"] * of["Counter::SIZE"]);
+    expected.insert("TALLY_BYTES".to_string(), of["Reader::LIMIT"] * of["Counter::SIZE"]);
     let most_looks = of["Row::LIMIT"] * of["Predicate::LIMIT"];
     expected.insert("COPY_BYTES".to_string(), of["ProbeField::SIZE"] * most_looks);
     // The first field, text columns alone, and the mark.

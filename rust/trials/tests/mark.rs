@@ -2,7 +2,7 @@
 
 use evaluator::{Catalogue, Column, pack, refused};
 use generator::{MarkFault, Rng, catalogue_of, encode_catalogue, encode_mark, faulty_mark, field, text};
-use searchroom::{Refusal, Size, check_catalogue};
+use searchroom::{Refusal, Size, Tally, check_catalogue};
 use trials::{
     ENTRIES_AT_ENDS, FILL, PARISH_CATALOGUE, Run, Typing, compare_catalogue, compare_copy, compare_every_call,
     compare_outcome, compare_question, compare_run, compare_typed, marked_parish, ones, seeds,
@@ -10,8 +10,8 @@ use trials::{
 
 /// A run over a catalogue, with tables and tally filled with one byte: is the number in column 0 blank?
 fn asking(catalogue: Vec<u8>) -> Run {
-    let [listed, looks, tally] = [256, 256, 128].map(|length| vec![FILL; length]);
-    Run { catalogue, question: field(80, &[0, 1]), order: vec![0], reader: 0, listed, looks, tally }
+    let [listed, looks, tally] = [256, 256, Tally::BYTES].map(|length| vec![FILL; length]);
+    Run { listed, looks, tally, ..Run::asking(catalogue, field(80, &[0, 1]), &[0]) }
 }
 
 /// So many entries with a number each, none of them blank; then these bytes.

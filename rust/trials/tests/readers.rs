@@ -1,13 +1,15 @@
 //! Order 7: a run names its reader, 0 to 15, and of the sixteen numbers of the lent tally only that reader's grows. Each run is
-//! compared with the evaluator's, the tally's start and then its end hard against an unreadable page, the bytes at its other side
-//! known.
+//! compared with the evaluator's, the tally's start and then its end hard against an unreadable page, the bytes at its other
+//! side known.
+
+use std::collections::HashSet;
 
 use evaluator::{Catalogue, Column, Ran, pack, refused};
 use generator::{Rng, catalogue_of, encode_catalogue, field, question, running_order};
 use searchroom::{Consultation, Refusal, Tally};
 use trials::{
-    Damaged, FILL, NO_READERS, PARISH_CATALOGUE, PARISH_ORDER, PARISH_QUESTION, READERS, Run, Seen, compare_run, fewer,
-    look_count, marked_parish, seeds, tally_of, tally_with,
+    Damaged, FILL, NOT_READERS, PARISH_CATALOGUE, PARISH_ORDER, PARISH_QUESTION, READERS, Run, Seen, compare_run,
+    encode_tally, encode_tally_with, fewer, look_count, seeds,
 };
 
 /// The looks of the parish's run.
@@ -18,17 +20,11 @@ fn parish(reader: usize, tally: Vec<u8>) -> Run {
     Run { reader: reader as u64, tally, ..Run::parish(PARISH_ORDER) }
 }
 
-/// So many entries with a number each, all looked at once: is the number blank?
-fn asking(entries: usize) -> Run {
+/// The run of a reader with this tally over so many entries with a number each, all looked at once: is the number blank?
+fn asking(entries: usize, reader: usize, tally: Vec<u8>) -> Run {
     let numbers = Column::Numbers((0..entries as u32).collect());
-    let row = vec![0; entries.div_ceil(8)];
-    Run {
-        catalogue: encode_catalogue(&Catalogue::unmarked(entries, vec![numbers])),
-        question: field(80, &[0, 1]),
-        listed: row.clone(),
-        looks: row,
-        ..Run::parish(&[0])
-    }
+    let catalogue = encode_catalogue(&Catalogue::unmarked(entries, vec![numbers]));
+    Run { reader: reader as u64, tally, ..Run::asking(catalogue, field(80, &[0, 1]), &[0]) }
 }
 
 /// Consults the parish as a user of the wrapper does.
@@ -46,13 +42,13 @@ fn expect_refused(label: &str, given: &Run, number: u8) {
 #[test]
 fn sixteen_readers_and_no_other() {
     for reader in 0..READERS {
-        let ran = compare_run(&format!("reader {reader}"), &parish(reader, tally_of([0; READERS])));
-        assert_eq!((ran.word, ran.tally), (pack(2, 0, 6), tally_with(reader, LOOKS)), "reader {reader}");
+        let ran = compare_run(&format!("reader {reader}"), &parish(reader, encode_tally([0; READERS])));
+        assert_eq!((ran.word, ran.tally), (pack(2, 0, 6), encode_tally_with(reader, LOOKS)), "reader {reader}");
     }
-    for reader in NO_READERS {
+    for reader in NOT_READERS {
         for byte in [0, FILL, 0xFF] {
-            let given = Run { reader, tally: vec![byte; 128], ..Run::parish(PARISH_ORDER) };
-            expect_refused(&format!("reader {reader}"), &given, 24);
+            let given = Run { reader, tally: vec![byte; Tally::BYTES], ..Run::parish(PARISH_ORDER) };
+            expect_refused(&format!("reader {reader}, tally of bytes {byte}"), &given, 24);
         }
     }
 }
@@ -64,34 +60,28 @@ fn tallies_of_every_length() {
             let given = parish(reader, vec![FILL; length]);
             let label = format!("reader {reader}, tally of {length} bytes");
             match length {
-                128 => assert_eq!(compare_run(&label, &given).word, pack(2, 0, 6), "{label}"),
+                Tally::BYTES => assert_eq!(compare_run(&label, &given).word, pack(2, 0, 6), "{label}"),
                 _ => expect_refused(&label, &given, 17),
             }
         }
     }
 }
 
-/// A reader that there is not comes after the tables and before the tally.
+/// The refusals before these are held to each other in run.rs.
 #[test]
-fn earlier_of_two_refusals_decides() {
+fn reader_after_tables_and_before_tally() {
     let nobody = parish(READERS, vec![0; 8]);
-    let last = parish(READERS - 1, vec![0; 8]);
-    let (listed, looks) = (vec![], vec![0; 2]);
+    let full = vec![0xFF; Tally::BYTES];
     for (label, given, number) in [
         ("24 before 17, a tally of 8 bytes", nobody.clone(), 24),
         ("24 before 17, a tally of no bytes", parish(READERS, vec![]), 24),
-        ("24 before 17, a full tally", parish(READERS, vec![0xFF; 128]), 24),
-        ("17 alone, a tally of 8 bytes", last.clone(), 17),
-        ("17 alone, a full tally", parish(READERS - 1, vec![0xFF; 128]), 17),
-        ("16 before 24, the listed table", Run { listed: listed.clone(), ..nobody.clone() }, 16),
-        ("16 before 24, the looks table", Run { looks: looks.clone(), ..nobody.clone() }, 16),
-        ("16 before 17", Run { listed, looks, ..last }, 16),
-        ("15 before 24", Run { order: vec![0, 1, 1], ..nobody.clone() }, 15),
-        ("14 before 24", Run { question: [PARISH_QUESTION, &[0]].concat(), ..nobody.clone() }, 14),
-        ("11 before 24", Run { question: field(80, &[2, 1]), ..nobody.clone() }, 11),
-        ("7 before 24", Run { question: vec![80], ..nobody.clone() }, 7),
-        ("23 before 24", Run { catalogue: marked_parish(0b1000), ..nobody.clone() }, 23),
-        ("1 before 24", Run { catalogue: vec![], ..nobody }, 1),
+        ("24 before 17, a full tally", parish(READERS, full.clone()), 24),
+        ("17 alone, a tally of 8 bytes", parish(READERS - 1, vec![0; 8]), 17),
+        ("17 alone, a full tally", parish(READERS - 1, full), 17),
+        ("16 before 24, the listed table", Run { listed: vec![], ..nobody.clone() }, 16),
+        ("16 before 24, the looks table", Run { looks: vec![0; 2], ..nobody.clone() }, 16),
+        ("16 before 17", Run { looks: vec![0; 2], ..parish(READERS - 1, vec![0; 8]) }, 16),
+        ("15 before 24", Run { order: vec![0, 1, 1], ..nobody }, 15),
     ] {
         expect_refused(label, &given, number);
     }
@@ -103,10 +93,10 @@ fn number_is_filled_and_not_passed() {
     for reader in 0..READERS {
         for entries in [0, 1, 8, 200] {
             let looks = entries as u64;
-            let with = |number| Run { reader: reader as u64, tally: tally_with(reader, number), ..asking(entries) };
+            let with = |number| asking(entries, reader, encode_tally_with(reader, number));
             let label = format!("reader {reader}, {entries} looks");
             let ran = compare_run(&label, &with(u64::MAX - looks));
-            assert_eq!((ran.word, ran.tally), (pack(0, 0, entries), tally_with(reader, u64::MAX)), "{label}");
+            assert_eq!((ran.word, ran.tally), (pack(0, 0, entries), encode_tally_with(reader, u64::MAX)), "{label}");
             if let Some(one_less) = looks.checked_sub(1) {
                 expect_refused(&format!("{label}, one too many"), &with(u64::MAX - one_less), 17);
                 expect_refused(&format!("{label}, full"), &with(u64::MAX), 17);
@@ -118,9 +108,9 @@ fn number_is_filled_and_not_passed() {
 /// One look where the number of reader 5 can grow no more: for reader 5 it is refused, for every other it is not.
 #[test]
 fn proved_case_11() {
-    let full = tally_with(5, u64::MAX);
+    let full = encode_tally_with(5, u64::MAX);
     for reader in 0..READERS {
-        let given = Run { reader: reader as u64, tally: full.clone(), ..asking(1) };
+        let given = asking(1, reader, full.clone());
         let label = format!("P11, reader {reader}");
         if reader == 5 {
             expect_refused(&label, &given, 17);
@@ -128,7 +118,7 @@ fn proved_case_11() {
             let mut due = [0; READERS];
             (due[5], due[reader]) = (u64::MAX, 1);
             let ran = compare_run(&label, &given);
-            assert_eq!((ran.word, ran.tally), (pack(0, 0, 1), tally_of(due)), "{label}");
+            assert_eq!((ran.word, ran.tally), (pack(0, 0, 1), encode_tally(due)), "{label}");
         }
     }
 }
@@ -145,9 +135,9 @@ fn only_this_readers_number_grows() {
             });
             numbers[reader] = if carry == 8 { rng.next_u64() >> 1 } else { (1 << (8 * carry)) - 1 };
             let label = format!("reader {reader}, carry {carry}, {numbers:X?}");
-            let ran = compare_run(&label, &parish(reader, tally_of(numbers)));
+            let ran = compare_run(&label, &parish(reader, encode_tally(numbers)));
             numbers[reader] += LOOKS;
-            assert_eq!((ran.word, ran.tally), (pack(2, 0, 6), tally_of(numbers)), "{label}");
+            assert_eq!((ran.word, ran.tally), (pack(2, 0, 6), encode_tally(numbers)), "{label}");
         }
     }
 }
@@ -167,7 +157,7 @@ fn run_is_the_same_for_each_reader() {
         for (reader, one) in ran.iter().enumerate() {
             let alike = (one.word, &one.listed, &one.looks) == (ran[0].word, &ran[0].listed, &ran[0].looks);
             assert!(alike, "seed {seed}, reader {reader}: {one:?}\nreader 0: {:?}", ran[0]);
-            assert_eq!(one.tally, tally_with(reader, look_count(one) as u64), "seed {seed}, reader {reader}");
+            assert_eq!(one.tally, encode_tally_with(reader, look_count(one) as u64), "seed {seed}, reader {reader}");
         }
     }
 }
@@ -184,34 +174,34 @@ impl Sequence {
     /// Makes so many runs, one after the other, from a tally of these numbers on.
     fn of(runs: u64, seed: u64, numbers: [u64; READERS]) -> Sequence {
         let mut sequence =
-            Sequence { rng: Rng::new(seed), tally: tally_of(numbers), sums: numbers, seen: Seen::none() };
+            Sequence { rng: Rng::new(seed), tally: encode_tally(numbers), sums: numbers, seen: Seen::none() };
         for run in 0..runs {
             sequence.run(&format!("seed {seed}, run {run}"));
-            assert_eq!(sequence.tally, tally_of(sequence.sums), "seed {seed}, after run {run}");
+            assert_eq!(sequence.tally, encode_tally(sequence.sums), "seed {seed}, after run {run}");
         }
         sequence
     }
 
-    /// Makes any run. How many looks it has, or why it is refused, is found out with a tally of zeros, which no run fills. Now and
-    /// then it is lent another tally, of a wrong length, and has no part in the sums.
+    /// Makes any run. How many looks it has, or why it is refused, is found out with a tally of zeros, which no run fills. Now
+    /// and then it is lent another tally, of a wrong length, and has no part in the sums.
     fn run(&mut self, label: &str) {
         let given = Damaged::new(&mut self.rng).run(&mut self.rng);
         if given.tally.len() != Tally::BYTES {
-            return self.seen.count(compare_run(label, &given).word);
+            return self.seen.count_run(&given, compare_run(label, &given).word);
         }
-        let alone = compare_run(label, &Run { tally: tally_of([0; READERS]), ..given.clone() });
-        let reader = given.reader as usize;
-        let ran = compare_run(label, &Run { tally: self.tally.clone(), ..given });
+        let alone = compare_run(label, &Run { tally: encode_tally([0; READERS]), ..given.clone() });
+        let given = Run { tally: self.tally.clone(), ..given };
+        let ran = compare_run(label, &given);
         let mut due = alone.word;
         if alone.word as u8 == 0 {
-            let sum = &mut self.sums[reader];
+            let sum = &mut self.sums[given.reader as usize];
             match sum.checked_add(look_count(&alone) as u64) {
                 Some(grown) => *sum = grown,
                 None => due = refused(17),
             }
         }
         assert_eq!(ran.word, due, "{label}, {:?}", self.sums);
-        self.seen.count(ran.word);
+        self.seen.count_run(&given, ran.word);
         self.tally = ran.tally;
     }
 }
@@ -234,7 +224,7 @@ fn sums_up_to_full_over_a_sequence_of_runs() {
     let (runs, mut rng) = (seeds(4_000).end, Rng::new(2));
     let near = [(); READERS].map(|()| u64::MAX - rng.between(20, 60) as u64);
     let Sequence { sums, seen, .. } = Sequence::of(runs, 2, near);
-    seen.assert_each(17..=17, runs as u32 / 10);
+    seen.assert_sums(runs as u32 / 10);
     assert!(sums.iter().zip(&near).all(|(sum, start)| sum > start), "{sums:?} from {near:?} on");
 }
 
@@ -256,7 +246,7 @@ fn wrapper_adds_to_its_readers_number() {
         assert_eq!(tally.of(reader), Some(sum));
     }
     let sums = [6, 0, 0, 6, 0, 0, 0, 0, 0, 0, 0, 0, 0, 0, 0, 12];
-    assert_eq!(tally.bytes().as_slice(), tally_of(sums));
+    assert_eq!(tally.bytes().as_slice(), encode_tally(sums));
     assert_eq!(format!("{tally:?}"), format!("Tally({sums:?})"));
     for (order, reader, refusal) in [
         (PARISH_ORDER, 16, Refusal::NoSuchReader),
@@ -266,20 +256,57 @@ fn wrapper_adds_to_its_readers_number() {
         let before = tally.clone();
         assert_eq!((consult(order, reader, &mut tally), &tally), (Err(refusal), &before));
     }
-    for reader in NO_READERS {
+    for reader in NOT_READERS {
         assert_eq!(tally.of(reader), None, "reader {reader}");
     }
 }
 
 #[test]
 fn wrapper_refuses_a_full_number() {
-    let with = |number| Tally::from_bytes(tally_with(9, number).try_into().expect("128 bytes"));
+    let with = |number| Tally::try_from(encode_tally_with(9, number).as_slice()).expect("a tally");
     let mut tally = with(u64::MAX - LOOKS + 1);
     let before = tally.clone();
     assert_eq!((consult(PARISH_ORDER, 9, &mut tally), &tally), (Err(Refusal::BadTally), &before));
     assert!(consult(PARISH_ORDER, 8, &mut tally).is_ok());
-    assert_eq!([8, 9, 10].map(|reader| tally.of(reader)), [Some(LOOKS), before.of(9), Some(0)]);
+    let due = [Some(LOOKS), Some(u64::MAX - LOOKS + 1), Some(0)];
+    assert_eq!([8, 9, 10].map(|reader| tally.of(reader)), due);
     let mut tally = with(u64::MAX - LOOKS);
     assert!(consult(PARISH_ORDER, 9, &mut tally).is_ok());
     assert_eq!(tally, with(u64::MAX));
+}
+
+/// Sixteen numbers of eight different bytes each, in and out by each way that the wrapper has.
+#[test]
+fn wrapper_gives_back_its_numbers_and_bytes() {
+    let numbers: [u64; READERS] = std::array::from_fn(|reader| 0x0102_0304_0506_0708 * (reader as u64 + 1));
+    let bytes = encode_tally(numbers);
+    let mut tally = Tally::from_numbers(numbers);
+    assert_eq!((tally.numbers(), tally.bytes().as_slice()), (numbers, bytes.as_slice()));
+    assert_eq!(Tally::try_from(bytes.as_slice()).as_ref(), Ok(&tally));
+    for (reader, number) in (0..).zip(numbers) {
+        assert_eq!(tally.of(reader), Some(number), "reader {reader}");
+    }
+    assert_eq!(format!("{tally:?}"), format!("Tally({numbers:?})"));
+    tally.bytes_mut()[Tally::BYTES - 1] += 1;
+    assert_eq!(tally.of(15), Some(numbers[15] + 1));
+}
+
+/// That of eight bytes, as runs took it before there were readers, among them.
+#[test]
+fn wrapper_takes_no_tally_of_another_length() {
+    for length in (0..300).filter(|&length| length != Tally::BYTES) {
+        assert_eq!(Tally::try_from(vec![0; length].as_slice()), Err(Refusal::BadTally), "{length} bytes");
+    }
+}
+
+/// A run is lent the bytes of a `Tally` as `consult` lends them.
+#[test]
+fn wrapper_lends_the_bytes_of_a_tally() {
+    let (mut lent, mut consulted) = (Tally::default(), Tally::default());
+    let counts =
+        searchroom::run(PARISH_CATALOGUE, PARISH_QUESTION, PARISH_ORDER, 4, &mut [0; 1], &mut [0; 3], lent.bytes_mut());
+    let found = consult(PARISH_ORDER, 4, &mut consulted).expect("an accepted run");
+    assert_eq!((counts, lent.of(4)), (Ok(found.counts()), Some(LOOKS)));
+    // Alike, and so one in a set.
+    assert_eq!(HashSet::from([lent, consulted]).len(), 1);
 }

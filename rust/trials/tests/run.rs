@@ -7,7 +7,7 @@ use generator::{
 use searchroom::{Refusal, Tally, consult};
 use trials::{
     Damaged, OUTSIDE_THE_CENTURY, PARISH_CATALOGUE, PARISH_ORDER, PARISH_QUESTION, Run, Seen, compare_run,
-    marked_parish, tally_with,
+    encode_tally_with, marked_parish,
 };
 
 /// One entry for each pattern of `count` outcomes: condition c is met at entry e exactly if bit c of e is one.
@@ -22,7 +22,7 @@ fn every_pattern(count: usize) -> (Catalogue, Vec<Condition>) {
 fn proved_cases_1_and_2_as_run() {
     let ran = compare_run("P1", &Run::parish(PARISH_ORDER));
     assert_eq!(ran.word, pack(2, 0, 6));
-    assert_eq!((ran.listed, ran.looks, ran.tally), (vec![0b101], vec![0b111, 0b001, 0b110], tally_with(0, 6)));
+    assert_eq!((ran.listed, ran.looks, ran.tally), (vec![0b101], vec![0b111, 0b001, 0b110], encode_tally_with(0, 6)));
     let ran = compare_run("P2", &Run::parish(&[2, 1, 0]));
     assert_eq!((ran.word, ran.listed), (pack(2, 0, 7), vec![0b101]));
     assert_eq!(ran.looks.iter().map(|row| row.count_ones()).collect::<Vec<_>>(), [2, 2, 3]);
@@ -43,7 +43,7 @@ fn wrapper_gives_the_parish_as_values() {
 /// Of 1701, 1822 and a blank the second alone is listed, and each is looked at.
 #[test]
 fn undated_entry_is_not_outside_the_century() {
-    let given = Run { question: OUTSIDE_THE_CENTURY.to_vec(), looks: vec![0], ..Run::parish(&[0]) };
+    let given = Run::asking(PARISH_CATALOGUE.to_vec(), OUTSIDE_THE_CENTURY.to_vec(), &[0]);
     let ran = compare_run("outside the century", &given);
     assert_eq!((ran.word, ran.listed, ran.looks), (pack(1, 0, 3), vec![0b010], vec![0b111]));
 }
@@ -59,12 +59,8 @@ fn condition_and_its_opposite() {
             |at: usize| -> u8 { (0..3).map(|entry| u8::from(pair[at].answers[entry] == Answer::Yes) << entry).sum() };
         for (first, second) in [(0, 1), (1, 0)] {
             for (tag, listed, due) in [(79, yes(0) | yes(1), 0b111 - yes(first)), (65, 0, yes(first))] {
-                let given = Run {
-                    catalogue: encode_catalogue(&made),
-                    question: field(tag, &members),
-                    looks: vec![0; 2],
-                    ..Run::parish(&[first as u8, second as u8])
-                };
+                let order = [first as u8, second as u8];
+                let given = Run::asking(encode_catalogue(&made), field(tag, &members), &order);
                 let label = format!("kind {}, group of tag {tag}, condition {first} first", pair[0].number);
                 let ran = compare_run(&label, &given);
                 assert_eq!((ran.listed, ran.looks[first], ran.looks[second]), (vec![listed], 0b111, due), "{label}");
@@ -85,7 +81,7 @@ fn proved_case_7_no_entries() {
             let given = Run {
                 listed: vec![7; tables],
                 looks: vec![7; tables],
-                tally: tally_with(0, tally),
+                tally: encode_tally_with(0, tally),
                 ..Run::fitting(&nobody, &asked, &order)
             };
             let ran = compare_run("no entries", &given);
@@ -296,7 +292,7 @@ fn largest_run() {
     assert_eq!(ran.word, pack(2_048, 0, 131_072));
     assert_eq!(ran.looks, vec![0xFF; 16_384]);
     for (tally, word) in [(u64::MAX - 131_072, pack(2_048, 0, 131_072)), (u64::MAX - 131_071, refused(17))] {
-        let given = Run { tally: tally_with(0, tally), ..full.clone() };
+        let given = Run { tally: encode_tally_with(0, tally), ..full.clone() };
         assert_eq!(compare_run("largest run, fullest tally", &given).word, word);
     }
 }
@@ -330,8 +326,9 @@ fn random_and_damaged_runs_reach_every_refusal() {
     for seed in 0..30_000 {
         let mut rng = Rng::new(seed);
         let given = Damaged::new(&mut rng).run(&mut rng);
-        seen.count(compare_run(&format!("seed {seed}"), &given).word);
+        seen.count_run(&given, compare_run(&format!("seed {seed}"), &given).word);
     }
     seen.assert_each(0..=17, 10);
     seen.assert_each(23..=24, 10);
+    seen.assert_sums(10);
 }

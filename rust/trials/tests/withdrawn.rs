@@ -9,8 +9,8 @@ use generator::{
 use searchroom::{Answer, Look, Tally, consult, copy_of, looks, outcome};
 use trials::{
     Copying, ENTRIES_AT_ENDS, FILL, PARISH_ORDER, PARISH_QUESTION, PARISH_TEXT, Run, compare_both, compare_copy,
-    compare_every_call, compare_outcome, compare_question, compare_reading, compare_run, fewer, look_count,
-    marked_parish, ones, seeds, sizes, tally_with,
+    compare_every_call, compare_outcome, compare_question, compare_reading, compare_run, encode_tally_with, fewer,
+    look_count, marked_parish, ones, seeds, sizes,
 };
 
 /// The same catalogue with a mark.
@@ -74,8 +74,8 @@ impl Asked {
     }
 }
 
-/// The parish's run, by hand: entries 0 and 2 are listed, condition 0 is looked at everywhere, condition 1 at entry 0, condition
-/// 2 at the others. Of these the entries still in the house remain.
+/// The parish's run, by hand: entries 0 and 2 are listed, condition 0 is looked at everywhere, condition 1 at entry 0,
+/// condition 2 at the others. Of these the entries still in the house remain.
 #[test]
 fn parish_with_each_mark() {
     let fields = [[0, 0, 1], [0, 1, 1], [1, 0, 0], [1, 2, 0], [2, 0, 2], [2, 2, 1]];
@@ -92,7 +92,7 @@ fn parish_with_each_mark() {
         assert_eq!(ran.looks, [0b111 & house, 0b001 & house, 0b110 & house, FILL], "{label}");
         let present = fields.iter().filter(|[entry, ..]| house >> entry & 1 == 1);
         let expected: Vec<u8> = present.flat_map(|[entry, number, is]| [76, 0, 4, 0, *entry, *number, *is]).collect();
-        assert_eq!(ran.tally, tally_with(0, expected.len() as u64 / 7), "{label}");
+        assert_eq!(ran.tally, encode_tally_with(0, expected.len() as u64 / 7), "{label}");
         let copied = compare_copy(&label, &given.copying(&vec![0; expected.len()]));
         assert_eq!(copied.output, expected, "{label}");
     }
@@ -124,7 +124,7 @@ fn each_kind_at_a_withdrawn_entry() {
             let label = format!("kind {}, mark {mark:03b}", kind.number);
             let catalogue = [encode_catalogue(&made), encode_mark(&[mark])].concat();
             let (listed, looks) = (vec![FILL], vec![FILL]);
-            let given = Run { catalogue, question: question.clone(), listed, looks, ..Run::parish(&[0]) };
+            let given = Run { listed, looks, ..Run::asking(catalogue, question.clone(), &[0]) };
             let ran = compare_run(&label, &given);
             assert_eq!((ran.listed, ran.looks), (vec![yes & !mark], vec![0b111 & !mark]), "{label}");
             let answers = [0, 1, 2].map(|entry| compare_outcome(&label, &given.catalogue, &question, entry, 0));
@@ -150,8 +150,8 @@ fn one_entry_withdrawn_or_left() {
     }
 }
 
-/// Each of the generator's patterns of withdrawn entries, over conditions met in any of them, in whole blocks of 64 entries, with
-/// one more, and without the last.
+/// Each of the generator's patterns of withdrawn entries, over conditions met in any of them, in whole blocks of 64 entries,
+/// with one more, and without the last.
 #[test]
 fn each_pattern_of_withdrawn_entries() {
     for size in sizes([63, 64, 65, 128, 200, 2_047, 2_048]) {
@@ -190,7 +190,7 @@ fn every_entry_withdrawn() {
             let made = marked(&asked.catalogue, &vec![true; size]);
             let fit = Run::fitting(&made, &asked.question, &asked.order);
             for tally in [0, 250, u64::MAX] {
-                let tally = tally_with(0, tally);
+                let tally = encode_tally_with(0, tally);
                 let ran = compare_run("all withdrawn", &Run { tally: tally.clone(), ..fit.clone() });
                 assert_eq!((ran.word, ran.tally), (pack(0, 0, 0), tally), "{size} entries");
                 assert!([ran.listed, ran.looks].concat().iter().all(|&byte| byte == 0), "{size} entries");
@@ -211,11 +211,11 @@ fn tables_have_a_place_for_withdrawn_entries() {
     // The last entry is withdrawn, and with it all that the second byte of a row has.
     let made = marked(&asked.catalogue, &[vec![false; 8], vec![true]].concat());
     let fit = Run::fitting(&made, &asked.question, &asked.order);
-    let full = Run { tally: tally_with(0, u64::MAX - 16), ..fit.clone() };
+    let full = Run { tally: encode_tally_with(0, u64::MAX - 16), ..fit.clone() };
     for (given, word) in [
         (Run { listed: vec![0; 1], ..fit.clone() }, refused(16)),
         (Run { looks: vec![0; 3], ..fit.clone() }, refused(16)),
-        (Run { tally: tally_with(0, u64::MAX - 15), ..fit.clone() }, refused(17)),
+        (Run { tally: encode_tally_with(0, u64::MAX - 15), ..fit.clone() }, refused(17)),
         (full, pack(8, 0, 16)),
     ] {
         assert_eq!(compare_run("the last withdrawn", &given).word, word);
