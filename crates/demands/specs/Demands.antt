@@ -98,7 +98,7 @@ IsReader reader = reader ≤ 15
 abbrev pub TallyFits : Input → (order : List ℕ) → (reader : ℕ) → (tally : List ℕ) → Type 0
 TallyFits i order reader tally = (length tally ≡ 128) × (counterAt tally reader + lookCount (taskOf i order) < 2 ^ 64)
 
--- and these are a reader's eight bytes
+-- a reader's eight bytes of a tally
 abbrev pub counterBytes : (tally : List ℕ) → (reader : ℕ) → List ℕ
 counterBytes tally reader = take 8 (drop (reader * 8) tally)
 

@@ -16,7 +16,7 @@ abbrev pub Through : (tally : List ℕ) → (runs : List Lent) → (left : List 
 Through tally [] left = left ≡ tally
 Through tally (l ∷ ls) left = InBytes (l .request) × (l .tally ≡ tally) × Through (after l .tally) ls left
 
--- "the look counts of that reader's accepted runs": a run's look count if it is this reader's and accepted, else 0
+-- "the look counts of that reader's accepted runs": a run's third result if it is this reader's and its number is 0, accepted; else 0
 abbrev pub looksBy : (reader : ℕ) → Lent → ℕ
 looksBy reader l = cond (eqb (l .reader) reader && eqb (after l .word % 2 ^ 8) 0) (after l .word / 2 ^ 40) 0
 

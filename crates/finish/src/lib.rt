@@ -1,4 +1,4 @@
-// How a run ends: what will go out is counted, the counter tested, and only then the lent tables written.
+// How a run ends: what will go out is counted, the tally tested, and only then the lent tables written.
 use answers::refusal::Refusal;
 use answers::tally::Tally;
 use answers::word::Answer;
