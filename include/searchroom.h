@@ -21,7 +21,7 @@
  * nothing that it was lent. The first check that fails, in the order stated at the call, decides the number.
  *
  * Fields. Catalogues, questions and copies are made of fields: a one-byte tag, a two-byte length, then that many bytes, the
- * payload. All numbers are unsigned, most significant byte first. Entries, columns and conditions count from 0.
+ * payload. All numbers are unsigned, most significant byte first. Entries, columns, conditions and readers count from 0.
  *
  * Rows of bits. The mark of a catalogue and the tables of a run are made of rows of bits. A row for E entries takes
  * searchroom_row_bytes(E) bytes, ceiling(E / 8): entry e is the bit of weight 2^(e mod 8) in byte e div 8 (searchroom_bit),
@@ -289,7 +289,7 @@ static inline unsigned searchroom_bit(const uint8_t *row, unsigned entry) { retu
 
 /*
  * Writes the steward's copy of the register: each look that searchroom_run registers on the same catalogue, question and
- * order, with what it found.
+ * order, with what it found. They are the same for every reader, so a copy names none.
  *
  * Each look has one field, and no other field is written; a withdrawn entry has none. A field takes
  * SEARCHROOM_COPY_FIELD_BYTES bytes:

@@ -1,4 +1,4 @@
-// The tally, a counter for each reader; the contracts tie these to those of demands/specs/Run.antt.
+// The tally, a counter for each reader; the contracts tie these constants to `readerLimit` and `tallySize` of demands/specs/Run.antt.
 use fields::counter::Counter;
 
 pub struct Reader;

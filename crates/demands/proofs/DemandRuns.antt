@@ -106,14 +106,14 @@ module _ (l : Lent) where
   pub run-cases : InBytes (l .request) → Cases
   run-cases bytes = forms (input-cases (l .request .catalogue) (l .request .question) (bytes .0) (bytes .1))
     where
-      counter : (i : Input) → Reads (l .request .catalogue) (l .request .question) i → RunningOrder i (l .request .order) → TablesFit i (l .listed) (l .looks)
+      tallies : (i : Input) → Reads (l .request .catalogue) (l .request .question) i → RunningOrder i (l .request .order) → TablesFit i (l .listed) (l .looks)
           → IsReader (l .reader) → (b : Bool) → tallyFits (l .tally) (l .reader) (lookCount (taskOf i (l .request .order))) ≡ b → Cases
-      counter i r o t k true h = inl (i, record { forms = r; order = o; tables = t; reader = k; tally = tally-fits i (l .request .order) (l .reader) (l .tally) h })
-      counter i r o t k false h = inr (tallyRefused, badTally i r o t k (λ y. clash (tally-yes i (l .request .order) (l .reader) (l .tally) y) h) refl)
+      tallies i r o t k true h = inl (i, record { forms = r; order = o; tables = t; reader = k; tally = tally-fits i (l .request .order) (l .reader) (l .tally) h })
+      tallies i r o t k false h = inr (tallyRefused, badTally i r o t k (λ y. clash (tally-yes i (l .request .order) (l .reader) (l .tally) y) h) refl)
 
       readers : (i : Input) → Reads (l .request .catalogue) (l .request .question) i → RunningOrder i (l .request .order) → TablesFit i (l .listed) (l .looks)
           → (b : Bool) → ltb (l .reader) readerLimit ≡ b → Cases
-      readers i r o t true h = counter i r o t (is-reader (l .reader) h) (tallyFits (l .tally) (l .reader) (lookCount (taskOf i (l .request .order)))) refl
+      readers i r o t true h = tallies i r o t (is-reader (l .reader) h) (tallyFits (l .tally) (l .reader) (lookCount (taskOf i (l .request .order)))) refl
       readers i r o t false h = inr (noSuchReader, badReader i r o t (λ y. clash (reader-yes (l .reader) y) h) refl)
 
       tables : (i : Input) → Reads (l .request .catalogue) (l .request .question) i → RunningOrder i (l .request .order) → (b : Bool) → fits i (l .listed) (l .looks) ≡ b → Cases

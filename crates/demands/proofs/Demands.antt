@@ -14,7 +14,7 @@ use Rattle.fields.specs.Numbers.{bytesOf, Bytes}
 use Rattle.fields.proofs.ByteLaws.{bytes-number, bytes-put}
 use Rattle.fields.proofs.Laws.{length-bytes}
 use Rattle.fields.proofs.OutputLaws.{put-there, part-before, rest-behind, put-length}
-use Rattle.fields.proofs.PlaceLaws.{put-number}
+use Rattle.fields.proofs.PlaceLaws.{number-put}
 use Rattle.catalogue.specs.Catalogue.{marked, withMark, isWithdrawn}
 use Rattle.catalogue.specs.Encode.{encodeCatalogue}
 use Rattle.catalogue.specs.Formed.{FormedBits}
@@ -261,7 +261,7 @@ demand-2-counts l i k = rw (← found, ← looked) (kept-gives l i k)
         ∙ sum-same (λ c. countOf (isProbed (taskOf i (l .request .order)) c) (rowCount i)) (λ c. countOf (bit (looksLine i (after l .looks) c)) (rowCount i)) (predicateCount i)
         (λ c m. rw (kept-run l i k, looks-line i (l .request .order) (l .looks) c m) (sym (line-count (isProbed (taskOf i (l .request .order)) c) (rowCount i))))
 
--- where the reader's eight bytes stand in the tally, and what they are given
+-- the tally after an accepted run: its reader's eight bytes, and all the others
 module _ (l : Lent) (i : Input) (k : Kept l i) where
   abbrev place : ℕ
   place = l .reader * 8
@@ -279,7 +279,7 @@ module _ (l : Lent) (i : Input) (k : Kept l i) where
   fits = omega (arith, in-tally, length-bytes 8 sum)
 
   grown : counterAt (after l .tally) (l .reader) ≡ sum
-  grown = rw its-tally (put-number place 8 sum (l .tally) in-tally (omega (arith, k .tally .1)))
+  grown = rw its-tally (number-put place 8 sum (l .tally) in-tally (omega (arith, k .tally .1)))
 
   its-bytes : counterBytes (after l .tally) (l .reader) ≡ bytesOf 8 sum
   its-bytes = rw its-tally (ap (take 8) (put-there place (bytesOf 8 sum) (l .tally) fits) ∙ take-at (bytesOf 8 sum) _ 8 (length-bytes 8 sum))

@@ -25,18 +25,19 @@ IsTally tally = (length tally ≡ 128) × Bytes tally
 same-counter : (s t : List ℕ) (r : ℕ) → counterBytes s r ≡ counterBytes t r → counterAt s r ≡ counterAt t r
 same-counter s t r e = number-of-part s (r * 8) 8 ∙ ap (λ (b : List ℕ). numberAt b 0 8) e ∙ sym (number-of-part t (r * 8) 8)
 
--- no looks are none, whosever they are
+-- no looks are added, whosever the run is
 none : (mine : Bool) → _≡_ {A = ℕ} (cond mine 0 0) 0
 none true = refl
 none false = refl
 
 module _ (l : Lent) where
+  -- a refused run adds none
   refused-adds : (e r : ℕ) → FirstBroken l e → counterAt (after l .tally) r ≡ counterAt (l .tally) r + looksBy r l
   refused-adds e r x =
       let d = demand-1-refused l e x in
       rw (d .3, d .0 .4, none (eqb (l .reader) r && eqb (after l .word % 2 ^ 8) 0)) (omega arith)
 
-  -- an accepted run is its reader's, and nobody else's
+  -- an accepted run adds its looks to its reader's number, and to no other
   kept-adds : (i : Input) → Kept l i → (r : ℕ) → counterAt (after l .tally) r ≡ counterAt (l .tally) r + looksBy r l
   kept-adds i k r = go (same? r (l .reader))
     where

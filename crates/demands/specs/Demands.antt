@@ -361,7 +361,7 @@ Demand2Counts =
     → Gives (after l .word) 0 (countOf (bit (listedLine i (after l .listed))) (rowCount i)) 0
     (sumOf (λ c. countOf (bit (looksLine i (after l .looks) c)) (rowCount i)) (predicateCount i))
 
--- "at most E × n"; "a run adds its look count to it", order 7: to its reader's number
+-- "at most E × n"; "a run adds its look count to it", order 7: to its reader's number, and its eight bytes are those of the sum
 abbrev pub Demand2Tally : Type 0
 Demand2Tally =
     (l : Lent) (i : Input) → Kept l i

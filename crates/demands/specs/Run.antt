@@ -101,6 +101,7 @@ tallyAfter tally reader k = putAt (counterPlace reader) (bytesOf counterSize (co
 abbrev pub tablesFit : (n size : ℕ) → (listed looks : ℕ) → Bool
 tablesFit n size listed looks = leb size listed && leb (n * size) looks
 
+-- the tally has its size, and this reader's sum fits eight bytes
 abbrev pub tallyFits : (tally : List ℕ) → (reader look-count : ℕ) → Bool
 tallyFits tally reader k = eqb (length tally) tallySize && ltb (counterAt tally reader + k) (2 ^ 64)
 

@@ -11,12 +11,12 @@ use Rattle.demands.specs.Run.{Lent, counterAt}
 use Rattle.demands.specs.Demands.{InBytes, after}
 
 -- "any sequence of runs, each lent the tally as the last left it": `tally` is lent to the first, `left` is what the last leaves. Of a run it is only asked
--- that its catalogue and question are bytes; they, the order, the reader and the tables may differ from run to run, and it may be refused
+-- that its catalogue and question are bytes; they, the order, the reader, the listed and the looks table may differ from run to run, and it may be refused
 abbrev pub Through : (tally : List ℕ) → (runs : List Lent) → (left : List ℕ) → Type 0
 Through tally [] left = left ≡ tally
 Through tally (l ∷ ls) left = InBytes (l .request) × (l .tally ≡ tally) × Through (after l .tally) ls left
 
--- "the look counts of that reader's accepted runs": a run's third result if it is this reader's and its number is 0, accepted; else 0
+-- "the look counts of that reader's accepted runs": the third result of a run that is this reader's and accepted (number 0); else 0
 abbrev pub looksBy : (reader : ℕ) → Lent → ℕ
 looksBy reader l = cond (eqb (l .reader) reader && eqb (after l .word % 2 ^ 8) 0) (after l .word / 2 ^ 40) 0
 
@@ -26,7 +26,7 @@ sumBy reader [] = 0
 sumBy reader (l ∷ ls) = looksBy reader l + sumBy reader ls
 
 -- "From zeros, over any sequence of runs, each lent the tally as the last left it, every number is the sum of the look counts of that reader's accepted
--- runs."
+-- runs." For r over 15 both sides are 0
 abbrev pub TallySums : Type 0
 TallySums =
     (runs : List Lent) (left : List ℕ) → Through (replicate 128 0) runs left

@@ -1,4 +1,4 @@
--- Pieces written one behind the other make their joined text.
+-- Pieces written one behind the other make their joined text; what stays around a piece; the front of an output.
 use Prim.Native.Nat.{ℕ, suc, _+_, _-_, _≤_, _<_}
 use native.Mathlib.Nat.{zero-add}
 use native.Mathlib.Numerals.{add-one}

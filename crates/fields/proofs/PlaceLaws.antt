@@ -18,11 +18,13 @@ unfolding numberAt
 number-taken b n zero l = refl
 number-taken b n (suc w) l = rw (number-taken b n w (omega arith), getD-take n b (0 + w) 0 (omega arith))
 
+-- a number is that of the bytes in its place
 pub number-of-part : (b : List ℕ) (at w : ℕ) → numberAt b at w ≡ numberAt (take w (drop at b)) 0 w
 number-of-part b at w = number-dropped b at w ∙ number-taken (drop at b) w w (omega arith)
 
-pub put-number : (at w x : ℕ) (old : List ℕ) → at + w ≤ length old → x < 256 ^ w → numberAt (putAt at (bytesOf w x) old) at w ≡ x
-put-number at w x old fits l =
+-- a number that is written is read again
+pub number-put : (at w x : ℕ) (old : List ℕ) → at + w ≤ length old → x < 256 ^ w → numberAt (putAt at (bytesOf w x) old) at w ≡ x
+number-put at w x old fits l =
     number-read (putAt at (bytesOf w x) old) at w x (drop (at + length (bytesOf w x)) old) l
     (put-there at (bytesOf w x) old (omega (arith, length-bytes w x)))
 

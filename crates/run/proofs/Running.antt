@@ -45,7 +45,7 @@ module _ {b q : List ℕ} {r : Beginning} {T : Tables} (G : HasInput b q r T) (o
   same-size : size ≡ task-size
   same-size = s ∙ ap bytesFor (G .rows ∙ G .laid .rows)
 
-  -- the checks of the request, then that of the counter
+  -- the checks of the request, then that of the tally
   abbrev further : Ran
   further =
       checked (tallyChecks tally reader (lookCount (taskOf (G .input) order))) (λ e. refuse e listed looks tally) (accept (taskOf (G .input) order) asked)

@@ -5,10 +5,10 @@ use searchroom::TYPED_BYTES;
 use crate::plain;
 use crate::table::Table;
 
-/// The ratio wanted to the plain reader.
+/// The ratio wanted to the plain reading.
 const TO_PLAIN: Option<f64> = Some(1.0);
 
-/// Reading a typed question, against a plain reader that makes the same checks. The catalogue is small, so that the time is
+/// Reading a typed question, against a plain reading that makes the same checks. The catalogue is small, so that the time is
 /// the text's.
 pub fn report(table: &mut Table) {
     let mut rng = Rng::new(7);
@@ -31,7 +31,7 @@ fn row(table: &mut Table, what: &str, catalogue: &Catalogue, text: &str) {
     let mut engine = || searchroom::typed(&catalogue, text, &mut ours).map_err(|refusal| refusal.number());
     let mut plainly = || plain::typed(&catalogue, text, &mut theirs);
     assert_eq!(engine(), plainly(), "{what}");
-    table.row(what, "plain Rust reader", TO_PLAIN, engine, plainly);
+    table.row(what, "plain Rust reading", TO_PLAIN, engine, plainly);
     assert!(ours == theirs, "{what}: the bytes differ");
 }
 
