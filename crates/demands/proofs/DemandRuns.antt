@@ -34,7 +34,7 @@ module _ (i : Input) (listed looks : List ℕ) where
       let p = and-parts (leb (bytesFor (rowCount i)) (length listed)) (leb (predicateCount i * bytesFor (rowCount i)) (length looks)) h in
       (leb-le (bytesFor (rowCount i)) (length listed) (p .0), leb-le (predicateCount i * bytesFor (rowCount i)) (length looks) (p .1))
 
-reader-yes : (reader : ℕ) → IsReader reader → ltb reader readerLimit ≡ true
+pub reader-yes : (reader : ℕ) → IsReader reader → ltb reader readerLimit ≡ true
 reader-yes reader h = ltb-yes reader readerLimit (omega arith)
 
 is-reader : (reader : ℕ) → ltb reader readerLimit ≡ true → IsReader reader

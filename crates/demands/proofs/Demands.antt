@@ -13,7 +13,7 @@ use Rattle.fields.specs.Decoded.{Decoded, refused, accepted}
 use Rattle.fields.specs.Numbers.{bytesOf, Bytes}
 use Rattle.fields.proofs.ByteLaws.{bytes-number, bytes-put}
 use Rattle.fields.proofs.Laws.{length-bytes}
-use Rattle.fields.proofs.OutputLaws.{put-there, part-before, rest-behind, put-length}
+use Rattle.fields.proofs.OutputLaws.{put-there, part-before, rest-behind, wrote-length}
 use Rattle.fields.proofs.PlaceLaws.{number-put}
 use Rattle.catalogue.specs.Catalogue.{marked, withMark, isWithdrawn}
 use Rattle.catalogue.specs.Encode.{encodeCatalogue}
@@ -269,28 +269,32 @@ module _ (l : Lent) (i : Input) (k : Kept l i) where
   abbrev sum : ℕ
   sum = counterAt (l .tally) (l .reader) + lookCount (taskOf i (l .request .order))
 
-  in-tally : place + 8 ≤ length (l .tally)
-  in-tally = omega (arith, k .reader, k .tally .0)
+  fits : place + 8 ≤ length (l .tally)
+  fits = omega (arith, k .reader, k .tally .0)
+
+  inside : place ≤ length (l .tally)
+  inside = omega (arith, fits)
 
   its-tally : after l .tally ≡ tallyAfter (l .tally) (l .reader) (lookCount (taskOf i (l .request .order)))
   its-tally = ap (λ (s : _). s .tally) (kept-run l i k)
 
-  fits : place + length (bytesOf 8 sum) ≤ length (l .tally)
-  fits = omega (arith, in-tally, length-bytes 8 sum)
-
   grown : counterAt (after l .tally) (l .reader) ≡ sum
-  grown = rw its-tally (number-put place 8 sum (l .tally) in-tally (omega (arith, k .tally .1)))
+  grown = rw its-tally (number-put place 8 sum (l .tally) fits (omega (arith, k .tally .1)))
 
   its-bytes : counterBytes (after l .tally) (l .reader) ≡ bytesOf 8 sum
-  its-bytes = rw its-tally (ap (take 8) (put-there place (bytesOf 8 sum) (l .tally) fits) ∙ take-at (bytesOf 8 sum) _ 8 (length-bytes 8 sum))
+  its-bytes = rw its-tally (ap (take 8) (put-there place (bytesOf 8 sum) (l .tally) inside) ∙ take-at (bytesOf 8 sum) _ 8 (length-bytes 8 sum))
 
   pub bytes-stay : Bytes (l .tally) → Bytes (after l .tally)
   bytes-stay h = rw its-tally (bytes-put place (bytesOf 8 sum) (l .tally) (bytes-number 8 sum) h)
 
+  as-long : length (after l .tally) ≡ length (l .tally)
+  as-long =
+      wrote-length {at = place} {p = bytesOf 8 sum} {old = l .tally} (record { bytes = its-tally; place = refl }) (omega (arith, fits, length-bytes 8 sum))
+
   others : (r : ℕ) → (r ≡ l .reader → ⊥) → (ltb r (l .reader) ≡ true) ⊎ (ltb r (l .reader) ≡ false) → counterBytes (after l .tally) r ≡ counterBytes (l .tally) r
-  others r ne (inl h) = rw its-tally (part-before place (bytesOf 8 sum) (l .tally) fits (r * 8) 8 (omega (arith, ltb-lt r (l .reader) h)))
+  others r ne (inl h) = rw its-tally (part-before place (bytesOf 8 sum) (l .tally) inside (r * 8) 8 (omega (arith, ltb-lt r (l .reader) h)))
   others r ne (inr h) =
-      rw its-tally (ap (take 8) (rest-behind place (bytesOf 8 sum) (l .tally) fits (r * 8) (omega (arith, ltb-le r (l .reader) h, length-bytes 8 sum))))
+      rw its-tally (ap (take 8) (rest-behind place (bytesOf 8 sum) (l .tally) inside (r * 8) (omega (arith, ltb-le r (l .reader) h, length-bytes 8 sum))))
 
 pub demand-2-tally : Demand2Tally
 demand-2-tally l i k = (
@@ -302,7 +306,7 @@ demand-2-tally l i k = (
 
 pub demand-2-other-readers : Demand2OtherReaders
 demand-2-other-readers l i k = (
-  ap length (its-tally l i k) ∙ put-length (place l i k) (bytesOf 8 (sum l i k)) (l .tally) (fits l i k) ∙ k .tally .0,
+  as-long l i k ∙ k .tally .0,
   λ r ne. others l i k r ne (which (ltb r (l .reader))),
 )
 

@@ -1,4 +1,4 @@
--- Pieces written one behind the other make their joined text; what stays around a piece; the front of an output.
+-- What stays around a piece that is written; pieces one behind the other make their joined text; the front of an output.
 use Prim.Native.Nat.{ℕ, suc, _+_, _-_, _≤_, _<_}
 use native.Mathlib.Nat.{zero-add}
 use native.Mathlib.Numerals.{add-one}
@@ -6,8 +6,46 @@ use native.Mathlib.Omega.{arith}
 use mathlib.Core.Path.{_≡_, refl, sym, ap, ap₂, _∙_}
 use mathlib.Core.List.{List, [], _∷_, _++_, append-assoc}
 use lib.ListN.{length, take, drop, getD, set, length-append, length-drop, take-append-drop}
-use lib.Seq.{length-take-le, take-at, drop-at, take-append-seam, drop-append-seam, take-append-le, drop-append-le, take-take, drop-drop, take-length, set-split, append-snoc, paste, paste-zero, paste-suc}
+use lib.Seq.{length-take-le, take-at, drop-at, take-append-seam, drop-append-seam, take-append-le, drop-append-le, drop-drop, take-length, set-split, append-snoc, paste, paste-zero, paste-suc}
 use Rattle.fields.specs.Output.{putAt, putFront, Wrote, Front}
+
+-- WHAT STAYS AROUND A PIECE
+
+-- a part of a list's front
+pub part-of-front : (xs ys : List ℕ) (at n : ℕ) → at + n ≤ length xs → take n (drop at (xs ++ ys)) ≡ take n (drop at xs)
+part-of-front xs ys at n l =
+    ap (take n) (drop-append-le at xs ys (omega arith)) ∙ take-append-le n (drop at xs) ys (omega (arith, length-drop at xs))
+
+-- a piece written in its place stands there, and every part before it and behind it stays
+module _ (at : ℕ) (new old : List ℕ) (inside : at ≤ length old) where
+  abbrev behind : List ℕ
+  behind = drop (at + length new) old
+
+  before-length : length (take at old) ≡ at
+  before-length = length-take-le at old inside
+
+  cut : putAt at new old ≡ take at old ++ (new ++ behind)
+  cut = append-assoc (take at old) new behind
+
+  pub put-there : drop at (putAt at new old) ≡ new ++ behind
+  put-there = ap (drop at) cut ∙ drop-at (take at old) (new ++ behind) at before-length
+
+  pub part-before : (p n : ℕ) → p + n ≤ at → take n (drop p (putAt at new old)) ≡ take n (drop p old)
+  part-before p n l =
+      ap (λ (s : List ℕ). take n (drop p s)) cut
+      ∙ part-of-front (take at old) (new ++ behind) p n (omega (arith, before-length))
+      ∙ sym (part-of-front (take at old) (drop at old) p n (omega (arith, before-length)))
+      ∙ ap (λ (s : List ℕ). take n (drop p s)) (take-append-drop at old)
+
+  pub rest-behind : (p : ℕ) → at + length new ≤ p → drop p (putAt at new old) ≡ drop p old
+  rest-behind p l =
+      let m : ℕ = at + length new in
+      let z : m + (p - m) ≡ p = omega arith in
+      let same : drop m (putAt at new old) ≡ drop m old =
+      sym (drop-drop (length new) at (putAt at new old)) ∙ ap (drop (length new)) put-there ∙ drop-append-seam new behind in
+      sym (rw z at (drop-drop (p - m) m (putAt at new old))) ∙ ap (drop (p - m)) same ∙ rw z at (drop-drop (p - m) m old)
+
+-- PIECES ONE BEHIND THE OTHER
 
 length-more : (at : ℕ) (p q : List ℕ) → at + length p + length q ≡ at + length (p ++ q)
 length-more at p q = omega (arith, length-append p q)
@@ -20,9 +58,7 @@ module _ (at : ℕ) (p q old : List ℕ) (fits : at + length p ≤ length old) w
   put-both =
       ap₂ (λ (f r : List ℕ). f ++ q ++ r)
       (take-at (take at old ++ p) (drop (at + length p) old) (at + length p) front-length)
-      (sym (drop-drop (length q) (at + length p) (putAt at p old))
-      ∙ ap (drop (length q)) (drop-at (take at old ++ p) (drop (at + length p) old) (at + length p) front-length)
-      ∙ drop-drop (length q) (at + length p) old)
+      (rest-behind at p old (omega arith) (at + length p + length q) (omega arith))
       ∙ ap₂ (λ (f : List ℕ) (k : ℕ). f ++ drop k old) (append-assoc (take at old) p q) (length-more at p q)
 
 -- one piece, and another behind it
@@ -33,21 +69,11 @@ wrote-then {at} {next} {r} {p} {q} {old} {new} {newer} l w v = record {
 }
 
 -- what is written behind first, and the piece before it second
-module _ (at : ℕ) (p q old : List ℕ) (fits : at + length p ≤ length old) where
-  behind-length : length (take (at + length p) old) ≡ at + length p
-  behind-length = length-take-le (at + length p) old fits
-
-  put-before : putAt at p (putAt (at + length p) q old) ≡ putAt at (p ++ q) old
-  put-before =
-      let rest : List ℕ = drop (at + length p + length q) old in
-      let cut : putAt (at + length p) q old ≡ take (at + length p) old ++ (q ++ rest) = append-assoc (take (at + length p) old) q rest in
-      let front : take at (putAt (at + length p) q old) ≡ take at old =
-      ap (take at) cut ∙ take-append-le at (take (at + length p) old) (q ++ rest) (omega (arith, behind-length)) ∙ take-take at (at + length p) old (omega arith) in
-      let back : drop (at + length p) (putAt (at + length p) q old) ≡ q ++ rest =
-      ap (drop (at + length p)) cut ∙ drop-at (take (at + length p) old) (q ++ rest) (at + length p) behind-length in
-      ap₂ (λ (f r : List ℕ). f ++ p ++ r) front back
-      ∙ sym (append-assoc (take at old ++ p) q rest)
-      ∙ ap₂ (λ (f : List ℕ) (k : ℕ). f ++ drop k old) (append-assoc (take at old) p q) (length-more at p q)
+put-before : (at : ℕ) (p q old : List ℕ) → at + length p ≤ length old → putAt at p (putAt (at + length p) q old) ≡ putAt at (p ++ q) old
+put-before at p q old fits =
+    ap₂ (λ (f r : List ℕ). f ++ p ++ r) (part-before (at + length p) q old fits 0 at (omega arith)) (put-there (at + length p) q old fits)
+    ∙ sym (append-assoc (take at old ++ p) q (drop (at + length p + length q) old))
+    ∙ ap₂ (λ (f : List ℕ) (k : ℕ). f ++ drop k old) (append-assoc (take at old) p q) (length-more at p q)
 
 pub wrote-before : {at next r : ℕ} {p q old new newer : List ℕ} → at + length p ≤ length old → Wrote (at + length p) q old r new → Wrote at p new next newer
     → Wrote at (p ++ q) old r newer
@@ -114,12 +140,7 @@ wrote-again a m b {at} {end} {r} {n} {old} {new} {newer} same e w v = record {
   place = omega (arith, w .place, length-append a (m ++ b), length-append m b, length-append a (n ++ b), length-append n b, same);
 }
 
--- WHAT STAYS
-
--- a part of a list's front
-pub part-of-front : (xs ys : List ℕ) (at n : ℕ) → at + n ≤ length xs → take n (drop at (xs ++ ys)) ≡ take n (drop at xs)
-part-of-front xs ys at n l =
-    ap (take n) (drop-append-le at xs ys (omega arith)) ∙ take-append-le n (drop at xs) ys (omega (arith, length-drop at xs))
+-- THE FRONT OF AN OUTPUT
 
 -- an output that is written into keeps its length
 pub wrote-length : {at r : ℕ} {p old new : List ℕ} → Wrote at p old r new → r ≤ length old → length new ≡ length old
@@ -133,40 +154,6 @@ wrote-length {at} {r} {p} {old} {new} w l =
       length-take-le at old (omega (arith, w .place)),
       length-drop (at + length p) old,
     )
-
--- a piece written in its place: it stands there, and every part before it and behind it stays
-module _ (at : ℕ) (new old : List ℕ) (fits : at + length new ≤ length old) where
-  abbrev behind : List ℕ
-  behind = drop (at + length new) old
-
-  before-length : length (take at old) ≡ at
-  before-length = length-take-le at old (omega arith)
-
-  cut : putAt at new old ≡ take at old ++ (new ++ behind)
-  cut = append-assoc (take at old) new behind
-
-  pub put-there : drop at (putAt at new old) ≡ new ++ behind
-  put-there = ap (drop at) cut ∙ drop-at (take at old) (new ++ behind) at before-length
-
-  pub part-before : (p n : ℕ) → p + n ≤ at → take n (drop p (putAt at new old)) ≡ take n (drop p old)
-  part-before p n l =
-      ap (λ (s : List ℕ). take n (drop p s)) cut
-      ∙ part-of-front (take at old) (new ++ behind) p n (omega (arith, before-length))
-      ∙ sym (part-of-front (take at old) (drop at old) p n (omega (arith, before-length)))
-      ∙ ap (λ (s : List ℕ). take n (drop p s)) (take-append-drop at old)
-
-  pub rest-behind : (p : ℕ) → at + length new ≤ p → drop p (putAt at new old) ≡ drop p old
-  rest-behind p l =
-      let m : ℕ = at + length new in
-      let z : m + (p - m) ≡ p = omega arith in
-      let same : drop m (putAt at new old) ≡ drop m old =
-      sym (drop-drop (length new) at (putAt at new old)) ∙ ap (drop (length new)) put-there ∙ drop-append-seam new behind in
-      sym (rw z at (drop-drop (p - m) m (putAt at new old))) ∙ ap (drop (p - m)) same ∙ rw z at (drop-drop (p - m) m old)
-
-  pub put-length : length (putAt at new old) ≡ length old
-  put-length = wrote-length (record { bytes = refl; place = refl }) fits
-
--- THE FRONT OF AN OUTPUT
 
 -- the front of an output is as long as its place says
 pub front-size : {x : List ℕ} {end : ℕ} {out : List ℕ} → Front x end out → length x ≡ end

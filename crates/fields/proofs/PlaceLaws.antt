@@ -26,7 +26,7 @@ number-of-part b at w = number-dropped b at w ∙ number-taken (drop at b) w w (
 pub number-put : (at w x : ℕ) (old : List ℕ) → at + w ≤ length old → x < 256 ^ w → numberAt (putAt at (bytesOf w x) old) at w ≡ x
 number-put at w x old fits l =
     number-read (putAt at (bytesOf w x) old) at w x (drop (at + length (bytesOf w x)) old) l
-    (put-there at (bytesOf w x) old (omega (arith, length-bytes w x)))
+    (put-there at (bytesOf w x) old (omega arith))
 
 -- what is read, written again
 pub put-same : (at w : ℕ) (b : List ℕ) → Bytes b → at + w ≤ length b → putAt at (bytesOf w (numberAt b at w)) b ≡ b

@@ -48,13 +48,11 @@ module _ (n size : ℕ) (order : List ℕ) (reader listed looks : ℕ) where
     pub request-order : isOrder n order ≡ true
     request-order = request-kept .0
 
-    pub request-room : (size ≤ listed) × (n * size ≤ looks)
-    request-room =
+    -- what the end of a run asks: room in the tables, and a reader
+    pub request-fits : ((size ≤ listed) × (n * size ≤ looks)) × (reader < readerLimit)
+    request-fits =
         let p = and-parts (leb size listed) (leb (n * size) looks) (request-kept .1 .0) in
-        (leb-le size listed (p .0), leb-le (n * size) looks (p .1))
-
-    pub request-reader : reader < readerLimit
-    request-reader = ltb-lt reader readerLimit (request-kept .1 .1 .0)
+        ((leb-le size listed (p .0), leb-le (n * size) looks (p .1)), ltb-lt reader readerLimit (request-kept .1 .1 .0))
 
 pub lines-fit : (n size : ℕ) → n ≤ predicateLimit → size ≤ lineSize → n * size < 2 ^ 64
 lines-fit n size h k = let z : n * size ≤ predicateLimit * size = mul-le-mul-right size h in omega arith

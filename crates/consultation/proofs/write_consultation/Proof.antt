@@ -38,9 +38,9 @@ slice-aggregate-write-register-2 c = sym (c .before .before .before .before .bef
 write-register-requires : tie.Need-write-register-requires
 write-register-requires c κs =
     let l = c .before .before .before .before .before .before in
-    let run = l .before .before .before .before .searchroom-run .kept .1 in
+    let run = l .before .before .before .before .searchroom-run .kept in
     let s = c .before .before .before .before .before .before .before .before .before .before .before .before .before .before .before .before .before .before in
-    has-room _ _ _ _ _ (laid-few _ _ (decodeCatalogue (s .args .catalogue .now)) (l .lay-out .ensures)) (s .pre .0) (as-long (run .1 .1 .1 .0)) (as-long (run .1 .1 .1 .1 .0)) (s .pre .1)
+    has-room _ _ _ _ _ (laid-few _ _ (decodeCatalogue (s .args .catalogue .now)) (l .lay-out .ensures)) (s .pre .0) (as-long (run .1 .1 .1 .1 .0)) (as-long (run .1 .1 .1 .1 .1 .0)) (s .pre .1)
 
 same-length : tie.Need-same-length
 same-length c = c .before .before .write-register .kept .1 .1 .1 .1 .1 .1 .1 .0

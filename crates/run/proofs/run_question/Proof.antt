@@ -4,7 +4,7 @@ use mathlib.Core.Path.{refl, sym}
 use lib.ListN.{length}
 use Rattle.bitmaps.specs.TableLaws.{holds-none}
 use Rattle.marks.proofs.Marking.{empty-marks}
-use Rattle.request.proofs.Request.{request-order, request-room, request-reader}
+use Rattle.request.proofs.Request.{request-order, request-fits}
 use Rattle.run.proofs.Running.{run-refused, rows-room, size-short, run-declined, run-finished}
 use borrow.Author.Needs.{needs}
 use Rattle.run.proofs.run_question.Statement.{statement}
@@ -66,13 +66,9 @@ finish-requires c κs =
     let a = c .before .before .before .before .before .before .before .before .before .before .before .before in
     let x = a .before .before .before .before .before .before .before .before .before .before .before .before .before .before .before .args in
     let G = a .before .before .before .before .before .before .begin .ensures .accepts (a .before .before .before .if1 .left) in
-    let size = a .before .before .bytes-for .result in
     let W = c .before .before .before .before .before .before .before .work-run .ensures (G .input) (G .decoded) in (
       (W .selected-size, c .before .before .before .before .before .before .before .work-run .kept .1 .1 .1 .1 .1 .1 .1 .0, G .tabled .few, size-short G (a .before .before .bytes-for .ensures)),
-      (
-        request-room _ size (x .order .now) (x .reader) (length (x .listed .now)) (length (x .looks .now)) _ (a .before .check-request .ensures) (a .if2 .left),
-        request-reader _ size (x .order .now) (x .reader) (length (x .listed .now)) (length (x .looks .now)) _ (a .before .check-request .ensures) (a .if2 .left),
-      ),
+      request-fits _ _ (x .order .now) (x .reader) _ _ _ (a .before .check-request .ensures) (a .if2 .left),
     )
 
 same-length : tie.Need-same-length
