@@ -1,0 +1,1 @@
+fn main() { println!("{:?}", searchroom::check_catalogue(b"")); }
