@@ -3,25 +3,7 @@
 use evaluator::{BLANK_NUMBER, Catalogue, Column, Condition, Question, Test, Tree};
 
 use crate::Rng;
-
-const FIRST: [&str; 14] = [
-    "Ash",
-    "Kirk",
-    "New",
-    "Great ",
-    "Little ",
-    "St. Mary ",
-    "Thorpe ",
-    "Upper ",
-    "Lang",
-    "West",
-    "Bur",
-    "Wool",
-    "Stan",
-    "Hart",
-];
-const LAST: [&str; 12] =
-    ["by", "ton", "field", "ley", "Ashby", "Langley", "wick", "ham", "-on-Sea", "Newton", "bridge", "ford"];
+use crate::parish::any_parish;
 
 /// The year and the parish of 2,048 deeds, some of them blank; a question of twelve conditions, three groups deep; and a
 /// running order that asks for years before it searches texts.
@@ -30,7 +12,7 @@ pub fn county() -> (Catalogue, Question, Vec<u8>) {
     let years =
         (0..2_048).map(|_| if rng.chance(12) { BLANK_NUMBER } else { rng.between(1_538, 1_911) as u32 }).collect();
     let mut rng = Rng::new(1_538);
-    let parishes = (0..2_048).map(|_| if rng.chance(5) { Vec::new() } else { parish(&mut rng) }).collect();
+    let parishes = (0..2_048).map(|_| if rng.chance(5) { Vec::new() } else { any_parish(&mut rng) }).collect();
     let catalogue = Catalogue::unmarked(2_048, vec![Column::Numbers(years), Column::Texts(parishes)]);
     (catalogue, question(), vec![0, 4, 5, 8, 11, 10, 1, 2, 3, 6, 7, 9])
 }
@@ -41,10 +23,6 @@ pub fn marked_county() -> (Catalogue, Question, Vec<u8>) {
     let mut rng = Rng::new(1_838);
     let withdrawn = (0..catalogue.entries).map(|_| rng.chance(10)).collect();
     (Catalogue { mark: Some(withdrawn), ..catalogue }, question, order)
-}
-
-fn parish(rng: &mut Rng) -> Vec<u8> {
-    [rng.pick(&FIRST).as_bytes(), rng.pick(&LAST).as_bytes()].concat()
 }
 
 fn question() -> Question {

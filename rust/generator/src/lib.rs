@@ -14,6 +14,7 @@ mod mark;
 mod misspelling;
 mod near;
 mod outcomes;
+mod parish;
 mod question;
 mod rng;
 
