@@ -6,6 +6,7 @@
 mod catalogue;
 mod county;
 mod damage;
+mod deeds;
 mod encode;
 mod faulty;
 mod kinds;
@@ -21,6 +22,7 @@ mod rng;
 pub use catalogue::{catalogue, catalogue_of, column, text, with_blanks};
 pub use county::{county, marked_county};
 pub use damage::{Damage, damage};
+pub use deeds::deeds;
 pub use encode::{encode_bits, encode_catalogue, encode_condition, encode_mark, encode_question, encode_texts, field};
 pub use faulty::{faulty_question, typable_question};
 pub use kinds::{Kind, twelve_kinds};
