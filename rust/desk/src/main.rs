@@ -1,1 +1,55 @@
-fn main() { println!("{:?}", searchroom::check_catalogue(b"")); }
+//! The desk of the searchroom, for people: from a spreadsheet to a list, a register and a picture.
+//!
+//! It turns files and words around. Every list, look, answer and refusal is the engine's.
+
+mod ask;
+mod catalogue;
+mod draw;
+mod explain;
+mod export;
+mod failure;
+mod folder;
+mod found;
+mod heading;
+mod import;
+mod notation;
+mod paint;
+mod question;
+mod replace;
+mod table;
+mod words;
+
+use std::io::{self, BufWriter, Write};
+use std::process::ExitCode;
+
+use clap::Parser;
+
+use crate::failure::Failure;
+use crate::paint::Paint;
+use crate::words::{Desk, Word};
+
+fn main() -> ExitCode {
+    let desk = Desk::parse();
+    match carry_out(&desk.word) {
+        Ok(()) | Err(Failure::Closed) => ExitCode::SUCCESS,
+        Err(failure) => {
+            let paint = Paint::of(&io::stderr());
+            eprintln!("{} {failure}", paint.red("searchroom:"));
+            ExitCode::FAILURE
+        }
+    }
+}
+
+/// Carries out a word and sends off what it prints.
+fn carry_out(word: &Word) -> Result<(), Failure> {
+    let paint = Paint::of(&io::stdout());
+    let mut out = BufWriter::new(io::stdout().lock());
+    match word {
+        Word::Import(words) => import::import(&words.file, &words.folder, words.parted.separator, &mut out),
+        Word::Export(words) => export::export(&words.folder, words.parted.separator, &mut out),
+        Word::Ask(words) => ask::ask(words, paint, &mut out),
+        Word::Explain(words) => explain::explain(words, paint, &mut out),
+        Word::Draw(words) => draw::draw(words, &mut out),
+    }?;
+    Ok(out.flush()?)
+}

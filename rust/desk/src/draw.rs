@@ -1,0 +1,188 @@
+//! `searchroom draw`: a question's tree as an SVG picture. Each condition is a row; groups are boxes around rows.
+
+use std::fmt::Write as _;
+use std::io::Write;
+
+use crate::ask::{found_of, looks_of};
+use crate::failure::Failure;
+use crate::folder::Folder;
+use crate::found::{Found, run_untold};
+use crate::notation::Kind;
+use crate::question::{Group, Question};
+use crate::replace::replace;
+use crate::words::Draw;
+
+pub fn draw(draw: &Draw, out: &mut dyn Write) -> Result<(), Failure> {
+    let folder = Folder::open(&draw.asked.folder)?;
+    let question = Question::read(&folder, &draw.asked.question)?;
+    let order = draw.asked.order.clone().unwrap_or_else(|| question.standing_order());
+    let found = run_untold(&folder, &question, &order)?;
+    let picture = Picture::new(&folder, &question, &order, &found).svg();
+    replace(&draw.output, picture.as_bytes())?;
+    let (conditions, groups) = (question.conditions().len(), question.groups.len());
+    Ok(writeln!(out, "{}: {conditions} conditions, {groups} groups", draw.output.display())?)
+}
+
+// All lengths are in pixels.
+const MARGIN: f64 = 16.0;
+const ROW: f64 = 26.0;
+/// The head: two lines of what was found, and one that names the columns.
+const HEAD: f64 = 92.0;
+/// The strip of a group with its word.
+const STRIP: f64 = 44.0;
+/// The width of a letter; the font has all letters alike.
+const LETTER: f64 = 7.9;
+const NUMBER: f64 = 34.0;
+const TURN: f64 = 56.0;
+const BAR: f64 = 220.0;
+const SHARE: f64 = 180.0;
+/// The most letters that a condition is shown with; all of them stand in its title.
+const SHOWN: usize = 64;
+
+const STYLE: &str = "\
+text { font: 13px 'DejaVu Sans Mono', Menlo, Consolas, monospace; fill: #1a202c; }
+.head { font-weight: bold; font-size: 15px; }
+.small { fill: #4a5568; }
+.word { fill: #ffffff; font-weight: bold; text-anchor: middle; }
+.right { text-anchor: end; }
+.track { fill: #e2e8f0; }
+.looks { fill: #2b6cb0; }
+.all { fill: #ebf4ff; stroke: #2c5282; }
+.any { fill: #fffaf0; stroke: #9c4221; }
+.strip-all { fill: #2c5282; }
+.strip-any { fill: #9c4221; }
+";
+
+struct Picture<'a> {
+    folder: &'a Folder,
+    question: &'a Question,
+    order: &'a [u8],
+    found: &'a Found,
+    /// Where the conditions begin, right of the strips of all groups.
+    conditions_at: f64,
+    turn_at: f64,
+    bar_at: f64,
+    width: f64,
+}
+
+impl<'a> Picture<'a> {
+    fn new(folder: &'a Folder, question: &'a Question, order: &'a [u8], found: &'a Found) -> Picture<'a> {
+        let names = folder.names();
+        let letters = |text: String| text.chars().count().min(SHOWN);
+        let widest = question.conditions().iter().map(|condition| letters(condition.shown(&names))).max();
+        let depth = (0..question.conditions().len()).map(|number| question.around(number).count()).max();
+        let conditions_at = MARGIN + STRIP * depth.unwrap_or_default() as f64 + 8.0;
+        let turn_at = conditions_at + NUMBER + LETTER * widest.unwrap_or_default().max(9) as f64 + TURN;
+        let bar_at = turn_at + 20.0;
+        let width = bar_at + BAR + SHARE + MARGIN;
+        Picture { folder, question, order, found, conditions_at, turn_at, bar_at, width }
+    }
+
+    fn svg(&self) -> String {
+        let height = HEAD + ROW * self.question.conditions().len() as f64 + MARGIN;
+        let mut svg = format!(
+            "<svg xmlns=\"http://www.w3.org/2000/svg\" width=\"{0:.0}\" height=\"{height:.0}\" viewBox=\"0 0 {0:.0} {height:.0}\" \
+             role=\"img\">\n<title>{1}</title>\n<style>\n{STYLE}</style>\n<rect width=\"100%\" height=\"100%\" fill=\"#ffffff\"/>\n",
+            self.width,
+            xml(&self.question.strict),
+        );
+        self.head(&mut svg);
+        for group in &self.question.groups {
+            self.group(group, &mut svg);
+        }
+        for number in 0..self.question.conditions().len() {
+            self.condition(number, &mut svg);
+        }
+        svg.push_str("</svg>\n");
+        svg
+    }
+
+    /// What was found, and the heads of the columns.
+    fn head(&self, svg: &mut String) {
+        let Picture { folder, found, .. } = self;
+        text(svg, "head", MARGIN, 28.0, &found_of(found, folder));
+        text(svg, "small", MARGIN, 50.0, &looks_of(found, folder));
+        text(svg, "small", self.conditions_at, 80.0, "condition");
+        text(svg, "small right", self.turn_at, 80.0, "turn");
+        let shares = format!("looks, of {} entries", folder.catalogue.present());
+        text(svg, "small", self.bar_at, 80.0, &shares);
+    }
+
+    fn group(&self, group: &Group, svg: &mut String) {
+        let depth = self.depth(group) as f64;
+        let (class, word) = match group.kind {
+            Kind::All => ("all", "all"),
+            Kind::Any => ("any", "any"),
+        };
+        // Each box stands a little inside the one around it.
+        let x = MARGIN + STRIP * depth;
+        let y = HEAD + ROW * group.conditions.start as f64 + depth;
+        let height = ROW * group.conditions.len() as f64 - 2.0 * depth - 1.0;
+        let width = self.width - MARGIN - x - 2.0 * depth;
+        let _ = writeln!(
+            svg,
+            "<rect class=\"{class}\" x=\"{x:.1}\" y=\"{y:.1}\" width=\"{width:.1}\" height=\"{height:.1}\" rx=\"3\"/>\n\
+             <rect class=\"strip-{class}\" x=\"{x:.1}\" y=\"{y:.1}\" width=\"{:.1}\" height=\"{height:.1}\" rx=\"3\"/>",
+            STRIP - 6.0,
+        );
+        text(svg, "word", x + (STRIP - 6.0) / 2.0, y + height / 2.0 + 4.5, word);
+    }
+
+    /// How many groups are around a group.
+    fn depth(&self, group: &Group) -> usize {
+        std::iter::successors(group.parent, |&parent| self.question.groups[parent].parent).count()
+    }
+
+    fn condition(&self, number: usize, svg: &mut String) {
+        let whole = self.question.conditions()[number].shown(&self.folder.names());
+        let cut = whole.chars().count() > SHOWN;
+        let shown = if cut { whole.chars().take(SHOWN - 1).chain(['…']).collect() } else { whole.clone() };
+        let y = HEAD + ROW * number as f64;
+        let base = y + ROW / 2.0 + 4.5;
+        let _ = writeln!(svg, "<g><title>{}</title>", xml(&whole));
+        text(svg, "small", self.conditions_at, base, &number.to_string());
+        text(svg, "condition", self.conditions_at + NUMBER, base, &shown);
+        let turn = self.order.iter().position(|&other| usize::from(other) == number).map_or(0, |turn| turn + 1);
+        text(svg, "small right", self.turn_at, base, &turn.to_string());
+        let (looks, entries) = (self.found.looks[number].len(), self.folder.catalogue.present());
+        for (class, width) in [("track", BAR), ("looks", BAR * looks as f64 / entries.max(1) as f64)] {
+            let (x, y, height) = (self.bar_at, y + 6.0, ROW - 12.0);
+            let _ = writeln!(
+                svg,
+                "<rect class=\"{class}\" x=\"{x:.1}\" y=\"{y:.1}\" width=\"{width:.2}\" height=\"{height:.1}\"/>"
+            );
+        }
+        let share = format!("{looks} of {entries} ({})", percent(looks, entries));
+        text(svg, "share", self.bar_at + BAR + 8.0, base, &share);
+        svg.push_str("</g>\n");
+    }
+}
+
+fn text(svg: &mut String, class: &str, x: f64, y: f64, content: &str) {
+    let _ = writeln!(svg, "<text class=\"{class}\" x=\"{x:.1}\" y=\"{y:.1}\">{}</text>", xml(content));
+}
+
+/// A share in whole percent; none and all are said only where it is none or all.
+fn percent(part: usize, whole: usize) -> String {
+    let rounded = (100 * part + whole / 2) / whole.max(1);
+    match rounded {
+        0 if part > 0 => "under 1%".to_owned(),
+        100 if part < whole => "over 99%".to_owned(),
+        _ => format!("{rounded}%"),
+    }
+}
+
+/// A text as XML holds it.
+fn xml(text: &str) -> String {
+    text.chars().fold(String::new(), |mut xml, letter| {
+        match letter {
+            '&' => xml.push_str("&amp;"),
+            '<' => xml.push_str("&lt;"),
+            '>' => xml.push_str("&gt;"),
+            // XML has no place for these; control characters never come here as they are.
+            '\u{FFFE}' | '\u{FFFF}' => xml.push('\u{FFFD}'),
+            _ => xml.push(letter),
+        }
+        xml
+    })
+}

@@ -1,0 +1,126 @@
+//! What stands at the head of a column: its name, and what it holds. `columns.csv` keeps the headings of a folder.
+
+use crate::catalogue::{Catalogue, Column, from_latin_1, number_of};
+
+/// The name of the column that is the mark.
+pub const WITHDRAWN: &str = "withdrawn";
+
+/// The words that say that an entry is withdrawn, and that it is not; their case does not matter.
+const WITHDRAWN_WORDS: [&str; 4] = ["yes", "true", "1", "x"];
+const PRESENT_WORDS: [&str; 4] = ["no", "false", "0", ""];
+
+/// A column of a CSV file.
+pub struct Heading {
+    /// The cell of the first line as it stands there.
+    pub cell: String,
+    pub holds: Holds,
+}
+
+#[derive(Clone, PartialEq, Eq)]
+pub enum Holds {
+    Numbers,
+    Texts,
+    /// The mark, with the file's word for an entry that is withdrawn and for one that is not.
+    Mark {
+        withdrawn: String,
+        present: String,
+    },
+}
+
+impl Heading {
+    pub fn name(&self) -> &str {
+        name_of(&self.cell).0
+    }
+
+    pub fn is_mark(&self) -> bool {
+        matches!(self.holds, Holds::Mark { .. })
+    }
+}
+
+/// The name in a heading's cell, and what it declares the column to hold.
+pub fn name_of(cell: &str) -> (&str, Option<Holds>) {
+    if let Some(name) = cell.strip_suffix(":number") {
+        (name.trim(), Some(Holds::Numbers))
+    } else if let Some(name) = cell.strip_suffix(":text") {
+        (name.trim(), Some(Holds::Texts))
+    } else {
+        (cell.trim(), None)
+    }
+}
+
+/// Is this the cell of the mark? `withdrawn:text` is a column as any other.
+pub fn marks(cell: &str) -> bool {
+    matches!(name_of(cell), (name, None) if same(name, WITHDRAWN))
+}
+
+/// Are these the same name? Case does not matter.
+pub fn same(a: &str, b: &str) -> bool {
+    a.to_lowercase() == b.to_lowercase()
+}
+
+/// The number of the column that `c0`, `c1` and so on name.
+pub fn numbered(name: &str) -> Option<&str> {
+    let digits = name.strip_prefix(['c', 'C'])?;
+    let all_digits = !digits.is_empty() && digits.bytes().all(|byte| byte.is_ascii_digit());
+    all_digits.then(|| without_zeros(digits))
+}
+
+/// A number's digits without leading zeros.
+pub fn without_zeros(digits: &str) -> &str {
+    let rest = digits.trim_start_matches('0');
+    if rest.is_empty() { &digits[digits.len() - 1..] } else { rest }
+}
+
+/// Does this word say that an entry is withdrawn? Nothing if it says neither that nor the opposite.
+pub fn says_withdrawn(word: &str) -> Option<bool> {
+    let is_among = |words: &[&str]| words.iter().any(|known| same(known, word));
+    is_among(&WITHDRAWN_WORDS).then_some(true).or_else(|| is_among(&PRESENT_WORDS).then_some(false))
+}
+
+/// What is wrong with the names in a first line: the place of the cell, and the fault.
+pub fn name_faults(cells: &[String]) -> Vec<(usize, String)> {
+    let mut faults = Vec::new();
+    let mut column = 0;
+    for (place, cell) in cells.iter().enumerate() {
+        let name = name_of(cell).0;
+        if let Some(earlier) = cells[..place].iter().position(|other| same(name_of(other).0, name)) {
+            faults.push((place, format!("column {} has that name too; each column needs its own", earlier + 1)));
+        } else if name.is_empty() {
+            faults.push((place, "no name; write one into the first line".to_owned()));
+        } else if numbered(name).is_some_and(|number| number != column.to_string()) {
+            faults.push((place, format!("in a question {name} is the column of that number; name it otherwise")));
+        }
+        column += usize::from(!marks(cell));
+    }
+    faults
+}
+
+/// The headings of a catalogue that has no names.
+pub fn unnamed(catalogue: &Catalogue) -> Vec<Heading> {
+    let column = |(number, column): (usize, &Column)| match column {
+        Column::Numbers(_) => Heading { cell: format!("c{number}"), holds: Holds::Numbers },
+        // Texts that all look like numbers would be read as numbers again.
+        Column::Texts(texts) if texts.iter().flatten().all(|text| number_of(&from_latin_1(text)).is_some()) => {
+            Heading { cell: format!("c{number}:text"), holds: Holds::Texts }
+        }
+        Column::Texts(_) => Heading { cell: format!("c{number}"), holds: Holds::Texts },
+    };
+    let mut headings: Vec<Heading> = catalogue.columns.iter().enumerate().map(column).collect();
+    if catalogue.mark.is_some() {
+        let words = Holds::Mark { withdrawn: "yes".to_owned(), present: "no".to_owned() };
+        headings.push(Heading { cell: WITHDRAWN.to_owned(), holds: words });
+    }
+    headings
+}
+
+/// Do these headings fit the catalogue?
+pub fn fit(headings: &[Heading], catalogue: &Catalogue) -> bool {
+    let held = |column: &Column| match column {
+        Column::Numbers(_) => Holds::Numbers,
+        Column::Texts(_) => Holds::Texts,
+    };
+    let columns: Vec<Holds> = catalogue.columns.iter().map(held).collect();
+    let named = headings.iter().filter(|heading| !heading.is_mark()).map(|heading| heading.holds.clone());
+    let marks = headings.iter().filter(|heading| heading.is_mark()).count();
+    named.eq(columns) && marks == usize::from(catalogue.mark.is_some())
+}

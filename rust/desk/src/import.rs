@@ -1,0 +1,247 @@
+//! `searchroom import`: a catalogue from a CSV file.
+
+use std::fs;
+use std::io::Write;
+use std::path::Path;
+
+use crate::catalogue::{Catalogue, Column, MAX_COLUMNS, MAX_ENTRIES, MAX_TEXT, number_of};
+use crate::failure::Failure;
+use crate::folder::{Folder, catalogue_file};
+use crate::heading::{Heading, Holds, marks, name_faults, name_of, says_withdrawn};
+use crate::paint::shown;
+use crate::table::{Cell, Fault, Line, read_lines};
+
+/// Imports a CSV file into a folder. Everything that does not fit is told on standard error, and then nothing is written.
+pub fn import(file: &Path, folder: &Path, separator: u8, out: &mut dyn Write) -> Result<(), Failure> {
+    let bytes = fs::read(file).map_err(|error| Failure::file("read", file, &error))?;
+    let mut import = Import::default();
+    let folder_of = import.folder(&bytes, separator);
+    import.faults.sort_by_key(|fault| (fault.line, fault.cell.as_ref().map(|cell| cell.place)));
+    for fault in &import.faults {
+        eprintln!("{}, {fault}", file.display());
+    }
+    match (import.faults.len(), folder_of) {
+        (0, Some(imported)) => {
+            imported.save(folder)?;
+            import.report(&imported, folder, out)
+        }
+        (1, _) => Err(Failure::Desk(format!("a fault in {}: nothing was written", file.display()))),
+        (count, _) => Err(Failure::Desk(format!("{count} faults in {}: nothing was written", file.display()))),
+    }
+}
+
+/// What an import has noticed.
+#[derive(Default)]
+struct Import {
+    faults: Vec<Fault>,
+    /// Of the catalogue's columns by number: what makes it one of texts though most of its values are numbers.
+    notes: Vec<Option<String>>,
+}
+
+/// A column of the file: its place in a line, its name, and the value of each line with the line's number.
+struct Cells<'a> {
+    place: usize,
+    name: &'a str,
+    values: Vec<(usize, &'a str)>,
+}
+
+impl Import {
+    /// The folder that the file's bytes make; none where there is no first line. It is sound if there are no faults.
+    fn folder(&mut self, bytes: &[u8], separator: u8) -> Option<Folder> {
+        let (lines, faults) = read_lines(bytes, separator);
+        self.faults.extend(faults);
+        let Some((first, rest)) = lines.split_first() else {
+            self.fault(1, None, "the file has no line; the first one names the columns".to_owned());
+            return None;
+        };
+        let cells = self.first_line(first);
+        let whole: Vec<&Line> = rest.iter().filter(|line| self.is_whole(line, cells.len())).collect();
+        self.limits(&cells, rest);
+        let (mut headings, mut columns, mut mark) = (Vec::new(), Vec::new(), None);
+        for (place, cell) in cells.into_iter().enumerate() {
+            let column = self.cells(place, name_of(&cell).0, &whole);
+            let holds = if marks(&cell) {
+                let (told, holds) = self.mark(&column);
+                mark = Some(told);
+                holds
+            } else {
+                let (told, holds) = self.column(&column, name_of(&cell).1);
+                columns.push(told);
+                holds
+            };
+            headings.push(Heading { cell, holds });
+        }
+        let catalogue = Catalogue { entries: whole.len(), columns, mark };
+        let bytes = if self.faults.is_empty() { catalogue.bytes() } else { Vec::new() };
+        Some(Folder { bytes, catalogue, headings })
+    }
+
+    fn fault(&mut self, line: usize, cell: Option<Cell>, what: String) {
+        self.faults.push(Fault { line, cell, what });
+    }
+
+    /// A fault of a column's value.
+    fn unfit(&mut self, column: &Cells, line: usize, value: &str, what: String) {
+        let cell = Cell { place: column.place, name: column.name.to_owned(), value: value.to_owned() };
+        self.fault(line, Some(cell), what);
+    }
+
+    /// The cells of the first line, which name the columns.
+    fn first_line(&mut self, first: &Line) -> Vec<String> {
+        let cells: Vec<String> = first.cells.iter().map(|cell| String::from_utf8_lossy(cell).into_owned()).collect();
+        let in_cell = |place: usize| Some(Cell { place, name: String::new(), value: cells[place].clone() });
+        for (place, cell) in first.cells.iter().enumerate() {
+            if str::from_utf8(cell).is_err() {
+                self.fault(first.number, in_cell(place), NOT_UTF_8.to_owned());
+            }
+        }
+        for (place, what) in name_faults(&cells) {
+            self.fault(first.number, in_cell(place), what);
+        }
+        if let ([cell], Some(sign)) = (cells.as_slice(), cells[0].chars().find(|sign| ",;\t|".contains(*sign))) {
+            let sign = if sign == '\t' { "tab".to_owned() } else { format!("'{sign}'") };
+            let what = format!("one name only; if the values of {cell:?} are parted otherwise, say --separator {sign}");
+            self.fault(first.number, in_cell(0), what);
+        }
+        cells
+    }
+
+    /// Has a line a value for each column?
+    fn is_whole(&mut self, line: &Line, columns: usize) -> bool {
+        let count = line.cells.len();
+        if count != columns {
+            let values = if count == 1 { "1 value".to_owned() } else { format!("{count} values") };
+            self.fault(line.number, None, format!("{values}; the first line has {columns}"));
+        }
+        count == columns
+    }
+
+    /// Holds the numbers of columns and of entries to the engine's limits.
+    fn limits(&mut self, cells: &[String], lines: &[Line]) {
+        let columns: Vec<usize> = (0..cells.len()).filter(|&place| !marks(&cells[place])).collect();
+        let in_cell = |place: usize| Some(Cell { place, name: String::new(), value: cells[place].clone() });
+        for &place in columns.iter().skip(MAX_COLUMNS) {
+            let what = format!("a column too many; a catalogue has at most {MAX_COLUMNS} beside the mark");
+            self.fault(1, in_cell(place), what);
+        }
+        if columns.is_empty() {
+            self.fault(1, in_cell(0), "no column beside the mark; a catalogue has at least one".to_owned());
+        }
+        if let Some(line) = lines.get(MAX_ENTRIES) {
+            let what =
+                format!("{} entries; a catalogue has at most 2,048, so split the file before this line", lines.len());
+            self.fault(line.number, None, what);
+        }
+    }
+
+    /// The values of a column.
+    fn cells<'a>(&mut self, place: usize, name: &'a str, lines: &[&'a Line]) -> Cells<'a> {
+        let mut column = Cells { place, name, values: Vec::new() };
+        for line in lines {
+            let bytes = &line.cells[place];
+            match str::from_utf8(bytes) {
+                Ok(value) => column.values.push((line.number, value)),
+                Err(_) => self.unfit(&column, line.number, &String::from_utf8_lossy(bytes), NOT_UTF_8.to_owned()),
+            }
+        }
+        column
+    }
+
+    /// A column as it is declared; else of numbers if every value is empty or a number, else of texts.
+    fn column(&mut self, column: &Cells, declared: Option<Holds>) -> (Column, Holds) {
+        let guessed = declared.is_none();
+        let is_number = |value: &str| value.is_empty() || number_of(value).is_some();
+        let other = column.values.iter().find(|(_, value)| !is_number(value));
+        let holds = declared.unwrap_or(if other.is_none() { Holds::Numbers } else { Holds::Texts });
+        let note = other.filter(|_| guessed && mostly_numbers(column));
+        self.notes.push(note.map(|(line, value)| format!("line {line} has \"{}\", which is no number", shown(value))));
+        let told = match holds {
+            Holds::Numbers => Column::Numbers(self.each(column, Import::number)),
+            _ => Column::Texts(self.each(column, Import::text)),
+        };
+        (told, holds)
+    }
+
+    /// What each value of a column says; nothing if it is empty.
+    fn each<T>(&mut self, column: &Cells, says: fn(&mut Import, &Cells, usize, &str) -> Option<T>) -> Vec<Option<T>> {
+        let value = |&(line, value): &(usize, &str)| match value {
+            "" => None,
+            _ => says(self, column, line, value),
+        };
+        column.values.iter().map(value).collect()
+    }
+
+    fn number(&mut self, column: &Cells, line: usize, value: &str) -> Option<u32> {
+        let number = number_of(value);
+        if number.is_none() {
+            let what = "not a number; write digits alone, no leading zero, at most 4,294,967,294";
+            self.unfit(column, line, value, what.to_owned());
+        }
+        number
+    }
+
+    /// A text in ISO 8859-1.
+    fn text(&mut self, column: &Cells, line: usize, value: &str) -> Option<Vec<u8>> {
+        let letters = value.chars().count();
+        if letters > MAX_TEXT {
+            self.unfit(column, line, value, format!("{letters} letters; a text has at most {MAX_TEXT}"));
+        }
+        if let Some(letter) = value.chars().find(|&letter| u8::try_from(letter).is_err()) {
+            let what = format!("{letter} (U+{:04X}) is not in ISO 8859-1; write it otherwise", u32::from(letter));
+            self.unfit(column, line, value, what);
+        }
+        value.chars().map(|letter| u8::try_from(letter).ok()).collect()
+    }
+
+    /// The mark, and the two words that the file has for it.
+    fn mark(&mut self, column: &Cells) -> (Vec<bool>, Holds) {
+        // The first word for each, with its line.
+        let mut words: [Option<(usize, &str)>; 2] = [None, None];
+        let mut mark = Vec::new();
+        for &(line, value) in &column.values {
+            let Some(withdrawn) = says_withdrawn(value) else {
+                let what = "neither; write yes, true, 1 or x if the entry is withdrawn, else no, false, 0 or nothing";
+                self.unfit(column, line, value, what.to_owned());
+                continue;
+            };
+            let (first, word) = *words[usize::from(withdrawn)].get_or_insert((line, value));
+            if word != value {
+                self.unfit(column, line, value, format!("line {first} says \"{word}\" for the same; use one word"));
+            }
+            mark.push(withdrawn);
+        }
+        let word =
+            |withdrawn: bool, usual: &str| words[usize::from(withdrawn)].map_or(usual, |(_, word)| word).to_owned();
+        (mark, Holds::Mark { withdrawn: word(true, "yes"), present: word(false, "no") })
+    }
+
+    /// Tells what was imported.
+    fn report(&self, imported: &Folder, folder: &Path, out: &mut dyn Write) -> Result<(), Failure> {
+        let Folder { catalogue, .. } = imported;
+        let withdrawn = match catalogue.withdrawn() {
+            0 => String::new(),
+            count => format!(", {count} of them withdrawn,"),
+        };
+        let (entries, columns) = (catalogue.entries, catalogue.columns.len());
+        let file = catalogue_file(folder);
+        writeln!(out, "{entries} entries{withdrawn} in {columns} columns: {}", file.display())?;
+        let names: Vec<String> = imported.names().into_iter().map(shown).collect();
+        let wide = names.iter().map(|name| name.chars().count()).max().unwrap_or(0);
+        for (number, column) in catalogue.columns.iter().enumerate() {
+            let sort = if matches!(column, Column::Numbers(_)) { "numbers" } else { "texts" };
+            let note = self.notes[number].as_ref().map_or(String::new(), |note| format!(" ({note})"));
+            let place = if columns > 10 { format!("c{number:<2}") } else { format!("c{number}") };
+            writeln!(out, "{place}  {:<wide$}  {sort}, {} blank{note}", names[number], column.blanks())?;
+        }
+        Ok(())
+    }
+}
+
+const NOT_UTF_8: &str = "not UTF-8; save the file as \"CSV UTF-8\"";
+
+/// Are at least half of the values that are not empty numbers?
+fn mostly_numbers(column: &Cells) -> bool {
+    let filled = column.values.iter().filter(|(_, value)| !value.is_empty());
+    let numbers = filled.clone().filter(|(_, value)| number_of(value).is_some());
+    2 * numbers.count() >= filled.count()
+}

@@ -1,0 +1,340 @@
+//! The notation of order 4 as people type it: with columns' names, spaces and letters in UTF-8. It is turned into the strict
+//! spelling, which the engine reads.
+
+use std::fmt::Write;
+use std::ops::Range;
+
+use crate::catalogue::from_latin_1;
+use crate::heading::{numbered, same, without_zeros};
+
+/// A question from front to back. It is kept flat because a text may nest thousands of groups.
+#[derive(Default)]
+pub struct Written {
+    pub parts: Vec<Part>,
+    pub conditions: Vec<Condition>,
+}
+
+pub enum Part {
+    /// A group begins, at this place of the text.
+    Opens(Kind, usize),
+    /// The condition of this number.
+    Condition(usize),
+    Closes,
+}
+
+#[derive(Clone, Copy, PartialEq, Eq)]
+pub enum Kind {
+    All,
+    Any,
+}
+
+impl Kind {
+    pub fn word(self) -> &'static str {
+        match self {
+            Kind::All => "all",
+            Kind::Any => "any",
+        }
+    }
+}
+
+pub struct Condition {
+    pub opposite: bool,
+    /// The digits of the column's number.
+    pub column: String,
+    pub test: Test,
+    /// Where it stands in the text.
+    pub place: Range<usize>,
+}
+
+pub enum Test {
+    /// A number from low to high: their digits.
+    In {
+        low: String,
+        high: String,
+    },
+    Blank,
+    /// `is`, `starts` or `has`, and the text in ISO 8859-1.
+    Text {
+        word: &'static str,
+        text: Vec<u8>,
+    },
+}
+
+/// The words of the tests on texts.
+const TEXT_WORDS: [&str; 3] = ["is", "starts", "has"];
+
+impl Written {
+    /// The strict spelling.
+    pub fn strict(&self) -> String {
+        let mut text = String::new();
+        let mut after_member = false;
+        for part in &self.parts {
+            if after_member && !matches!(part, Part::Closes) {
+                text.push(',');
+            }
+            match part {
+                Part::Opens(kind, _) => text.extend([kind.word(), "("]),
+                Part::Condition(number) => text.push_str(&self.conditions[*number].strict()),
+                Part::Closes => text.push(')'),
+            }
+            after_member = !matches!(part, Part::Opens(..));
+        }
+        text
+    }
+}
+
+impl Condition {
+    /// The strict spelling of the condition alone.
+    pub fn strict(&self) -> String {
+        let text = |bytes: &[u8]| bytes.iter().map(|&byte| strict_letter(byte)).collect();
+        self.spelled(&format!("c{}", self.column), text)
+    }
+
+    /// The condition as people read it, and may type it again.
+    pub fn shown(&self, names: &[&str]) -> String {
+        let name = self.column.parse().ok().and_then(|number: usize| names.get(number));
+        let column = name.map_or_else(|| format!("c{}", self.column), |name| shown_name(name));
+        self.spelled(&column, |bytes| escaped(&from_latin_1(bytes)))
+    }
+
+    fn spelled(&self, column: &str, quoted: impl Fn(&[u8]) -> String) -> String {
+        let not = if self.opposite { "not " } else { "" };
+        match &self.test {
+            Test::In { low, high } => format!("{not}{column} in {low}..{high}"),
+            Test::Blank => format!("{not}{column} blank"),
+            Test::Text { word, text } => format!("{not}{column} {word} \"{}\"", quoted(text)),
+        }
+    }
+}
+
+fn strict_letter(byte: u8) -> String {
+    match byte {
+        b'"' | b'\\' => format!("\\{byte:02X}"),
+        b' '..=b'~' => char::from(byte).to_string(),
+        _ => format!("\\{byte:02X}"),
+    }
+}
+
+/// A name as it is typed: in quotes if it is not one word, or a word of the notation.
+fn shown_name(name: &str) -> String {
+    let is_word = name.chars().all(is_of_a_word) && !["all", "any", "not"].contains(&name);
+    if is_word { name.to_owned() } else { format!("\"{}\"", escaped(name)) }
+}
+
+/// What stands between quotes, as people type it.
+fn escaped(text: &str) -> String {
+    text.chars().fold(String::new(), |mut escaped, letter| {
+        match letter {
+            '"' | '\\' => escaped.extend(['\\', letter]),
+            _ if letter.is_control() => {
+                let _ = write!(escaped, "\\{:02X}", u32::from(letter));
+            }
+            _ => escaped.push(letter),
+        }
+        escaped
+    })
+}
+
+/// Where a text cannot be read, and what was expected there.
+#[derive(Debug)]
+pub struct Misspelled {
+    pub at: usize,
+    pub expected: String,
+}
+
+/// Reads a question. `names` are those of the catalogue's columns, by their numbers.
+pub fn read(text: &str, names: &[&str]) -> Result<Written, Misspelled> {
+    let mut reader = Reader { text, at: 0, names };
+    let mut written = Written::default();
+    let mut open = 0_usize;
+    loop {
+        reader.spaces();
+        if let Some((kind, place)) = reader.group() {
+            written.parts.push(Part::Opens(kind, place));
+            open += 1;
+            continue;
+        }
+        let condition = reader.condition()?;
+        written.parts.push(Part::Condition(written.conditions.len()));
+        written.conditions.push(condition);
+        loop {
+            reader.spaces();
+            if open == 0 {
+                return if reader.rest().is_empty() { Ok(written) } else { Err(reader.expected("nothing more")) };
+            }
+            if reader.take(",") {
+                break;
+            }
+            if !reader.take(")") {
+                return Err(reader.expected("`,` or `)`"));
+            }
+            written.parts.push(Part::Closes);
+            open -= 1;
+        }
+    }
+}
+
+/// May this letter stand in a word, as a column's name without quotes is one?
+fn is_of_a_word(letter: char) -> bool {
+    !letter.is_whitespace() && !letter.is_control() && !matches!(letter, '(' | ')' | ',' | '"')
+}
+
+struct Reader<'a> {
+    text: &'a str,
+    at: usize,
+    names: &'a [&'a str],
+}
+
+impl<'a> Reader<'a> {
+    fn rest(&self) -> &'a str {
+        &self.text[self.at..]
+    }
+
+    fn expected(&self, expected: impl Into<String>) -> Misspelled {
+        Misspelled { at: self.at, expected: expected.into() }
+    }
+
+    fn spaces(&mut self) {
+        self.at = self.text.len() - self.rest().trim_start().len();
+    }
+
+    fn take(&mut self, sign: &str) -> bool {
+        let found = self.rest().starts_with(sign);
+        self.at += if found { sign.len() } else { 0 };
+        found
+    }
+
+    /// The word that stands here, which may be empty. It is not taken.
+    fn word(&self) -> &'a str {
+        let rest = self.rest();
+        &rest[..rest.find(|letter| !is_of_a_word(letter)).unwrap_or(rest.len())]
+    }
+
+    /// Takes the beginning of a group, if one stands here: its kind and its place.
+    fn group(&mut self) -> Option<(Kind, usize)> {
+        let kind = [Kind::All, Kind::Any].into_iter().find(|kind| kind.word() == self.word())?;
+        let inside = self.rest()[kind.word().len()..].trim_start().strip_prefix('(')?;
+        let place = self.at;
+        self.at = self.text.len() - inside.len();
+        Some((kind, place))
+    }
+
+    fn condition(&mut self) -> Result<Condition, Misspelled> {
+        let start = self.at;
+        let opposite = self.word() == "not";
+        if opposite {
+            self.at += "not".len();
+            self.spaces();
+        }
+        let column = self.column(opposite)?;
+        self.spaces();
+        let test = self.test()?;
+        Ok(Condition { opposite, column, test, place: start..self.at })
+    }
+
+    /// The digits of the column's number.
+    fn column(&mut self, opposite: bool) -> Result<String, Misspelled> {
+        let start = self.at;
+        let name: String = if self.rest().starts_with('"') {
+            self.quoted()?.into_iter().map(|(_, letter)| letter).collect()
+        } else {
+            let word = self.word();
+            self.at += word.len();
+            word.to_owned()
+        };
+        let number = numbered(&name).map(str::to_owned);
+        let named = || self.names.iter().position(|other| same(other, &name)).map(|number| number.to_string());
+        if let Some(column) = number.or_else(named) {
+            return Ok(column);
+        }
+        let columns = self.names.iter().map(|name| shown_name(name)).collect::<Vec<_>>().join(", ");
+        let expected = match (name.is_empty(), opposite) {
+            (true, false) => format!("a condition or a group; a condition begins with a column: {columns}"),
+            (true, true) => format!("a column after `not`, which stands before a condition alone: {columns}"),
+            (false, _) => format!("a column: {columns}"),
+        };
+        Err(Misspelled { at: start, expected })
+    }
+
+    fn test(&mut self) -> Result<Test, Misspelled> {
+        let word = self.word();
+        let text_word = TEXT_WORDS.into_iter().find(|known| *known == word);
+        if text_word.is_none() && word != "in" && word != "blank" {
+            return Err(self.expected("`in`, `is`, `starts`, `has` or `blank`"));
+        }
+        self.at += word.len();
+        match text_word {
+            Some(word) => Ok(Test::Text { word, text: self.latin_1_text()? }),
+            None if word == "blank" => Ok(Test::Blank),
+            None => self.range(),
+        }
+    }
+
+    fn range(&mut self) -> Result<Test, Misspelled> {
+        let low = self.number()?;
+        self.spaces();
+        if !self.take("..") {
+            return Err(self.expected("`..` and the last number, as in 1700..1799"));
+        }
+        Ok(Test::In { low, high: self.number()? })
+    }
+
+    fn number(&mut self) -> Result<String, Misspelled> {
+        self.spaces();
+        let rest = self.rest();
+        let digits = &rest[..rest.find(|letter: char| !letter.is_ascii_digit()).unwrap_or(rest.len())];
+        if digits.is_empty() {
+            return Err(self.expected("a number, as in 1700..1799"));
+        }
+        self.at += digits.len();
+        Ok(without_zeros(digits).to_owned())
+    }
+
+    fn latin_1_text(&mut self) -> Result<Vec<u8>, Misspelled> {
+        self.spaces();
+        if !self.rest().starts_with('"') {
+            return Err(self.expected("a text in quotes, as in \"ash\"; a number is asked with `in`, as in 1700..1799"));
+        }
+        let letter = |(at, letter): (usize, char)| {
+            let expected = || format!("a letter of ISO 8859-1, and {letter} is not; no entry has it");
+            u8::try_from(letter).map_err(|_| Misspelled { at, expected: expected() })
+        };
+        self.quoted()?.into_iter().map(letter).collect()
+    }
+
+    /// The letters between the quotes that stand here, with their places.
+    fn quoted(&mut self) -> Result<Vec<(usize, char)>, Misspelled> {
+        let mut letters = Vec::new();
+        self.at += 1;
+        loop {
+            let at = self.at;
+            let letter = match self.rest().chars().next() {
+                None => return Err(self.expected("`\"`, which ends the text")),
+                Some('"') => break,
+                Some('\\') => self.escape()?,
+                Some(letter) => {
+                    self.at += letter.len_utf8();
+                    letter
+                }
+            };
+            letters.push((at, letter));
+        }
+        self.at += 1;
+        Ok(letters)
+    }
+
+    /// The letter that a backslash and what follows stand for.
+    fn escape(&mut self) -> Result<char, Misspelled> {
+        let after = &self.rest()[1..];
+        if let Some(letter @ ('"' | '\\')) = after.chars().next() {
+            self.at += 2;
+            return Ok(letter);
+        }
+        let digits = after.get(..2).filter(|digits| digits.bytes().all(|digit| digit.is_ascii_hexdigit()));
+        let Some(byte) = digits.and_then(|digits| u8::from_str_radix(digits, 16).ok()) else {
+            return Err(self.expected("after a backslash a quote, a backslash, or two digits 0-9A-F"));
+        };
+        self.at += 3;
+        Ok(char::from(byte))
+    }
+}

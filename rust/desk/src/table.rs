@@ -1,0 +1,99 @@
+//! A CSV file as lines of cells, and what does not fit in it.
+
+use std::fmt;
+
+/// A line of a CSV file: its number in the file, counted from 1 as editors do, and its cells.
+pub struct Line {
+    pub number: usize,
+    pub cells: Vec<Vec<u8>>,
+}
+
+/// Something in a CSV file that does not fit a catalogue.
+pub struct Fault {
+    pub line: usize,
+    pub cell: Option<Cell>,
+    pub what: String,
+}
+
+/// The cell of a fault.
+pub struct Cell {
+    /// Its place in the line, counted from 0.
+    pub place: usize,
+    /// The column's name; empty in the first line.
+    pub name: String,
+    pub value: String,
+}
+
+/// How many letters of a value a fault shows.
+const SHOWN: usize = 60;
+
+impl fmt::Display for Fault {
+    fn fmt(&self, f: &mut fmt::Formatter<'_>) -> fmt::Result {
+        write!(f, "line {}", self.line)?;
+        if let Some(Cell { place, name, value }) = &self.cell {
+            write!(f, ", column {}", place + 1)?;
+            if !name.is_empty() {
+                write!(f, " ({})", name.escape_debug())?;
+            }
+            let shown: String = value.chars().take(SHOWN).collect();
+            let more = if shown.len() < value.len() { "…" } else { "" };
+            write!(f, ", \"{}{more}\"", shown.escape_debug())?;
+        }
+        write!(f, ": {}", self.what)
+    }
+}
+
+/// Reads the lines of a CSV file. An empty line is a fault: the library that reads the file passes over it, and in a file of
+/// one column an entry would be lost.
+pub fn read_lines(bytes: &[u8], separator: u8) -> (Vec<Line>, Vec<Fault>) {
+    let mut reader =
+        csv::ReaderBuilder::new().has_headers(false).flexible(true).delimiter(separator).from_reader(bytes);
+    let mut place =
+        Place { bytes, at: if bytes.starts_with(BYTE_ORDER_MARK) { BYTE_ORDER_MARK.len() } else { 0 }, line: 1 };
+    let (mut lines, mut faults) = (Vec::new(), Vec::new());
+    let mut record = csv::ByteRecord::new();
+    loop {
+        let more = reader.read_byte_record(&mut record).expect("memory can always be read");
+        while place.at_line_end() {
+            let what = "an empty line; remove it, or write \"\" if it is a blank value".to_owned();
+            faults.push(Fault { line: place.line, cell: None, what });
+            place.pass_line_end();
+        }
+        if !more {
+            return (lines, faults);
+        }
+        lines.push(Line { number: place.line, cells: record.iter().map(<[u8]>::to_vec).collect() });
+        place.advance(usize::try_from(reader.position().byte()).expect("a place in memory"));
+    }
+}
+
+const BYTE_ORDER_MARK: &[u8] = b"\xEF\xBB\xBF";
+
+/// A place in a file and the number of its line. Lines end with \n, \r\n or \r.
+struct Place<'a> {
+    bytes: &'a [u8],
+    at: usize,
+    line: usize,
+}
+
+impl Place<'_> {
+    fn at_line_end(&self) -> bool {
+        matches!(self.bytes.get(self.at), Some(b'\n' | b'\r'))
+    }
+
+    fn pass_line_end(&mut self) {
+        self.at += if self.bytes[self.at..].starts_with(b"\r\n") { 2 } else { 1 };
+        self.line += 1;
+    }
+
+    /// Goes on to where a record ended, and past the rest of its line end.
+    fn advance(&mut self, to: usize) {
+        while self.at < to {
+            if self.at_line_end() {
+                self.pass_line_end();
+            } else {
+                self.at += 1;
+            }
+        }
+    }
+}

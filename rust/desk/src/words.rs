@@ -1,0 +1,170 @@
+//! The words that the program takes, and their help.
+
+use std::path::PathBuf;
+
+use clap::{Args, Parser, Subcommand};
+
+/// The desk of the searchroom: from a spreadsheet to a list, a register and a picture
+///
+/// A catalogue is made from a CSV file and asked questions: trees of conditions, all of these, any of those. A question lists the
+/// entries that meet it and registers every look at a condition. The engine behind it is proved: the list is exactly right,
+/// and no right way of working in that running order looks less.
+#[derive(Parser)]
+#[command(
+    name = "searchroom",
+    version,
+    after_help = "Exit status: 0 done, whether entries were found or not; 1 refused, with the reason on standard error; 2 wrong usage.",
+    after_long_help = "\
+Example:
+  searchroom import examples/deeds/deeds.csv deeds
+  searchroom ask deeds 'all(year in 1700..1799, parish starts \"ash\")'
+  searchroom explain deeds 'all(year in 1700..1799, parish starts \"ash\")' 17
+  searchroom draw deeds 'all(year in 1700..1799, parish starts \"ash\")' -o question.svg
+
+Exit status: 0 done, whether entries were found or not; 1 refused, with the reason on standard error; 2 wrong usage."
+)]
+pub struct Desk {
+    #[command(subcommand)]
+    pub word: Word,
+}
+
+#[derive(Subcommand)]
+pub enum Word {
+    Import(Import),
+    Export(Export),
+    Ask(Ask),
+    Explain(Explain),
+    Draw(Draw),
+}
+
+/// Make a catalogue from a CSV file
+///
+/// The first line names the columns, each further line is an entry, at most 2,048. A column holds numbers if every value is
+/// empty or a number up to 4,294,967,294, else texts of at most 23 letters; `name:number` or `name:text` in the first
+/// line decides it. An empty value is a blank. A column named `withdrawn` is the mark: yes, true, 1 or x withdraws the
+/// entry, no, false, 0 or nothing does not. The file is in UTF-8, its letters are those of ISO 8859-1. Whatever does not fit is
+/// told with its line and column, and then nothing is written.
+///
+/// FOLDER receives catalogue.bin, which the engine reads, and columns.csv, the columns' names.
+#[derive(Args)]
+#[command(after_help = "\
+Example:
+  searchroom import examples/deeds/deeds.csv deeds
+  searchroom import --separator ';' bonds.csv bonds")]
+pub struct Import {
+    /// The CSV file
+    pub file: PathBuf,
+    /// The folder for the catalogue; it is made if it is not there
+    pub folder: PathBuf,
+    #[command(flatten)]
+    pub parted: Parted,
+}
+
+/// Write the catalogue as CSV again
+///
+/// The values are those that were imported, in UTF-8, under the same first line.
+#[derive(Args)]
+#[command(after_help = "\
+Example:
+  searchroom export deeds > deeds-again.csv")]
+pub struct Export {
+    /// The folder with the catalogue
+    pub folder: PathBuf,
+    #[command(flatten)]
+    pub parted: Parted,
+}
+
+#[derive(Args)]
+pub struct Parted {
+    /// The sign between the values: one character, or `tab`
+    #[arg(long, value_name = "SIGN", default_value = ",", value_parser = separator)]
+    pub separator: u8,
+}
+
+/// List the entries that meet a question, and count the looks
+///
+/// A question is one condition or one group. Conditions:
+///
+///   year in 1700..1799    parish is "ash"    parish starts "ash"    parish has "ash"    year blank
+///
+/// with `not` before for the opposite; groups: all(…, …) and any(…, …), with conditions or groups inside. A column is named as
+/// in the CSV file, in double quotes if that is not one word, or by its number: c0, c1, … Texts are found in capitals or
+/// small letters, with or without the accent. A blank meets neither a condition nor its opposite, unless it is `blank`.
+///
+/// Withdrawn entries are never listed and never looked at.
+#[derive(Args)]
+#[command(after_help = "\
+Example:
+  searchroom ask deeds 'all(year in 1700..1799, parish starts \"ash\")'
+  searchroom ask deeds 'any(depositor is \"bronte\", not year blank)' --order 1,0 --reader 3 --tally tally.bin
+  searchroom ask deeds 'year blank' --json")]
+pub struct Ask {
+    #[command(flatten)]
+    pub asked: Asked,
+    /// The reader for whom the run is made, 0 to 15
+    #[arg(long, value_name = "NUMBER", default_value_t = 0)]
+    pub reader: u64,
+    /// Add the looks to this reader's number in FILE, which is made if it is not there
+    #[arg(long, value_name = "FILE")]
+    pub tally: Option<PathBuf>,
+    /// Write the steward's copy of the register to FILE: seven bytes for each look
+    #[arg(long, value_name = "FILE")]
+    pub copy: Option<PathBuf>,
+    /// Answer with one line of JSON
+    #[arg(long)]
+    pub json: bool,
+    /// Only print the question in the strict spelling that the engine reads
+    #[arg(long, conflicts_with_all = ["order", "reader", "tally", "copy", "json"])]
+    pub strict: bool,
+}
+
+/// Show a question's tree at one entry: which conditions were looked at, which passed, and why
+///
+/// A condition is looked at where it can still make the difference. Where a group around it is settled by earlier looks, it is
+/// passed: its answer makes no difference and is not worked out. Nothing is added to a tally.
+#[derive(Args)]
+#[command(after_help = "\
+Example:
+  searchroom explain deeds 'all(year in 1700..1799, parish starts \"ash\")' 17")]
+pub struct Explain {
+    #[command(flatten)]
+    pub asked: Asked,
+    /// The entry's number, from 0 on
+    pub entry: u64,
+}
+
+/// Draw a question's tree as an SVG picture
+///
+/// Each condition stands with its looks, as a share of the entries that are not withdrawn. Nothing is added to a tally.
+#[derive(Args)]
+#[command(after_help = "\
+Example:
+  searchroom draw deeds 'all(year in 1700..1799, parish starts \"ash\")' -o question.svg")]
+pub struct Draw {
+    #[command(flatten)]
+    pub asked: Asked,
+    /// The file for the picture
+    #[arg(short, long, value_name = "FILE")]
+    pub output: PathBuf,
+}
+
+/// What every question needs.
+#[derive(Args)]
+pub struct Asked {
+    /// The folder with the catalogue
+    pub folder: PathBuf,
+    /// The question; `searchroom ask --help` has the notation
+    pub question: String,
+    /// The running order: the conditions' numbers, as in 2,0,1. Without it they run as they stand
+    #[arg(long, value_name = "NUMBERS", value_delimiter = ',')]
+    pub order: Option<Vec<u8>>,
+}
+
+/// The byte of a separator.
+fn separator(sign: &str) -> Result<u8, String> {
+    match sign.as_bytes() {
+        b"tab" => Ok(b'\t'),
+        &[byte] if byte.is_ascii() && !matches!(byte, b'"' | b'\n' | b'\r') => Ok(byte),
+        _ => Err("one character of ASCII, or `tab`; a quote or a line end cannot part values".to_owned()),
+    }
+}
