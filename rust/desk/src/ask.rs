@@ -21,6 +21,9 @@ pub fn ask(ask: &Ask, paint: Paint, out: &mut dyn Write) -> Result<(), Failure> 
     if ask.strict {
         return Ok(writeln!(out, "{}", question.strict)?);
     }
+    if ask.tally.is_some() && ask.tally == ask.copy {
+        return Err(Failure::Desk("--tally and --copy name the same file: name two".to_owned()));
+    }
     let order = ask.asked.order.clone().unwrap_or_else(|| question.standing_order());
     let asked = Answered::make(ask, folder, question, order)?;
     if ask.json { Ok(writeln!(out, "{}", asked.json())?) } else { asked.print(paint, out) }

@@ -1,8 +1,6 @@
 //! A catalogue taken apart into values, and put together again. The engine judges its bytes; here they are only told.
 
-use searchroom::check_catalogue;
-
-use crate::failure::Failure;
+use searchroom::{Refusal, check_catalogue};
 
 pub const MAX_ENTRIES: usize = 2_048;
 pub const MAX_COLUMNS: usize = 16;
@@ -68,7 +66,7 @@ impl Catalogue {
     ///
     /// # Errors
     /// The engine's refusal of the bytes.
-    pub fn read(bytes: &[u8]) -> Result<Catalogue, Failure> {
+    pub fn read(bytes: &[u8]) -> Result<Catalogue, Refusal> {
         let size = check_catalogue(bytes)?;
         let mut rest = &bytes[HEAD + HEAD..];
         let columns = (0..size.columns).map(|_| read_column(&mut rest)).collect();

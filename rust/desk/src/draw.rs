@@ -6,7 +6,7 @@ use std::io::Write;
 use crate::ask::{found_of, looks_of};
 use crate::failure::Failure;
 use crate::folder::Folder;
-use crate::found::{Found, run_untold};
+use crate::found::{Found, run_without_tally};
 use crate::notation::Kind;
 use crate::question::{Group, Question};
 use crate::replace::replace;
@@ -16,7 +16,7 @@ pub fn draw(draw: &Draw, out: &mut dyn Write) -> Result<(), Failure> {
     let folder = Folder::open(&draw.asked.folder)?;
     let question = Question::read(&folder, &draw.asked.question)?;
     let order = draw.asked.order.clone().unwrap_or_else(|| question.standing_order());
-    let found = run_untold(&folder, &question, &order)?;
+    let found = run_without_tally(&folder, &question, &order)?;
     let picture = Picture::new(&folder, &question, &order, &found).svg();
     replace(&draw.output, picture.as_bytes())?;
     let (conditions, groups) = (question.conditions().len(), question.groups.len());
@@ -45,10 +45,10 @@ text { font: 13px 'DejaVu Sans Mono', Menlo, Consolas, monospace; fill: #1a202c;
 .small { fill: #4a5568; }
 .word { fill: #ffffff; font-weight: bold; text-anchor: middle; }
 .right { text-anchor: end; }
-.track { fill: #e2e8f0; }
+.track { fill: #cbd5e0; }
 .looks { fill: #2b6cb0; }
-.all { fill: #ebf4ff; stroke: #2c5282; }
-.any { fill: #fffaf0; stroke: #9c4221; }
+.all { fill: #e6f0fc; }
+.any { fill: #fdf2e2; }
 .strip-all { fill: #2c5282; }
 .strip-any { fill: #9c4221; }
 ";
@@ -114,11 +114,10 @@ impl<'a> Picture<'a> {
             Kind::All => ("all", "all"),
             Kind::Any => ("any", "any"),
         };
-        // Each box stands a little inside the one around it.
         let x = MARGIN + STRIP * depth;
-        let y = HEAD + ROW * group.conditions.start as f64 + depth;
-        let height = ROW * group.conditions.len() as f64 - 2.0 * depth - 1.0;
-        let width = self.width - MARGIN - x - 2.0 * depth;
+        // A gap of two pixels tells groups apart that stand below each other.
+        let (y, height) = (HEAD + ROW * group.conditions.start as f64 + 1.0, ROW * group.conditions.len() as f64 - 2.0);
+        let width = self.width - MARGIN - x;
         let _ = writeln!(
             svg,
             "<rect class=\"{class}\" x=\"{x:.1}\" y=\"{y:.1}\" width=\"{width:.1}\" height=\"{height:.1}\" rx=\"3\"/>\n\

@@ -7,7 +7,7 @@ use searchroom::{Answer, copy_of, looks, outcome};
 
 use crate::failure::Failure;
 use crate::folder::Folder;
-use crate::found::run_untold;
+use crate::found::run_without_tally;
 use crate::notation::{Kind, Part};
 use crate::paint::{Paint, shown};
 use crate::question::Question;
@@ -17,10 +17,8 @@ pub fn explain(explain: &Explain, paint: Paint, out: &mut dyn Write) -> Result<(
     let folder = Folder::open(&explain.asked.folder)?;
     let question = Question::read(&folder, &explain.asked.question)?;
     let order = explain.asked.order.clone().unwrap_or_else(|| question.standing_order());
-    let found = run_untold(&folder, &question, &order)?;
-    // The engine knows whether there is such an entry; the answer is not told, for the look may be passed.
-    outcome(&folder.bytes, &question.bytes, explain.entry, 0)?;
-    let entry = usize::try_from(explain.entry).expect("at most 2,048 entries");
+    let entry = existing(&folder, &question, explain.entry)?;
+    let found = run_without_tally(&folder, &question, &order)?;
     let mut answers = vec![None; question.conditions().len()];
     for look in looks(&copy_of(&folder.bytes, &question.bytes, &order)?) {
         if usize::from(look.entry) == entry {
@@ -39,6 +37,20 @@ pub fn explain(explain: &Explain, paint: Paint, out: &mut dyn Write) -> Result<(
         (false, false) => writeln!(out, "\n{}", paint.bold(&format!("not listed: {counts}")))?,
     }
     Ok(())
+}
+
+/// An entry's number, if there is such an entry. Else the engine is asked, and works nothing out where it refuses.
+fn existing(folder: &Folder, question: &Question, entry: u64) -> Result<usize, Failure> {
+    let entries = folder.catalogue.entries;
+    let found = usize::try_from(entry).ok().filter(|&entry| entry < entries);
+    found.ok_or_else(|| {
+        let refusal = outcome(&folder.bytes, &question.bytes, entry, 0).expect_err("there is no such entry");
+        let help = match entries.checked_sub(1) {
+            Some(last) => format!("\n  the entries are 0 to {last}"),
+            None => "\n  the catalogue has no entries".to_owned(),
+        };
+        Failure::Refused { refusal, help }
+    })
 }
 
 /// The entry's values, and the running order.

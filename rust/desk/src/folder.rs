@@ -36,7 +36,10 @@ impl Folder {
             )),
             _ => Failure::file("read", &file, &error),
         })?;
-        let catalogue = Catalogue::read(&bytes)?;
+        let catalogue = Catalogue::read(&bytes).map_err(|refusal| {
+            let help = format!("\n  in {}: import the CSV file again", file.display());
+            Failure::Refused { refusal, help }
+        })?;
         let columns = columns_file(folder);
         let headings = match fs::read(&columns) {
             Ok(bytes) => {

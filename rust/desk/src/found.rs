@@ -2,6 +2,7 @@
 
 use searchroom::{Counts, Refusal, Tally};
 
+use crate::failure::Failure;
 use crate::folder::Folder;
 use crate::question::Question;
 
@@ -21,20 +22,36 @@ pub fn run(
     order: &[u8],
     reader: u64,
     tally: &mut [u8],
-) -> Result<Found, Refusal> {
+) -> Result<Found, Failure> {
     let row = folder.catalogue.entries.div_ceil(8);
     let mut listed = vec![0; row];
     let mut looks = vec![0; row * question.conditions().len()];
-    let counts = searchroom::run(&folder.bytes, &question.bytes, order, reader, &mut listed, &mut looks, tally)?;
+    let counts = searchroom::run(&folder.bytes, &question.bytes, order, reader, &mut listed, &mut looks, tally)
+        .map_err(|refusal| Failure::Refused { refusal, help: advice(refusal, question, tally.len()) })?;
     let rows = looks.chunks(row.max(1)).map(ones);
     // Without entries there are no rows, but as many conditions.
     let looks = rows.chain(std::iter::repeat_with(Vec::new)).take(question.conditions().len()).collect();
     Ok(Found { counts, listed: ones(&listed), looks })
 }
 
-/// Runs a question whose looks are told and not kept.
-pub fn run_untold(folder: &Folder, question: &Question, order: &[u8]) -> Result<Found, Refusal> {
+/// Runs a question whose looks are added to no tally that is kept.
+pub fn run_without_tally(folder: &Folder, question: &Question, order: &[u8]) -> Result<Found, Failure> {
     run(folder, question, order, 0, Tally::default().bytes_mut())
+}
+
+/// What to do about a refusal of the order or the tally; the others say it themselves.
+fn advice(refusal: Refusal, question: &Question, tally_bytes: usize) -> String {
+    let conditions = question.conditions().len();
+    match refusal {
+        Refusal::BadOrder => {
+            format!("\n  the question has {conditions} conditions: name each of 0 to {} once", conditions - 1)
+        }
+        Refusal::BadTally if tally_bytes != Tally::BYTES => {
+            format!("\n  the tally's file has {tally_bytes} bytes: name another, or one that is not there yet")
+        }
+        Refusal::BadTally => "\n  keep this tally as it is, and begin another".to_owned(),
+        _ => String::new(),
+    }
 }
 
 /// The entries whose bits are one in a row.

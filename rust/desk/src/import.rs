@@ -1,8 +1,9 @@
 //! `searchroom import`: a catalogue from a CSV file.
 
 use std::fs;
-use std::io::Write;
+use std::io::{self, BufWriter, Write};
 use std::path::Path;
+use std::str;
 
 use crate::catalogue::{Catalogue, Column, MAX_COLUMNS, MAX_ENTRIES, MAX_TEXT, number_of};
 use crate::failure::Failure;
@@ -17,9 +18,12 @@ pub fn import(file: &Path, folder: &Path, separator: u8, out: &mut dyn Write) ->
     let mut import = Import::default();
     let folder_of = import.folder(&bytes, separator);
     import.faults.sort_by_key(|fault| (fault.line, fault.cell.as_ref().map(|cell| cell.place)));
+    let mut told = BufWriter::new(io::stderr().lock());
     for fault in &import.faults {
-        eprintln!("{}, {fault}", file.display());
+        // Where nobody hears it the status still tells.
+        let _ = writeln!(told, "{}, {fault}", file.display());
     }
+    drop(told);
     match (import.faults.len(), folder_of) {
         (0, Some(imported)) => {
             imported.save(folder)?;
@@ -56,7 +60,7 @@ impl Import {
         };
         let cells = self.first_line(first);
         let whole: Vec<&Line> = rest.iter().filter(|line| self.is_whole(line, cells.len())).collect();
-        self.limits(&cells, rest);
+        self.limits(first.number, &cells, rest);
         let (mut headings, mut columns, mut mark) = (Vec::new(), Vec::new(), None);
         for (place, cell) in cells.into_iter().enumerate() {
             let column = self.cells(place, name_of(&cell).0, &whole);
@@ -117,15 +121,15 @@ impl Import {
     }
 
     /// Holds the numbers of columns and of entries to the engine's limits.
-    fn limits(&mut self, cells: &[String], lines: &[Line]) {
+    fn limits(&mut self, first: usize, cells: &[String], lines: &[Line]) {
         let columns: Vec<usize> = (0..cells.len()).filter(|&place| !marks(&cells[place])).collect();
         let in_cell = |place: usize| Some(Cell { place, name: String::new(), value: cells[place].clone() });
         for &place in columns.iter().skip(MAX_COLUMNS) {
             let what = format!("a column too many; a catalogue has at most {MAX_COLUMNS} beside the mark");
-            self.fault(1, in_cell(place), what);
+            self.fault(first, in_cell(place), what);
         }
         if columns.is_empty() {
-            self.fault(1, in_cell(0), "no column beside the mark; a catalogue has at least one".to_owned());
+            self.fault(first, in_cell(0), "no column beside the mark; a catalogue has at least one".to_owned());
         }
         if let Some(line) = lines.get(MAX_ENTRIES) {
             let what =

@@ -34,7 +34,8 @@ fn main() -> ExitCode {
         Ok(()) | Err(Failure::Closed) => ExitCode::SUCCESS,
         Err(failure) => {
             let paint = Paint::of(&io::stderr());
-            eprintln!("{} {failure}", paint.red("searchroom:"));
+            // Where nobody hears it the status still tells.
+            let _ = writeln!(io::stderr(), "{} {failure}", paint.red("searchroom:"));
             ExitCode::FAILURE
         }
     }

@@ -83,21 +83,27 @@ pub struct Parted {
 
 /// List the entries that meet a question, and count the looks
 ///
-/// A question is one condition or one group. Conditions:
-///
-///   year in 1700..1799    parish is "ash"    parish starts "ash"    parish has "ash"    year blank
-///
-/// with `not` before for the opposite; groups: all(…, …) and any(…, …), with conditions or groups inside. A column is named as
-/// in the CSV file, in double quotes if that is not one word, or by its number: c0, c1, … Texts are found in capitals or
-/// small letters, with or without the accent. A blank meets neither a condition nor its opposite, unless it is `blank`.
-///
-/// Withdrawn entries are never listed and never looked at.
+/// A question is one condition or one group of them. Withdrawn entries are never listed and never looked at.
 #[derive(Args)]
 #[command(after_help = "\
+Conditions, with `not` before for the opposite:
+  year in 1700..1799     a number from 1700 to 1799
+  parish is \"ash\"        a text, the whole of it
+  parish starts \"ash\"    its beginning
+  parish has \"ash\"       any part of it
+  year blank             no value
+Groups, of conditions or groups:
+  all(.., ..)            every member is met
+  any(.., ..)            one of them is, or more
+
+A column is named as in the CSV file, in double quotes if that is not one word, or by its number: c0, c1. \
+Texts are found in capitals or small letters, with or without the accent. A blank value meets neither a condition \
+nor its opposite, except `blank` and `not blank`.
+
 Example:
   searchroom ask deeds 'all(year in 1700..1799, parish starts \"ash\")'
-  searchroom ask deeds 'any(depositor is \"bronte\", not year blank)' --order 1,0 --reader 3 --tally tally.bin
-  searchroom ask deeds 'year blank' --json")]
+  searchroom ask deeds 'any(depositor has \"bronte\", year blank)' --order 1,0 --json
+  searchroom ask deeds 'parish is \"ashton\"' --reader 3 --tally tally.bin --copy copy.bin")]
 pub struct Ask {
     #[command(flatten)]
     pub asked: Asked,
@@ -156,8 +162,12 @@ pub struct Asked {
     /// The question; `searchroom ask --help` has the notation
     pub question: String,
     /// The running order: the conditions' numbers, as in 2,0,1. Without it they run as they stand
-    #[arg(long, value_name = "NUMBERS", value_delimiter = ',')]
+    #[arg(long, value_name = "NUMBERS", value_delimiter = ',', value_parser = condition_number)]
     pub order: Option<Vec<u8>>,
+}
+
+fn condition_number(text: &str) -> Result<u8, String> {
+    text.trim().parse().map_err(|_| "conditions have numbers from 0 on, parted by commas, as in 2,0,1".to_owned())
 }
 
 /// The byte of a separator.
