@@ -10,9 +10,9 @@ use crate::catalogue::Column;
 use crate::failure::Failure;
 use crate::folder::Folder;
 use crate::found::{Found, run};
-use crate::paint::{Paint, shown};
 use crate::question::Question;
 use crate::replace::Replacement;
+use crate::show::{Paint, counted, shown};
 use crate::words::Ask;
 
 pub fn ask(ask: &Ask, paint: Paint, out: &mut dyn Write) -> Result<(), Failure> {
@@ -136,12 +136,14 @@ pub fn found_of(found: &Found, folder: &Folder) -> String {
         0 => String::new(),
         count => format!(", {count} withdrawn"),
     };
-    format!("{} of {} entries found{withdrawn}", found.counts.found, folder.catalogue.entries)
+    let entries = counted(folder.catalogue.entries, "entry", "entries");
+    format!("{} of {entries} found{withdrawn}", found.counts.found)
 }
 
 /// "6 looks instead of 9": of looking at every condition of every entry still in the house.
 pub fn looks_of(found: &Found, folder: &Folder) -> String {
-    format!("{} looks instead of {}", found.counts.looks, folder.catalogue.present() * found.looks.len())
+    let looks = counted(found.looks.iter().map(Vec::len).sum(), "look", "looks");
+    format!("{looks} instead of {}", folder.catalogue.present() * found.looks.len())
 }
 
 /// The listed entries with their values, as a table. Numbers stand to the right.

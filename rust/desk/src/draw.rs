@@ -10,6 +10,7 @@ use crate::found::{Found, run_without_tally};
 use crate::notation::Kind;
 use crate::question::{Group, Question};
 use crate::replace::replace;
+use crate::show::counted;
 use crate::words::Draw;
 
 pub fn draw(draw: &Draw, out: &mut dyn Write) -> Result<(), Failure> {
@@ -19,8 +20,9 @@ pub fn draw(draw: &Draw, out: &mut dyn Write) -> Result<(), Failure> {
     let found = run_without_tally(&folder, &question, &order)?;
     let picture = Picture::new(&folder, &question, &order, &found).svg();
     replace(&draw.output, picture.as_bytes())?;
-    let (conditions, groups) = (question.conditions().len(), question.groups.len());
-    Ok(writeln!(out, "{}: {conditions} conditions, {groups} groups", draw.output.display())?)
+    let conditions = counted(question.conditions().len(), "condition", "conditions");
+    let groups = counted(question.groups.len(), "group", "groups");
+    Ok(writeln!(out, "{}: {conditions}, {groups}", draw.output.display())?)
 }
 
 // All lengths are in pixels.
@@ -104,7 +106,7 @@ impl<'a> Picture<'a> {
         text(svg, "small", MARGIN, 50.0, &looks_of(found, folder));
         text(svg, "small", self.conditions_at, 80.0, "condition");
         text(svg, "small right", self.turn_at, 80.0, "turn");
-        let shares = format!("looks, of {} entries", folder.catalogue.present());
+        let shares = format!("looks, of {}", counted(folder.catalogue.present(), "entry", "entries"));
         text(svg, "small", self.bar_at, 80.0, &shares);
     }
 

@@ -9,8 +9,8 @@ use crate::failure::Failure;
 use crate::folder::Folder;
 use crate::found::run_without_tally;
 use crate::notation::{Kind, Part};
-use crate::paint::{Paint, shown};
 use crate::question::Question;
+use crate::show::{Paint, counted, shown};
 use crate::words::Explain;
 
 pub fn explain(explain: &Explain, paint: Paint, out: &mut dyn Write) -> Result<(), Failure> {
@@ -30,7 +30,7 @@ pub fn explain(explain: &Explain, paint: Paint, out: &mut dyn Write) -> Result<(
     at.print_tree(&folder, paint, out)?;
     let made = at.answers.iter().flatten().count();
     let passed = at.answers.len() - made;
-    let counts = format!("{made} looks, {passed} passed");
+    let counts = format!("{}, {passed} passed", counted(made, "look", "looks"));
     match (at.withdrawn, found.listed.contains(&entry)) {
         (true, _) => writeln!(out, "\n{}", paint.bold("not listed: withdrawn"))?,
         (false, true) => writeln!(out, "\n{}", paint.bold(&format!("listed: {counts}")))?,

@@ -41,11 +41,11 @@ pub fn run_without_tally(folder: &Folder, question: &Question, order: &[u8]) -> 
 
 /// What to do about a refusal of the order or the tally; the others say it themselves.
 fn advice(refusal: Refusal, question: &Question, tally_bytes: usize) -> String {
-    let conditions = question.conditions().len();
     match refusal {
-        Refusal::BadOrder => {
-            format!("\n  the question has {conditions} conditions: name each of 0 to {} once", conditions - 1)
-        }
+        Refusal::BadOrder => match question.conditions().len() {
+            1 => "\n  the question has one condition: its order is 0".to_owned(),
+            count => format!("\n  the question has {count} conditions: name each of 0 to {} once", count - 1),
+        },
         Refusal::BadTally if tally_bytes != Tally::BYTES => {
             format!("\n  the tally's file has {tally_bytes} bytes: name another, or one that is not there yet")
         }

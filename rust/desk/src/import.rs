@@ -9,7 +9,7 @@ use crate::catalogue::{Catalogue, Column, MAX_COLUMNS, MAX_ENTRIES, MAX_TEXT, nu
 use crate::failure::Failure;
 use crate::folder::{Folder, catalogue_file};
 use crate::heading::{Heading, Holds, marks, name_faults, name_of, says_withdrawn};
-use crate::paint::shown;
+use crate::show::{counted, shown};
 use crate::table::{Cell, Fault, Line, read_lines};
 
 /// Imports a CSV file into a folder. Everything that does not fit is told on standard error, and then nothing is written.
@@ -29,8 +29,10 @@ pub fn import(file: &Path, folder: &Path, separator: u8, out: &mut dyn Write) ->
             imported.save(folder)?;
             import.report(&imported, folder, out)
         }
-        (1, _) => Err(Failure::Desk(format!("a fault in {}: nothing was written", file.display()))),
-        (count, _) => Err(Failure::Desk(format!("{count} faults in {}: nothing was written", file.display()))),
+        (count, _) => {
+            let faults = counted(count, "fault", "faults");
+            Err(Failure::Desk(format!("{faults} in {}: nothing was written", file.display())))
+        }
     }
 }
 
@@ -114,7 +116,7 @@ impl Import {
     fn is_whole(&mut self, line: &Line, columns: usize) -> bool {
         let count = line.cells.len();
         if count != columns {
-            let values = if count == 1 { "1 value".to_owned() } else { format!("{count} values") };
+            let values = counted(count, "value", "values");
             self.fault(line.number, None, format!("{values}; the first line has {columns}"));
         }
         count == columns
@@ -204,7 +206,8 @@ impl Import {
         let mut mark = Vec::new();
         for &(line, value) in &column.values {
             let Some(withdrawn) = says_withdrawn(value) else {
-                let what = "neither; write yes, true, 1 or x if the entry is withdrawn, else no, false, 0 or nothing";
+                let what =
+                    "neither yes nor no; write yes, true, 1 or x if it is withdrawn, else no, false, 0 or nothing";
                 self.unfit(column, line, value, what.to_owned());
                 continue;
             };
@@ -226,15 +229,15 @@ impl Import {
             0 => String::new(),
             count => format!(", {count} of them withdrawn,"),
         };
-        let (entries, columns) = (catalogue.entries, catalogue.columns.len());
-        let file = catalogue_file(folder);
-        writeln!(out, "{entries} entries{withdrawn} in {columns} columns: {}", file.display())?;
+        let entries = counted(catalogue.entries, "entry", "entries");
+        let columns = counted(catalogue.columns.len(), "column", "columns");
+        writeln!(out, "{entries}{withdrawn} in {columns}: {}", catalogue_file(folder).display())?;
         let names: Vec<String> = imported.names().into_iter().map(shown).collect();
         let wide = names.iter().map(|name| name.chars().count()).max().unwrap_or(0);
         for (number, column) in catalogue.columns.iter().enumerate() {
             let sort = if matches!(column, Column::Numbers(_)) { "numbers" } else { "texts" };
             let note = self.notes[number].as_ref().map_or(String::new(), |note| format!(" ({note})"));
-            let place = if columns > 10 { format!("c{number:<2}") } else { format!("c{number}") };
+            let place = if catalogue.columns.len() > 10 { format!("c{number:<2}") } else { format!("c{number}") };
             writeln!(out, "{place}  {:<wide$}  {sort}, {} blank{note}", names[number], column.blanks())?;
         }
         Ok(())

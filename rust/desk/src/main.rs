@@ -13,9 +13,9 @@ mod found;
 mod heading;
 mod import;
 mod notation;
-mod paint;
 mod question;
 mod replace;
+mod show;
 mod table;
 mod words;
 
@@ -25,7 +25,7 @@ use std::process::ExitCode;
 use clap::Parser;
 
 use crate::failure::Failure;
-use crate::paint::Paint;
+use crate::show::Paint;
 use crate::words::{Desk, Word};
 
 fn main() -> ExitCode {

@@ -250,8 +250,8 @@ impl<'a> Reader<'a> {
         let columns = self.names.iter().map(|name| shown_name(name)).collect::<Vec<_>>().join(", ");
         let expected = match (name.is_empty(), opposite) {
             (true, false) => format!("a condition or a group; a condition begins with a column: {columns}"),
-            (true, true) => format!("a column after `not`, which stands before a condition alone: {columns}"),
-            (false, _) => format!("a column: {columns}"),
+            (false, false) => format!("a column: {columns}"),
+            (_, true) => format!("a column, for `not` stands before a condition and not before a group: {columns}"),
         };
         Err(Misspelled { at: start, expected })
     }

@@ -106,7 +106,7 @@ fn place(folder: &Folder, written: &Written, refusal: Refusal) -> Option<(usize,
                 }
                 match part {
                     Part::Opens(_, at) if depth == 9 => {
-                        Some((*at, "this group is the ninth inside each other; at most 8 can be".to_owned()))
+                        Some((*at, "this group stands nine deep; at most eight fit".to_owned()))
                     }
                     _ => None,
                 }

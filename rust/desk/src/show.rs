@@ -1,4 +1,4 @@
-//! What goes to a terminal: colours if it is one, and no control characters of the catalogue's.
+//! How things are printed: in colours if it goes to a terminal, without control characters, and in the right number.
 
 use std::env;
 use std::io::IsTerminal;
@@ -36,6 +36,11 @@ impl Paint {
     fn with(self, code: &str, text: &str) -> String {
         if self.on { format!("\x1B[{code}m{text}\x1B[0m") } else { text.to_owned() }
     }
+}
+
+/// A number and its noun: 1 look, 2 looks.
+pub fn counted(number: usize, one: &str, more: &str) -> String {
+    format!("{number} {}", if number == 1 { one } else { more })
 }
 
 /// A value without control characters: these as a backslash and their number, as the notation has them.
