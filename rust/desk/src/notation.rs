@@ -60,6 +60,9 @@ pub enum Test {
     },
 }
 
+/// The words of the notation; a column of such a name is shown in quotes.
+const WORDS: [&str; 8] = ["all", "any", "not", "in", "blank", "is", "starts", "has"];
+
 /// The words of the tests on texts.
 const TEXT_WORDS: [&str; 3] = ["is", "starts", "has"];
 
@@ -117,7 +120,7 @@ fn strict_letter(byte: u8) -> String {
 
 /// A name as it is typed: in quotes if it is not one word, or a word of the notation.
 fn shown_name(name: &str) -> String {
-    let is_word = name.chars().all(is_of_a_word) && !["all", "any", "not"].contains(&name);
+    let is_word = name.chars().all(is_of_a_word) && !WORDS.contains(&name);
     if is_word { name.to_owned() } else { format!("\"{}\"", escaped(name)) }
 }
 
@@ -246,6 +249,10 @@ impl<'a> Reader<'a> {
         let named = || self.names.iter().position(|other| same(other, &name)).map(|number| number.to_string());
         if let Some(column) = number.or_else(named) {
             return Ok(column);
+        }
+        if ["all", "any"].contains(&name.as_str()) && !opposite {
+            self.spaces();
+            return Err(self.expected(format!("`(` after `{name}`")));
         }
         let columns = self.names.iter().map(|name| shown_name(name)).collect::<Vec<_>>().join(", ");
         let expected = match (name.is_empty(), opposite) {
