@@ -1,11 +1,7 @@
 //! A catalogue taken apart into values, and put together again. The engine judges its bytes; here they are only told.
 
-use searchroom::{Refusal, check_catalogue};
+use searchroom::{MAX_TEXT, Refusal, check_catalogue};
 
-pub const MAX_ENTRIES: usize = 2_048;
-pub const MAX_COLUMNS: usize = 16;
-/// The most bytes of a text.
-pub const MAX_TEXT: usize = 23;
 /// The largest number; the next one stands for a blank.
 pub const MAX_NUMBER: u32 = BLANK_NUMBER - 1;
 

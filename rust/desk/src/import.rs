@@ -5,7 +5,9 @@ use std::io::{self, BufWriter, Write};
 use std::path::Path;
 use std::str;
 
-use crate::catalogue::{Catalogue, Column, MAX_COLUMNS, MAX_ENTRIES, MAX_TEXT, number_of};
+use searchroom::{MAX_COLUMNS, MAX_ENTRIES, MAX_TEXT};
+
+use crate::catalogue::{Catalogue, Column, number_of};
 use crate::failure::Failure;
 use crate::folder::{Folder, catalogue_file};
 use crate::heading::{Heading, Holds, marks, name_faults, name_of, says_withdrawn};

@@ -14,6 +14,7 @@ mod heading;
 mod import;
 mod notation;
 mod question;
+mod refused;
 mod replace;
 mod show;
 mod table;

@@ -2,12 +2,12 @@
 
 use std::ops::Range;
 
-use searchroom::{MAX_TYPED, Refusal, typed_question};
+use searchroom::typed_question;
 
-use crate::catalogue::{Column, MAX_TEXT};
 use crate::failure::Failure;
 use crate::folder::Folder;
-use crate::notation::{self, Condition, Kind, Misspelled, Part, Test, Written};
+use crate::notation::{self, Condition, Kind, Part, Written};
+use crate::refused::{help_with_misspelled, help_with_refused};
 
 pub struct Question {
     /// The bytes that the engine read the strict spelling into.
@@ -30,28 +30,16 @@ impl Question {
     /// Reads a question as people type it. What the desk cannot read the engine is given as it stands: the refusal is its own.
     pub fn read(folder: &Folder, text: &str) -> Result<Question, Failure> {
         let names = folder.names();
-        let written = match notation::read(text, &names) {
-            Ok(written) => written,
-            Err(Misspelled { at, expected }) => {
-                let refusal =
-                    typed_question(&folder.bytes, text.as_bytes()).expect_err("the desk reads what the engine takes");
-                return Err(Failure::Refused { refusal, help: caret(text, at, &format!("expected {expected}")) });
-            }
-        };
+        let written = notation::read(text, &names).map_err(|misspelled| Failure::Refused {
+            refusal: typed_question(&folder.bytes, text.as_bytes()).expect_err("the desk reads what the engine takes"),
+            help: help_with_misspelled(text, &misspelled),
+        })?;
         let strict = written.strict();
-        match typed_question(&folder.bytes, strict.as_bytes()) {
-            Ok(bytes) => Ok(Question { bytes, strict, groups: groups(&written), written }),
-            Err(refusal) => {
-                let help = match place(folder, &written, refusal) {
-                    Some((at, what)) => caret(text, at, &what),
-                    None => format!(
-                        "\n  in the strict spelling it has {} bytes; at most {MAX_TYPED} are read",
-                        strict.len()
-                    ),
-                };
-                Err(Failure::Refused { refusal, help })
-            }
-        }
+        let bytes = typed_question(&folder.bytes, strict.as_bytes()).map_err(|refusal| Failure::Refused {
+            refusal,
+            help: help_with_refused(folder, text, &written, refusal),
+        })?;
+        Ok(Question { bytes, strict, groups: groups(&written), written })
     }
 
     pub fn conditions(&self) -> &[Condition] {
@@ -90,88 +78,4 @@ fn groups(written: &Written) -> Vec<Group> {
         }
     }
     groups
-}
-
-/// Where in the text the engine's refusal comes from, and what to do about it.
-fn place(folder: &Folder, written: &Written, refusal: Refusal) -> Option<(usize, String)> {
-    let conditions = &written.conditions;
-    match refusal {
-        Refusal::TooDeep => {
-            let mut depth = 0;
-            written.parts.iter().find_map(|part| {
-                match part {
-                    Part::Opens(..) => depth += 1,
-                    Part::Closes => depth -= 1,
-                    Part::Condition(_) => {}
-                }
-                match part {
-                    Part::Opens(_, at) if depth == 9 => {
-                        Some((*at, "this group stands nine deep; at most eight fit".to_owned()))
-                    }
-                    _ => None,
-                }
-            })
-        }
-        Refusal::TooManyConditions => conditions
-            .get(64)
-            .map(|condition| (condition.place.start, "the 65th condition; ask two questions".to_owned())),
-        Refusal::RepeatedCondition => {
-            let bytes: Vec<_> = conditions
-                .iter()
-                .map(|condition| typed_question(&folder.bytes, condition.strict().as_bytes()))
-                .collect();
-            let earlier = |number: &usize| bytes[..*number].iter().position(|other| *other == bytes[*number]);
-            let (number, same) = (0..bytes.len()).find_map(|number| Some((number, earlier(&number)?)))?;
-            Some((conditions[number].place.start, format!("the same as condition {same}; leave one of them out")))
-        }
-        _ => {
-            let is_refused =
-                |condition: &&Condition| typed_question(&folder.bytes, condition.strict().as_bytes()).is_err();
-            conditions.iter().find(is_refused).map(|condition| (condition.place.start, advice(folder, condition)))
-        }
-    }
-}
-
-/// What to do about a condition that the engine refuses alone.
-fn advice(folder: &Folder, condition: &Condition) -> String {
-    let names = folder.names();
-    let number = condition.column.parse().unwrap_or(usize::MAX);
-    let Some(column) = folder.catalogue.columns.get(number) else {
-        return format!(
-            "there is no c{}; the columns are c0 to c{}: {}",
-            condition.column,
-            names.len() - 1,
-            names.join(", ")
-        );
-    };
-    match (&condition.test, column) {
-        (Test::In { .. }, Column::Texts(_)) => {
-            format!("{} holds texts; ask `is`, `starts`, `has` or `blank`", names[number])
-        }
-        (Test::In { .. }, Column::Numbers(_)) => {
-            "the first number is at most the last, and that at most 4,294,967,294".to_owned()
-        }
-        (Test::Text { .. }, Column::Numbers(_)) => format!("{} holds numbers; ask `in` or `blank`", names[number]),
-        (Test::Text { text, .. }, Column::Texts(_)) if text.is_empty() => "an empty text; ask `blank`".to_owned(),
-        (Test::Text { text, .. }, Column::Texts(_)) => format!("{} letters; a text has at most {MAX_TEXT}", text.len()),
-        (Test::Blank, _) => "the engine does not take this condition".to_owned(),
-    }
-}
-
-/// How many letters of a question are shown around a place.
-const SHOWN: usize = 72;
-
-/// The line of the text in which a place stands, and below it a caret at the place with what there is to say.
-fn caret(text: &str, at: usize, what: &str) -> String {
-    let start = text[..at].rfind('\n').map_or(0, |end| end + 1);
-    let before: Vec<char> = text[start..at].chars().collect();
-    let line: Vec<char> = text[start..].lines().next().unwrap_or_default().chars().collect();
-    // A long line is cut, with the place in what is left of it.
-    let from = before.len().saturating_sub(SHOWN / 2).min(line.len().saturating_sub(SHOWN));
-    let to = line.len().min(from + SHOWN);
-    let cut = |is_cut: bool| if is_cut { "…" } else { "" };
-    let shown: String = line[from..to].iter().map(|&letter| if letter.is_control() { ' ' } else { letter }).collect();
-    let (head, tail) = (cut(from > 0), cut(to < line.len()));
-    let indent = before.len() - from + head.chars().count();
-    format!("\n  {head}{shown}{tail}\n  {:indent$}^ {what}", "")
 }

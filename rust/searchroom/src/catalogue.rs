@@ -1,5 +1,14 @@
 use crate::{Refusal, Word, sys};
 
+/// The most entries that a catalogue may have.
+pub const MAX_ENTRIES: usize = 2_048;
+
+/// The most columns that a catalogue may have; it has at least one.
+pub const MAX_COLUMNS: usize = 16;
+
+/// The most bytes of a text in a catalogue, or of a text that a condition asks for.
+pub const MAX_TEXT: usize = 23;
+
 /// How much an accepted catalogue holds.
 #[derive(Clone, Copy, Debug, PartialEq, Eq, Hash)]
 pub struct Size {

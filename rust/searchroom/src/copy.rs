@@ -1,5 +1,6 @@
 use std::iter::FusedIterator;
 
+use crate::catalogue::MAX_ENTRIES;
 use crate::question::MAX_CONDITIONS;
 use crate::{Answer, Refusal, Word, check_catalogue, sys};
 
@@ -7,7 +8,7 @@ use crate::{Answer, Refusal, Word, check_catalogue, sys};
 const FIELD: usize = 7;
 
 /// Bytes that are enough for any copy: a field for each of 64 conditions at each of 2,048 entries.
-pub const COPY_BYTES: usize = FIELD * MAX_CONDITIONS * 2_048;
+pub const COPY_BYTES: usize = FIELD * MAX_CONDITIONS * MAX_ENTRIES;
 
 /// Writes the steward's copy of the register: each look that a [`run`](crate::run) of the same catalogue, question and
 /// order registers, with its outcome. Gives the number of bytes written, seven times the look count.

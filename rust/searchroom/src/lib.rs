@@ -22,10 +22,10 @@ mod tally;
 mod typed;
 mod word;
 
-pub use catalogue::{Size, check_catalogue};
+pub use catalogue::{MAX_COLUMNS, MAX_ENTRIES, MAX_TEXT, Size, check_catalogue};
 pub use consultation::{Consultation, consult};
 pub use copy::{COPY_BYTES, Look, Looks, copy, copy_of, looks};
-pub use question::{Answer, check_question, outcome};
+pub use question::{Answer, MAX_CONDITIONS, MAX_DEPTH, check_question, outcome};
 pub use refusal::Refusal;
 pub use run::{Counts, run};
 pub use tally::Tally;

@@ -1,7 +1,10 @@
 use crate::{Refusal, Word, sys};
 
 /// The most conditions that a question may have.
-pub(crate) const MAX_CONDITIONS: usize = 64;
+pub const MAX_CONDITIONS: usize = 64;
+
+/// The most groups that may stand inside each other, the outermost being one.
+pub const MAX_DEPTH: usize = 8;
 
 /// What a condition answers at an entry.
 ///

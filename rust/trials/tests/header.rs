@@ -5,7 +5,10 @@ use std::collections::BTreeMap;
 use std::fs;
 use std::path::Path;
 
-use searchroom::{Answer, COPY_BYTES, MAX_TYPED, Refusal, TYPED_BYTES, Tally, typed_question};
+use searchroom::{
+    Answer, COPY_BYTES, MAX_COLUMNS, MAX_CONDITIONS, MAX_DEPTH, MAX_ENTRIES, MAX_TEXT, MAX_TYPED, Refusal, TYPED_BYTES,
+    Tally, typed_question,
+};
 use trials::PARISH_CATALOGUE;
 
 const HEADER: &str = include_str!("../../../include/searchroom.h");
@@ -117,6 +120,11 @@ fn header_has_the_constants_of_the_crates() {
         assert_eq!(header.get(name), expected.get(name), "SEARCHROOM_{name}: the header's and the crates'");
     }
     for (name, of_wrapper) in [
+        ("MAX_ENTRIES", MAX_ENTRIES),
+        ("MAX_COLUMNS", MAX_COLUMNS),
+        ("MAX_TEXT", MAX_TEXT),
+        ("MAX_CONDITIONS", MAX_CONDITIONS),
+        ("MAX_DEPTH", MAX_DEPTH),
         ("READERS", Tally::READERS as usize),
         ("TALLY_BYTES", Tally::BYTES),
         ("COPY_BYTES", COPY_BYTES),
