@@ -39,12 +39,13 @@ impl Heading {
 
 /// The name in a heading's cell, and what it declares the column to hold.
 pub fn name_of(cell: &str) -> (&str, Option<Holds>) {
+    let cell = cell.trim();
     if let Some(name) = cell.strip_suffix(":number") {
-        (name.trim(), Some(Holds::Numbers))
+        (name.trim_end(), Some(Holds::Numbers))
     } else if let Some(name) = cell.strip_suffix(":text") {
-        (name.trim(), Some(Holds::Texts))
+        (name.trim_end(), Some(Holds::Texts))
     } else {
-        (cell.trim(), None)
+        (cell, None)
     }
 }
 

@@ -62,9 +62,29 @@ pub fn read_lines(bytes: &[u8], separator: u8) -> (Vec<Line>, Vec<Fault>) {
         if !more {
             return (lines, faults);
         }
+        let (start, end) = (place.at, usize::try_from(reader.position().byte()).expect("a place in memory"));
+        if end == bytes.len() && ends_in_quotes(&bytes[start..], separator) {
+            let what = "from here on a quote is open and never closed; close it".to_owned();
+            faults.push(Fault { line: place.line, cell: None, what });
+        }
         lines.push(Line { number: place.line, cells: record.iter().map(<[u8]>::to_vec).collect() });
-        place.advance(usize::try_from(reader.position().byte()).expect("a place in memory"));
+        place.advance(end);
     }
+}
+
+/// Does the last record end inside quotes? The library takes the end of the file for their end.
+fn ends_in_quotes(record: &[u8], separator: u8) -> bool {
+    let (mut inside, mut at_start) = (false, true);
+    for &byte in record {
+        // A quote inside quotes is doubled: it closes and opens them again.
+        if byte == b'"' && (inside || at_start) {
+            inside = !inside;
+            at_start = !inside;
+        } else if !inside {
+            at_start = byte == separator;
+        }
+    }
+    inside
 }
 
 const BYTE_ORDER_MARK: &[u8] = b"\xEF\xBB\xBF";
