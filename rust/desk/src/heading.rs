@@ -5,6 +5,12 @@ use crate::catalogue::{Catalogue, Column, from_latin_1, number_of};
 /// The name of the column that is the mark.
 pub const WITHDRAWN: &str = "withdrawn";
 
+/// The most letters of a name: more would not fit any page.
+const MAX_NAME: usize = 100;
+
+/// At the start of a file it is no letter; so a name that begins with it would not come back.
+const BYTE_ORDER_MARK: char = '\u{FEFF}';
+
 /// The words that say that an entry is withdrawn, and that it is not; their case does not matter.
 const WITHDRAWN_WORDS: [&str; 4] = ["yes", "true", "1", "x"];
 const PRESENT_WORDS: [&str; 4] = ["no", "false", "0", ""];
@@ -88,6 +94,10 @@ pub fn name_faults(cells: &[String]) -> Vec<(usize, String)> {
             faults.push((place, format!("column {} has that name too; each column needs its own", earlier + 1)));
         } else if name.is_empty() {
             faults.push((place, "no name; write one into the first line".to_owned()));
+        } else if name.chars().count() > MAX_NAME {
+            faults.push((place, format!("a name has at most {MAX_NAME} letters; shorten it")));
+        } else if name.contains(BYTE_ORDER_MARK) {
+            faults.push((place, "a byte order mark (U+FEFF) stands in the name; remove it".to_owned()));
         } else if numbered(name).is_some_and(|number| number != column.to_string()) {
             faults.push((place, format!("in a question {name} is the column of that number; name it otherwise")));
         }

@@ -87,13 +87,22 @@ pub fn replace(path: &Path, bytes: &[u8]) -> Result<(), Failure> {
     replacement.finish()
 }
 
-/// The file itself, where a link is named. A folder or a device is not to be replaced.
+/// How many links to links are followed, as many as the system follows.
+const LINKS: usize = 40;
+
+/// The file itself, where a link is named, whether it is there yet or not. A folder or a device is not to be replaced.
 fn target(path: &Path) -> Result<PathBuf, Failure> {
-    match fs::metadata(path) {
-        Ok(found) if found.is_file() => fs::canonicalize(path).map_err(|error| Failure::file("find", path, &error)),
-        Ok(_) => Err(Failure::Desk(format!("{} is not a file: name one, or one to be made", path.display()))),
-        Err(error) if error.kind() == io::ErrorKind::NotFound => Ok(path.to_path_buf()),
-        Err(error) => Err(Failure::file("read", path, &error)),
+    let mut file = path.to_path_buf();
+    for _ in 0..LINKS {
+        let Ok(link) = fs::read_link(&file) else { break };
+        file = file.parent().unwrap_or(Path::new("")).join(link);
+    }
+    match fs::metadata(&file) {
+        Ok(found) if !found.is_file() => {
+            Err(Failure::Desk(format!("{} is not a file: name one, or one to be made", path.display())))
+        }
+        Err(error) if error.kind() != io::ErrorKind::NotFound => Err(Failure::file("read", path, &error)),
+        _ => Ok(file),
     }
 }
 
