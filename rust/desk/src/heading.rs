@@ -6,7 +6,7 @@ use crate::catalogue::{Catalogue, Column, from_latin_1, number_of};
 pub const WITHDRAWN: &str = "withdrawn";
 
 /// The most letters of a name: more would not fit any page.
-const MAX_NAME: usize = 100;
+const MAX_NAME: usize = 200;
 
 /// At the start of a file it is no letter; so a name that begins with it would not come back.
 const BYTE_ORDER_MARK: char = '\u{FEFF}';
