@@ -1,18 +1,18 @@
 //! `searchroom ask`: the entries found, and the looks.
 
 use std::io::Write;
-use std::path::Path;
+use std::path::PathBuf;
 
 use searchroom::{Tally, copy_of};
 use serde_json::{Map, Value, json};
 
 use crate::catalogue::Column;
 use crate::failure::Failure;
-use crate::folder::Folder;
+use crate::folder::{Folder, output};
 use crate::found::{Found, run};
 use crate::question::Question;
 use crate::replace::Replacement;
-use crate::show::{Paint, counted, shown};
+use crate::show::{Paint, shown};
 use crate::words::Ask;
 
 pub fn ask(ask: &Ask, paint: Paint, out: &mut dyn Write) -> Result<(), Failure> {
@@ -21,12 +21,9 @@ pub fn ask(ask: &Ask, paint: Paint, out: &mut dyn Write) -> Result<(), Failure> 
     if ask.strict {
         return Ok(writeln!(out, "{}", question.strict)?);
     }
-    if ask.tally.is_some() && ask.tally == ask.copy {
-        return Err(Failure::Desk("--tally and --copy name the same file: name two".to_owned()));
-    }
     let order = ask.asked.order.clone().unwrap_or_else(|| question.standing_order());
-    let asked = Answered::make(ask, folder, question, order)?;
-    if ask.json { Ok(writeln!(out, "{}", asked.json())?) } else { asked.print(paint, out) }
+    let answered = Answered::make(ask, folder, question, order)?;
+    if ask.json { Ok(writeln!(out, "{}", answered.json())?) } else { answered.print(paint, out) }
 }
 
 /// A question that was run and registered.
@@ -43,19 +40,29 @@ struct Answered<'a> {
 }
 
 impl<'a> Answered<'a> {
-    /// Runs the question. The files are written when nothing can refuse any more.
+    /// Runs the question. The files are put in their places when nothing can refuse any more.
     fn make(ask: &'a Ask, folder: Folder, question: Question, order: Vec<u8>) -> Result<Answered<'a>, Failure> {
-        let mut kept = ask.tally.as_deref().map(Replacement::begin).transpose()?;
+        let (tally_file, copy_file) = outputs(ask)?;
+        let mut kept = tally_file.as_deref().map(Replacement::begin).transpose()?;
         let before = kept.as_ref().map(Replacement::read).transpose()?.flatten();
         let is_new = before.is_none();
         let mut tally = before.unwrap_or_else(|| Tally::default().bytes().to_vec());
         let found = run(&folder, &question, &order, ask.reader, &mut tally)?;
+        let mut copy = copy_file.as_deref().map(Replacement::begin).transpose()?;
+        let mut copied = None;
+        if let Some(copy) = &mut copy {
+            let bytes = copy_of(&folder.bytes, &question.bytes, &order)?;
+            copy.write(&bytes)?;
+            copied = Some(bytes.len());
+        }
         if let Some(kept) = &mut kept {
             kept.write(&tally)?;
         }
-        let copied = ask.copy.as_deref().map(|file| copy(&folder, &question, &order, file)).transpose()?;
         let number = Tally::try_from(tally.as_slice())?.of(ask.reader).unwrap_or_default();
-        let tally = kept.map(|kept| kept.finish().map(|()| (number, is_new))).transpose()?;
+        let tally = kept.is_some().then_some((number, is_new));
+        for file in [kept, copy].into_iter().flatten() {
+            file.finish()?;
+        }
         Ok(Answered { ask, folder, question, order, found, tally, copied })
     }
 
@@ -64,7 +71,8 @@ impl<'a> Answered<'a> {
         let names = folder.names();
         let condition = |(number, looks): (usize, &Vec<usize>)| {
             let condition = &question.conditions()[number];
-            json!({"condition": number, "text": condition.shown(&names), "strict": condition.strict(), "looks": looks.len()})
+            let (text, strict) = (condition.shown(&names), condition.strict());
+            json!({"condition": number, "text": text, "strict": strict, "looks": looks.len()})
         };
         let value = |column: &Column, entry: usize| match column {
             Column::Numbers(numbers) => json!(numbers[entry]),
@@ -93,7 +101,7 @@ impl<'a> Answered<'a> {
 
     fn print(&self, paint: Paint, out: &mut dyn Write) -> Result<(), Failure> {
         let Answered { ask, folder, found, .. } = self;
-        writeln!(out, "{}", paint.bold(&found_of(found, folder)))?;
+        writeln!(out, "{}", paint.bold(&found.listing(&folder.catalogue)))?;
         if !found.listed.is_empty() {
             writeln!(out)?;
             print_listed(folder, &found.listed, paint, out)?;
@@ -112,7 +120,7 @@ impl<'a> Answered<'a> {
 
     fn print_looks(&self, paint: Paint, out: &mut dyn Write) -> Result<(), Failure> {
         let Answered { folder, question, found, .. } = self;
-        writeln!(out, "{}", paint.bold(&looks_of(found, folder)))?;
+        writeln!(out, "{}", paint.bold(&found.looking(&folder.catalogue)))?;
         let names = folder.names();
         let wide = digits(found.looks.iter().map(Vec::len).max());
         let widest = digits(found.looks.len().checked_sub(1));
@@ -123,27 +131,14 @@ impl<'a> Answered<'a> {
     }
 }
 
-/// Writes the steward's copy of the register to a file; gives the number of its bytes.
-fn copy(folder: &Folder, question: &Question, order: &[u8], file: &Path) -> Result<usize, Failure> {
-    let bytes = copy_of(&folder.bytes, &question.bytes, order)?;
-    crate::replace::replace(file, &bytes)?;
-    Ok(bytes.len())
-}
-
-/// "2 of 3 entries found", and how many are withdrawn.
-pub fn found_of(found: &Found, folder: &Folder) -> String {
-    let withdrawn = match folder.catalogue.withdrawn() {
-        0 => String::new(),
-        count => format!(", {count} withdrawn"),
-    };
-    let entries = counted(folder.catalogue.entries, "entry", "entries");
-    format!("{} of {entries} found{withdrawn}", found.counts.found)
-}
-
-/// "6 looks instead of 9": of looking at every condition of every entry still in the house.
-pub fn looks_of(found: &Found, folder: &Folder) -> String {
-    let looks = counted(found.looks.iter().map(Vec::len).sum(), "look", "looks");
-    format!("{looks} instead of {}", folder.catalogue.present() * found.looks.len())
+/// The files for the tally and the copy.
+fn outputs(ask: &Ask) -> Result<(Option<PathBuf>, Option<PathBuf>), Failure> {
+    let file = |path: &Option<PathBuf>| path.as_deref().map(|path| output(&ask.asked.folder, path)).transpose();
+    let (tally, copy) = (file(&ask.tally)?, file(&ask.copy)?);
+    if tally.is_some() && tally == copy {
+        return Err(Failure::Desk("--tally and --copy name the same file: name two".to_owned()));
+    }
+    Ok((tally, copy))
 }
 
 /// The listed entries with their values, as a table. Numbers stand to the right.

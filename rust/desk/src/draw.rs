@@ -2,12 +2,11 @@
 
 use std::fmt::Write as _;
 use std::io::Write;
+use std::path::Path;
 
-use crate::ask::{found_of, looks_of};
 use crate::failure::Failure;
-use crate::folder::Folder;
+use crate::folder::{Folder, output};
 use crate::found::{Found, run_without_tally};
-use crate::notation::Kind;
 use crate::question::{Group, Question};
 use crate::replace::replace;
 use crate::show::counted;
@@ -19,7 +18,10 @@ pub fn draw(draw: &Draw, out: &mut dyn Write) -> Result<(), Failure> {
     let order = draw.asked.order.clone().unwrap_or_else(|| question.standing_order());
     let found = run_without_tally(&folder, &question, &order)?;
     let picture = Picture::new(&folder, &question, &order, &found).svg();
-    replace(&draw.output, picture.as_bytes())?;
+    if draw.output == Path::new("-") {
+        return Ok(out.write_all(picture.as_bytes())?);
+    }
+    replace(&output(&draw.asked.folder, &draw.output)?, picture.as_bytes())?;
     let conditions = counted(question.conditions().len(), "condition", "conditions");
     let groups = counted(question.groups.len(), "group", "groups");
     Ok(writeln!(out, "{}: {conditions}, {groups}", draw.output.display())?)
@@ -82,15 +84,16 @@ impl<'a> Picture<'a> {
 
     fn svg(&self) -> String {
         let height = HEAD + ROW * self.question.conditions().len() as f64 + MARGIN;
+        let width = self.width;
         let mut svg = format!(
-            "<svg xmlns=\"http://www.w3.org/2000/svg\" width=\"{0:.0}\" height=\"{height:.0}\" viewBox=\"0 0 {0:.0} {height:.0}\" \
-             role=\"img\">\n<title>{1}</title>\n<style>\n{STYLE}</style>\n<rect width=\"100%\" height=\"100%\" fill=\"#ffffff\"/>\n",
-            self.width,
-            xml(&self.question.strict),
+            "<svg xmlns=\"http://www.w3.org/2000/svg\" width=\"{width:.0}\" height=\"{height:.0}\" \
+             viewBox=\"0 0 {width:.0} {height:.0}\" role=\"img\">\n<title>{}</title>\n<style>\n{STYLE}</style>\n\
+             <rect width=\"100%\" height=\"100%\" fill=\"#ffffff\"/>\n",
+            xml(&self.question.written.shown(&self.folder.names())),
         );
         self.head(&mut svg);
-        for group in &self.question.groups {
-            self.group(group, &mut svg);
+        for (number, group) in self.question.groups.iter().enumerate() {
+            self.group(number, group, &mut svg);
         }
         for number in 0..self.question.conditions().len() {
             self.condition(number, &mut svg);
@@ -102,36 +105,29 @@ impl<'a> Picture<'a> {
     /// What was found, and the heads of the columns.
     fn head(&self, svg: &mut String) {
         let Picture { folder, found, .. } = self;
-        text(svg, "head", MARGIN, 28.0, &found_of(found, folder));
-        text(svg, "small", MARGIN, 50.0, &looks_of(found, folder));
+        text(svg, "head", MARGIN, 28.0, &found.listing(&folder.catalogue));
+        text(svg, "small", MARGIN, 50.0, &found.looking(&folder.catalogue));
         text(svg, "small", self.conditions_at, 80.0, "condition");
         text(svg, "small right", self.turn_at, 80.0, "turn");
         let shares = format!("looks, of {}", counted(folder.catalogue.present(), "entry", "entries"));
         text(svg, "small", self.bar_at, 80.0, &shares);
     }
 
-    fn group(&self, group: &Group, svg: &mut String) {
-        let depth = self.depth(group) as f64;
-        let (class, word) = match group.kind {
-            Kind::All => ("all", "all"),
-            Kind::Any => ("any", "any"),
-        };
-        let x = MARGIN + STRIP * depth;
+    fn group(&self, number: usize, group: &Group, svg: &mut String) {
+        let word = group.kind.word();
+        let x = MARGIN + STRIP * group.depth as f64;
         // A gap of two pixels tells groups apart that stand below each other.
         let (y, height) = (HEAD + ROW * group.conditions.start as f64 + 1.0, ROW * group.conditions.len() as f64 - 2.0);
-        let width = self.width - MARGIN - x;
-        let _ = writeln!(
-            svg,
-            "<rect class=\"{class}\" x=\"{x:.1}\" y=\"{y:.1}\" width=\"{width:.1}\" height=\"{height:.1}\" rx=\"3\"/>\n\
-             <rect class=\"strip-{class}\" x=\"{x:.1}\" y=\"{y:.1}\" width=\"{:.1}\" height=\"{height:.1}\" rx=\"3\"/>",
-            STRIP - 6.0,
-        );
+        let boxed = |class: &str, width: f64| {
+            format!(
+                "<rect class=\"{class}\" x=\"{x:.1}\" y=\"{y:.1}\" width=\"{width:.1}\" height=\"{height:.1}\" rx=\"3\"/>\n"
+            )
+        };
+        let _ = writeln!(svg, "<g><title>group {number}, {word} of</title>");
+        svg.push_str(&boxed(word, self.width - MARGIN - x));
+        svg.push_str(&boxed(&format!("strip-{word}"), STRIP - 6.0));
         text(svg, "word", x + (STRIP - 6.0) / 2.0, y + height / 2.0 + 4.5, word);
-    }
-
-    /// How many groups are around a group.
-    fn depth(&self, group: &Group) -> usize {
-        std::iter::successors(group.parent, |&parent| self.question.groups[parent].parent).count()
+        svg.push_str("</g>\n");
     }
 
     fn condition(&self, number: usize, svg: &mut String) {

@@ -7,7 +7,7 @@ use std::path::{Path, PathBuf};
 use crate::catalogue::Catalogue;
 use crate::failure::Failure;
 use crate::heading::{self, Heading, Holds};
-use crate::replace::Replacement;
+use crate::replace::{Replacement, beside, left_over, patiently, read_if_there, target};
 
 pub struct Folder {
     /// The catalogue's bytes, as the engine takes them.
@@ -27,31 +27,25 @@ fn columns_file(folder: &Path) -> PathBuf {
 impl Folder {
     /// Reads a folder. One without `columns.csv` has columns named by their numbers alone.
     pub fn open(folder: &Path) -> Result<Folder, Failure> {
-        let file = catalogue_file(folder);
-        let bytes = fs::read(&file).map_err(|error| match error.kind() {
-            io::ErrorKind::NotFound => Failure::Desk(format!(
-                "there is no {}: make it with `searchroom import FILE.csv {}`",
-                file.display(),
-                folder.display()
-            )),
-            _ => Failure::file("read", &file, &error),
-        })?;
+        if folder.exists() && !folder.is_dir() {
+            return Err(not_a_folder(folder));
+        }
+        let (bytes, columns) = read_both(folder)?;
         let catalogue = Catalogue::read(&bytes).map_err(|refusal| {
-            let help = format!("\n  in {}: import the CSV file again", file.display());
+            let help = format!("\n  in {}: import the CSV file again", catalogue_file(folder).display());
             Failure::Refused { refusal, help }
         })?;
-        let columns = columns_file(folder);
-        let headings = match fs::read(&columns) {
-            Ok(bytes) => {
-                read_headings(&bytes).filter(|headings| heading::fit(headings, &catalogue)).ok_or_else(|| {
-                    let file = columns.display();
+        let headings = match columns {
+            None => heading::unnamed(&catalogue),
+            Some(columns) => {
+                let headings = read_headings(&columns).filter(|headings| heading::fit(headings, &catalogue));
+                headings.ok_or_else(|| {
+                    let file = columns_file(folder).display().to_string();
                     Failure::Desk(format!(
                         "{file} does not fit catalogue.bin: import the CSV file again, or remove {file}"
                     ))
                 })?
             }
-            Err(error) if error.kind() == io::ErrorKind::NotFound => heading::unnamed(&catalogue),
-            Err(error) => return Err(Failure::file("read", &columns, &error)),
         };
         Ok(Folder { bytes, catalogue, headings })
     }
@@ -61,27 +55,78 @@ impl Folder {
         self.headings.iter().filter(|heading| !heading.is_mark()).map(Heading::name).collect()
     }
 
-    /// Writes a folder, which is made if it is not there. A catalogue that no import wrote stays.
+    /// Writes a folder, which is made if it is not there. Files that no import wrote stay.
     pub fn save(&self, folder: &Path) -> Result<(), Failure> {
+        if folder.exists() && !folder.is_dir() {
+            return Err(not_a_folder(folder));
+        }
         fs::create_dir_all(folder).map_err(|error| Failure::file("make", folder, &error))?;
         let (file, columns) = (catalogue_file(folder), columns_file(folder));
         let (mut new_catalogue, mut new_columns) = (Replacement::begin(&file)?, Replacement::begin(&columns)?);
-        if file.exists() && !columns.exists() {
-            return Err(Failure::Desk(format!(
-                "{} was not made by an import: name another folder, or remove it",
-                file.display()
-            )));
+        let before = new_columns.read()?;
+        match &before {
+            None if file.exists() => return Err(not_imported(&file, "has no columns.csv beside it")),
+            Some(bytes) if !bytes.starts_with(FIRST_LINE.as_bytes()) => {
+                return Err(not_imported(&columns, "stands there"));
+            }
+            _ => {}
         }
         new_catalogue.write(&self.bytes)?;
         new_columns.write(&write_headings(&self.headings))?;
         // Between the two steps stand no names, rather than those of another catalogue.
-        if columns.exists() {
-            fs::remove_file(&columns).map_err(|error| Failure::file("replace", &columns, &error))?;
-        }
-        new_catalogue.finish()?;
+        new_columns.remove()?;
+        new_catalogue.finish().inspect_err(|_| {
+            // The names that were there go on; where they cannot, the failure is told all the same.
+            let _ = before.as_ref().map(|bytes| fs::write(&columns, bytes));
+        })?;
         new_columns.finish()
     }
 }
+
+/// The file that a path names for what is written beside a folder's own two files, and not in their place.
+pub fn output(folder: &Path, path: &Path) -> Result<PathBuf, Failure> {
+    let file = target(path)?;
+    let own = [catalogue_file(folder), columns_file(folder)];
+    if own.iter().any(|own| target(own).is_ok_and(|own| own == file)) {
+        return Err(Failure::Desk(format!("{} is the catalogue's own: name another file", path.display())));
+    }
+    Ok(file)
+}
+
+/// The bytes of `catalogue.bin` and `columns.csv`, of one import.
+fn read_both(folder: &Path) -> Result<(Vec<u8>, Option<Vec<u8>>), Failure> {
+    let (file, columns) = (catalogue_file(folder), columns_file(folder));
+    let both = patiently(|| {
+        let before = read_if_there(&columns)?;
+        let bytes = read_catalogue(folder, &file)?;
+        // An import that came between has taken the names away, or put others there.
+        let is_one = before == read_if_there(&columns)? && (before.is_some() || !beside(&columns).exists());
+        Ok(is_one.then_some((bytes, before)))
+    })?;
+    both.ok_or_else(|| left_over(&beside(&columns)))
+}
+
+fn read_catalogue(folder: &Path, file: &Path) -> Result<Vec<u8>, Failure> {
+    fs::read(file).map_err(|error| match error.kind() {
+        io::ErrorKind::NotFound => {
+            let (file, folder) = (file.display(), folder.display());
+            Failure::Desk(format!("there is no {file}: make it with `searchroom import FILE.csv {folder}`"))
+        }
+        _ => Failure::file("read", file, &error),
+    })
+}
+
+fn not_a_folder(path: &Path) -> Failure {
+    Failure::Desk(format!("{} is not a folder: name one, or one that `import` is to make", path.display()))
+}
+
+fn not_imported(file: &Path, why: &str) -> Failure {
+    let file = file.display();
+    Failure::Desk(format!("{file} {why}: no import made it, or one was cut off; name another folder, or remove {file}"))
+}
+
+/// The first line of `columns.csv`.
+const FIRST_LINE: &str = "header,values\n";
 
 /// The headings that `columns.csv` keeps; none where it is not as [`write_headings`] writes it.
 fn read_headings(bytes: &[u8]) -> Option<Vec<Heading>> {
@@ -103,9 +148,8 @@ fn read_headings(bytes: &[u8]) -> Option<Vec<Heading>> {
 }
 
 fn write_headings(headings: &[Heading]) -> Vec<u8> {
-    let mut writer = csv::Writer::from_writer(Vec::new());
+    let mut writer = csv::Writer::from_writer(FIRST_LINE.as_bytes().to_vec());
     let mut write = |cell: &str, values: &str| writer.write_record([cell, values]).expect("memory takes every record");
-    write("header", "values");
     for Heading { cell, holds } in headings {
         match holds {
             Holds::Numbers => write(cell, "number"),

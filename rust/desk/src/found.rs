@@ -2,9 +2,11 @@
 
 use searchroom::{Counts, Refusal, Tally};
 
+use crate::catalogue::Catalogue;
 use crate::failure::Failure;
 use crate::folder::Folder;
 use crate::question::Question;
+use crate::show::counted;
 
 /// What an accepted run found.
 pub struct Found {
@@ -13,6 +15,24 @@ pub struct Found {
     pub listed: Vec<usize>,
     /// For each condition the entries at which it was looked at, ascending.
     pub looks: Vec<Vec<usize>>,
+}
+
+impl Found {
+    /// "2 of 3 entries found", and how many are withdrawn.
+    pub fn listing(&self, catalogue: &Catalogue) -> String {
+        let withdrawn = match catalogue.withdrawn() {
+            0 => String::new(),
+            count => format!(", {count} withdrawn"),
+        };
+        let entries = counted(catalogue.entries, "entry", "entries");
+        format!("{} of {entries} found{withdrawn}", self.counts.found)
+    }
+
+    /// "6 looks instead of 9": of a look at every condition of every entry still in the house.
+    pub fn looking(&self, catalogue: &Catalogue) -> String {
+        let looks = counted(self.counts.looks as usize, "look", "looks");
+        format!("{looks} instead of {}", catalogue.present() * self.looks.len())
+    }
 }
 
 /// Runs a question for a reader. The tally's bytes, as many as there are, are the engine's to judge.

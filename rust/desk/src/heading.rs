@@ -46,16 +46,14 @@ impl Heading {
 /// The name in a heading's cell, and what it declares the column to hold.
 pub fn name_of(cell: &str) -> (&str, Option<Holds>) {
     let cell = cell.trim();
-    if let Some(name) = cell.strip_suffix(":number") {
-        (name.trim_end(), Some(Holds::Numbers))
-    } else if let Some(name) = cell.strip_suffix(":text") {
-        (name.trim_end(), Some(Holds::Texts))
-    } else {
-        (cell, None)
+    match cell.rsplit_once(':') {
+        Some((name, sort)) if same(sort.trim_start(), "number") => (name.trim_end(), Some(Holds::Numbers)),
+        Some((name, sort)) if same(sort.trim_start(), "text") => (name.trim_end(), Some(Holds::Texts)),
+        _ => (cell, None),
     }
 }
 
-/// Is this the cell of the mark? `withdrawn:text` is a column as any other.
+/// Is this the cell of the mark? `withdrawn:text` and `withdrawn:number` are columns as any other.
 pub fn marks(cell: &str) -> bool {
     matches!(name_of(cell), (name, None) if same(name, WITHDRAWN))
 }

@@ -5,31 +5,35 @@ use std::io::{self, BufWriter, Write};
 use std::path::Path;
 use std::str;
 
-use searchroom::{MAX_COLUMNS, MAX_ENTRIES, MAX_TEXT};
+use searchroom::{MAX_COLUMNS, MAX_ENTRIES, MAX_TEXT, check_catalogue};
 
-use crate::catalogue::{Catalogue, Column, number_of};
+use crate::catalogue::{Catalogue, Column, MAX_NUMBER, number_of};
 use crate::failure::Failure;
 use crate::folder::{Folder, catalogue_file};
 use crate::heading::{Heading, Holds, marks, name_faults, name_of, says_withdrawn};
-use crate::show::{counted, shown};
+use crate::show::{counted, quoted, shown};
 use crate::table::{Cell, Fault, Line, read_lines};
 
 /// Imports a CSV file into a folder. Everything that does not fit is told on standard error, and then nothing is written.
 pub fn import(file: &Path, folder: &Path, separator: u8, out: &mut dyn Write) -> Result<(), Failure> {
-    let bytes = fs::read(file).map_err(|error| Failure::file("read", file, &error))?;
-    let mut import = Import::default();
-    let folder_of = import.folder(&bytes, separator);
-    import.faults.sort_by_key(|fault| (fault.line, fault.cell.as_ref().map(|cell| cell.place)));
+    let bytes = fs::read(file).map_err(|error| match error.kind() {
+        io::ErrorKind::NotFound => Failure::Desk(format!("there is no {}: name the CSV file", file.display())),
+        _ => Failure::file("read", file, &error),
+    })?;
+    let mut noticed = Noticed::default();
+    let imported = noticed.folder(&bytes, separator);
+    noticed.faults.sort_by_key(|fault| (fault.line, fault.cell.as_ref().map(|cell| cell.place)));
     let mut told = BufWriter::new(io::stderr().lock());
-    for fault in &import.faults {
+    for fault in &noticed.faults {
         // Where nobody hears it the status still tells.
         let _ = writeln!(told, "{}, {fault}", file.display());
     }
     drop(told);
-    match (import.faults.len(), folder_of) {
+    match (noticed.faults.len(), imported) {
         (0, Some(imported)) => {
+            check_catalogue(&imported.bytes)?;
             imported.save(folder)?;
-            import.report(&imported, folder, out)
+            noticed.report(&imported, folder, out)
         }
         (count, _) => {
             let faults = counted(count, "fault", "faults");
@@ -40,9 +44,9 @@ pub fn import(file: &Path, folder: &Path, separator: u8, out: &mut dyn Write) ->
 
 /// What an import has noticed.
 #[derive(Default)]
-struct Import {
+struct Noticed {
     faults: Vec<Fault>,
-    /// Of the catalogue's columns by number: what makes it one of texts though most of its values are numbers.
+    /// Of the catalogue's columns by number: what may surprise in it.
     notes: Vec<Option<String>>,
 }
 
@@ -53,7 +57,7 @@ struct Cells<'a> {
     values: Vec<(usize, &'a str)>,
 }
 
-impl Import {
+impl Noticed {
     /// The folder that the file's bytes make; none where there is no first line. It is sound if there are no faults.
     fn folder(&mut self, bytes: &[u8], separator: u8) -> Option<Folder> {
         let (lines, faults) = read_lines(bytes, separator);
@@ -62,9 +66,13 @@ impl Import {
             self.fault(1, None, "the file has no line; the first one names the columns".to_owned());
             return None;
         };
-        let cells = self.first_line(first);
+        let cells = self.first_line(first, rest, separator);
         let whole: Vec<&Line> = rest.iter().filter(|line| self.is_whole(line, cells.len())).collect();
-        self.limits(first.number, &cells, rest);
+        if let Some(line) = rest.get(MAX_ENTRIES) {
+            let entries = rest.len();
+            let what = format!("{entries} entries; at most {MAX_ENTRIES} fit, so split the file before this line");
+            self.fault(line.number, None, what);
+        }
         let (mut headings, mut columns, mut mark) = (Vec::new(), Vec::new(), None);
         for (place, cell) in cells.into_iter().enumerate() {
             let column = self.cells(place, name_of(&cell).0, &whole);
@@ -94,22 +102,34 @@ impl Import {
         self.fault(line, Some(cell), what);
     }
 
+    /// A fault of a cell of the first line.
+    fn unnamed(&mut self, first: &Line, place: usize, what: String) {
+        let value = String::from_utf8_lossy(&first.cells[place]).into_owned();
+        self.fault(first.number, Some(Cell { place, name: String::new(), value }), what);
+    }
+
     /// The cells of the first line, which name the columns.
-    fn first_line(&mut self, first: &Line) -> Vec<String> {
+    fn first_line(&mut self, first: &Line, rest: &[Line], separator: u8) -> Vec<String> {
         let cells: Vec<String> = first.cells.iter().map(|cell| String::from_utf8_lossy(cell).into_owned()).collect();
-        let in_cell = |place: usize| Some(Cell { place, name: String::new(), value: cells[place].clone() });
         for (place, cell) in first.cells.iter().enumerate() {
             if str::from_utf8(cell).is_err() {
-                self.fault(first.number, in_cell(place), NOT_UTF_8.to_owned());
+                self.unnamed(first, place, NOT_UTF_8.to_owned());
             }
         }
         for (place, what) in name_faults(&cells) {
-            self.fault(first.number, in_cell(place), what);
+            self.unnamed(first, place, what);
         }
-        if let ([cell], Some(sign)) = (cells.as_slice(), cells[0].chars().find(|sign| ",;\t|".contains(*sign))) {
-            let sign = if sign == '\t' { "tab".to_owned() } else { format!("'{sign}'") };
-            let what = format!("one name only; if the values of {cell:?} are parted otherwise, say --separator {sign}");
-            self.fault(first.number, in_cell(0), what);
+        if let Some((_, option)) = SEPARATORS.into_iter().find(|(sign, _)| is_parted_by(*sign, separator, first, rest))
+        {
+            self.unnamed(first, 0, format!("one name only; if {option} parts the values, say --separator {option}"));
+        }
+        let columns: Vec<usize> = (0..cells.len()).filter(|&place| !marks(&cells[place])).collect();
+        for &place in columns.iter().skip(MAX_COLUMNS) {
+            let what = format!("a column too many; a catalogue has at most {MAX_COLUMNS} beside the mark");
+            self.unnamed(first, place, what);
+        }
+        if columns.is_empty() {
+            self.unnamed(first, 0, "no column beside the mark; a catalogue has at least one".to_owned());
         }
         cells
     }
@@ -119,27 +139,13 @@ impl Import {
         let count = line.cells.len();
         if count != columns {
             let values = counted(count, "value", "values");
-            self.fault(line.number, None, format!("{values}; the first line has {columns}"));
+            let advice = match count > columns {
+                true => "a value that holds the separator stands in quotes",
+                false => "an empty value keeps its separator",
+            };
+            self.fault(line.number, None, format!("{values}; the first line has {columns}; {advice}"));
         }
         count == columns
-    }
-
-    /// Holds the numbers of columns and of entries to the engine's limits.
-    fn limits(&mut self, first: usize, cells: &[String], lines: &[Line]) {
-        let columns: Vec<usize> = (0..cells.len()).filter(|&place| !marks(&cells[place])).collect();
-        let in_cell = |place: usize| Some(Cell { place, name: String::new(), value: cells[place].clone() });
-        for &place in columns.iter().skip(MAX_COLUMNS) {
-            let what = format!("a column too many; a catalogue has at most {MAX_COLUMNS} beside the mark");
-            self.fault(first, in_cell(place), what);
-        }
-        if columns.is_empty() {
-            self.fault(first, in_cell(0), "no column beside the mark; a catalogue has at least one".to_owned());
-        }
-        if let Some(line) = lines.get(MAX_ENTRIES) {
-            let what =
-                format!("{} entries; a catalogue has at most 2,048, so split the file before this line", lines.len());
-            self.fault(line.number, None, what);
-        }
     }
 
     /// The values of a column.
@@ -161,17 +167,16 @@ impl Import {
         let is_number = |value: &str| value.is_empty() || number_of(value).is_some();
         let other = column.values.iter().find(|(_, value)| !is_number(value));
         let holds = declared.unwrap_or(if other.is_none() { Holds::Numbers } else { Holds::Texts });
-        let note = other.filter(|_| guessed && mostly_numbers(column));
-        self.notes.push(note.map(|(line, value)| format!("line {line} has \"{}\", which is no number", shown(value))));
+        self.notes.push(note(column, other.filter(|_| guessed)));
         let told = match holds {
-            Holds::Numbers => Column::Numbers(self.each(column, Import::number)),
-            _ => Column::Texts(self.each(column, Import::text)),
+            Holds::Numbers => Column::Numbers(self.each(column, Noticed::number)),
+            _ => Column::Texts(self.each(column, Noticed::text)),
         };
         (told, holds)
     }
 
     /// What each value of a column says; nothing if it is empty.
-    fn each<T>(&mut self, column: &Cells, says: fn(&mut Import, &Cells, usize, &str) -> Option<T>) -> Vec<Option<T>> {
+    fn each<T>(&mut self, column: &Cells, says: fn(&mut Noticed, &Cells, usize, &str) -> Option<T>) -> Vec<Option<T>> {
         let value = |&(line, value): &(usize, &str)| match value {
             "" => None,
             _ => says(self, column, line, value),
@@ -182,8 +187,8 @@ impl Import {
     fn number(&mut self, column: &Cells, line: usize, value: &str) -> Option<u32> {
         let number = number_of(value);
         if number.is_none() {
-            let what = "not a number; write digits alone, no leading zero, at most 4,294,967,294";
-            self.unfit(column, line, value, what.to_owned());
+            let what = format!("not a number; write digits alone, no leading zero, at most {MAX_NUMBER}");
+            self.unfit(column, line, value, what);
         }
         number
     }
@@ -215,7 +220,12 @@ impl Import {
             };
             let (first, word) = *words[usize::from(withdrawn)].get_or_insert((line, value));
             if word != value {
-                self.unfit(column, line, value, format!("line {first} says \"{word}\" for the same; use one word"));
+                self.unfit(
+                    column,
+                    line,
+                    value,
+                    format!("line {first} says {} for the same; use one word", quoted(word)),
+                );
             }
             mark.push(withdrawn);
         }
@@ -248,9 +258,23 @@ impl Import {
 
 const NOT_UTF_8: &str = "not UTF-8; save the file as \"CSV UTF-8\"";
 
-/// Are at least half of the values that are not empty numbers?
-fn mostly_numbers(column: &Cells) -> bool {
-    let filled = column.values.iter().filter(|(_, value)| !value.is_empty());
-    let numbers = filled.clone().filter(|(_, value)| number_of(value).is_some());
-    2 * numbers.count() >= filled.count()
+/// Signs that often part values, and how they are named on the command line.
+const SEPARATORS: [(u8, &str); 4] = [(b',', "','"), (b';', "';'"), (b'\t', "tab"), (b'|', "'|'")];
+
+/// Has every line one cell, with this sign in it, where another is said to part the values?
+fn is_parted_by(sign: u8, separator: u8, first: &Line, rest: &[Line]) -> bool {
+    let has_sign = |line: &Line| line.cells.len() == 1 && line.cells[0].contains(&sign);
+    sign != separator && has_sign(first) && rest.iter().all(has_sign)
+}
+
+/// What may surprise in a column: a value that makes it one of texts though half of them are numbers, or one with spaces
+/// around it.
+fn note(column: &Cells, no_number: Option<&(usize, &str)>) -> Option<String> {
+    let filled: Vec<&(usize, &str)> = column.values.iter().filter(|(_, value)| !value.is_empty()).collect();
+    let numbers = filled.iter().filter(|(_, value)| number_of(value).is_some()).count();
+    if let Some((line, value)) = no_number.filter(|_| 2 * numbers >= filled.len()) {
+        return Some(format!("line {line} has {}, which is no number", quoted(value)));
+    }
+    let (line, value) = filled.into_iter().find(|(_, value)| value.trim() != *value)?;
+    Some(format!("line {line} has {}, with a space before or after", quoted(value)))
 }

@@ -1,11 +1,11 @@
 //! The notation of order 4 as people type it: with columns' names, spaces and letters in UTF-8. It is turned into the strict
 //! spelling, which the engine reads.
 
-use std::fmt::Write;
 use std::ops::Range;
 
 use crate::catalogue::from_latin_1;
-use crate::heading::{numbered, same, without_zeros};
+use crate::heading::{WITHDRAWN, numbered, same, without_zeros};
+use crate::show::quoted;
 
 /// A question from front to back. It is kept flat because a text may nest thousands of groups.
 #[derive(Default)]
@@ -29,6 +29,10 @@ pub enum Kind {
 }
 
 impl Kind {
+    fn named(word: &str) -> Option<Kind> {
+        [Kind::All, Kind::Any].into_iter().find(|kind| kind.word() == word)
+    }
+
     pub fn word(self) -> &'static str {
         match self {
             Kind::All => "all",
@@ -69,15 +73,24 @@ const TEXT_WORDS: [&str; 3] = ["is", "starts", "has"];
 impl Written {
     /// The strict spelling.
     pub fn strict(&self) -> String {
+        self.spelled(",", Condition::strict)
+    }
+
+    /// The question as people read it, and may type it again.
+    pub fn shown(&self, names: &[&str]) -> String {
+        self.spelled(", ", |condition| condition.shown(names))
+    }
+
+    fn spelled(&self, comma: &str, condition: impl Fn(&Condition) -> String) -> String {
         let mut text = String::new();
         let mut after_member = false;
         for part in &self.parts {
             if after_member && !matches!(part, Part::Closes) {
-                text.push(',');
+                text.push_str(comma);
             }
             match part {
                 Part::Opens(kind, _) => text.extend([kind.word(), "("]),
-                Part::Condition(number) => text.push_str(&self.conditions[*number].strict()),
+                Part::Condition(number) => text.push_str(&condition(&self.conditions[*number])),
                 Part::Closes => text.push(')'),
             }
             after_member = !matches!(part, Part::Opens(..));
@@ -89,23 +102,23 @@ impl Written {
 impl Condition {
     /// The strict spelling of the condition alone.
     pub fn strict(&self) -> String {
-        let text = |bytes: &[u8]| bytes.iter().map(|&byte| strict_letter(byte)).collect();
-        self.spelled(&format!("c{}", self.column), text)
+        let letters = |bytes: &[u8]| bytes.iter().map(|&byte| strict_letter(byte)).collect::<String>();
+        self.spelled(&format!("c{}", self.column), |bytes| format!("\"{}\"", letters(bytes)))
     }
 
     /// The condition as people read it, and may type it again.
     pub fn shown(&self, names: &[&str]) -> String {
         let name = self.column.parse().ok().and_then(|number: usize| names.get(number));
         let column = name.map_or_else(|| format!("c{}", self.column), |name| shown_name(name));
-        self.spelled(&column, |bytes| escaped(&from_latin_1(bytes)))
+        self.spelled(&column, |bytes| quoted(&from_latin_1(bytes)))
     }
 
-    fn spelled(&self, column: &str, quoted: impl Fn(&[u8]) -> String) -> String {
+    fn spelled(&self, column: &str, in_quotes: impl Fn(&[u8]) -> String) -> String {
         let not = if self.opposite { "not " } else { "" };
         match &self.test {
             Test::In { low, high } => format!("{not}{column} in {low}..{high}"),
             Test::Blank => format!("{not}{column} blank"),
-            Test::Text { word, text } => format!("{not}{column} {word} \"{}\"", quoted(text)),
+            Test::Text { word, text } => format!("{not}{column} {word} {}", in_quotes(text)),
         }
     }
 }
@@ -118,24 +131,10 @@ fn strict_letter(byte: u8) -> String {
     }
 }
 
-/// A name as it is typed: in quotes if it is not one word, or a word of the notation.
-fn shown_name(name: &str) -> String {
-    let is_word = name.chars().all(is_of_a_word) && !WORDS.contains(&name);
-    if is_word { name.to_owned() } else { format!("\"{}\"", escaped(name)) }
-}
-
-/// What stands between quotes, as people type it.
-fn escaped(text: &str) -> String {
-    text.chars().fold(String::new(), |mut escaped, letter| {
-        match letter {
-            '"' | '\\' => escaped.extend(['\\', letter]),
-            _ if letter.is_control() => {
-                let _ = write!(escaped, "\\{:02X}", u32::from(letter));
-            }
-            _ => escaped.push(letter),
-        }
-        escaped
-    })
+/// A name as it may be typed: in quotes if it is not one word, or a word of the notation.
+pub fn shown_name(name: &str) -> String {
+    let is_word = name.chars().all(is_of_a_word) && !WORDS.contains(&name.to_lowercase().as_str());
+    if is_word { name.to_owned() } else { quoted(name) }
 }
 
 /// Where a text cannot be read, and what was expected there.
@@ -144,6 +143,8 @@ pub struct Misspelled {
     pub at: usize,
     pub expected: String,
 }
+
+const NOTHING_MORE: &str = "nothing more; two conditions stand in a group, as in all(.., ..) or any(.., ..)";
 
 /// Reads a question. `names` are those of the catalogue's columns, by their numbers.
 pub fn read(text: &str, names: &[&str]) -> Result<Written, Misspelled> {
@@ -163,7 +164,7 @@ pub fn read(text: &str, names: &[&str]) -> Result<Written, Misspelled> {
         loop {
             reader.spaces();
             if open == 0 {
-                return if reader.rest().is_empty() { Ok(written) } else { Err(reader.expected("nothing more")) };
+                return if reader.rest().is_empty() { Ok(written) } else { Err(reader.expected(NOTHING_MORE)) };
             }
             if reader.take(",") {
                 break;
@@ -215,7 +216,7 @@ impl<'a> Reader<'a> {
 
     /// Takes the beginning of a group, if one stands here: its kind and its place.
     fn group(&mut self) -> Option<(Kind, usize)> {
-        let kind = [Kind::All, Kind::Any].into_iter().find(|kind| kind.word() == self.word())?;
+        let kind = Kind::named(self.word())?;
         let inside = self.rest()[kind.word().len()..].trim_start().strip_prefix('(')?;
         let place = self.at;
         self.at = self.text.len() - inside.len();
@@ -250,24 +251,35 @@ impl<'a> Reader<'a> {
         if let Some(column) = number.or_else(named) {
             return Ok(column);
         }
-        if ["all", "any"].contains(&name.as_str()) && !opposite {
+        if !opposite && Kind::named(&name).is_some() {
             self.spaces();
             return Err(self.expected(format!("`(` after `{name}`")));
         }
+        Err(Misspelled { at: start, expected: self.expected_column(&name, opposite) })
+    }
+
+    /// What to expect where no column is named.
+    fn expected_column(&self, name: &str, opposite: bool) -> String {
         let columns = self.names.iter().map(|name| shown_name(name)).collect::<Vec<_>>().join(", ");
-        let expected = match (name.is_empty(), opposite) {
-            (true, false) => format!("a condition or a group; a condition begins with a column: {columns}"),
-            (false, false) => format!("a column: {columns}"),
-            (_, true) => format!("a column, for `not` stands before a condition and not before a group: {columns}"),
-        };
-        Err(Misspelled { at: start, expected })
+        if let Some(word) = WORDS.into_iter().find(|word| *word != name && word.eq_ignore_ascii_case(name)) {
+            format!("`{word}` in small letters, or a column: {columns}")
+        } else if same(name, WITHDRAWN) {
+            format!("a column: {columns}; withdrawn entries are never listed, so nobody need ask for the mark")
+        } else if opposite {
+            format!("a column, for `not` stands before a condition and not before a group: {columns}")
+        } else if name.is_empty() {
+            format!("a condition or a group; a condition begins with a column: {columns}")
+        } else {
+            format!("a column: {columns}")
+        }
     }
 
     fn test(&mut self) -> Result<Test, Misspelled> {
-        let word = self.word();
+        let rest = self.rest();
+        let word = &rest[..rest.find(|letter: char| !letter.is_ascii_alphabetic()).unwrap_or(rest.len())];
         let text_word = TEXT_WORDS.into_iter().find(|known| *known == word);
         if text_word.is_none() && word != "in" && word != "blank" {
-            return Err(self.expected("`in`, `is`, `starts`, `has` or `blank`"));
+            return Err(self.expected("`in`, `is`, `starts`, `has` or `blank`, in small letters"));
         }
         self.at += word.len();
         match text_word {

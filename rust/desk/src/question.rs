@@ -22,6 +22,8 @@ pub struct Group {
     pub kind: Kind,
     /// The number of the group around it.
     pub parent: Option<usize>,
+    /// How many groups are around it.
+    pub depth: usize,
     /// The numbers of the conditions in it.
     pub conditions: Range<usize>,
 }
@@ -66,9 +68,9 @@ fn groups(written: &Written) -> Vec<Group> {
     for part in &written.parts {
         match part {
             Part::Opens(kind, _) => {
-                let group = Group { kind: *kind, parent: open.last().copied(), conditions: conditions..conditions };
-                open.push(groups.len());
-                groups.push(group);
+                let (parent, depth) = (open.last().copied(), open.len());
+                groups.push(Group { kind: *kind, parent, depth, conditions: conditions..conditions });
+                open.push(groups.len() - 1);
             }
             Part::Condition(_) => conditions += 1,
             Part::Closes => {

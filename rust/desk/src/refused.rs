@@ -3,9 +3,9 @@
 
 use searchroom::{MAX_CONDITIONS, MAX_DEPTH, MAX_TEXT, MAX_TYPED, Refusal, typed_question};
 
-use crate::catalogue::Column;
+use crate::catalogue::{Column, MAX_NUMBER};
 use crate::folder::Folder;
-use crate::notation::{Condition, Misspelled, Part, Test, Written};
+use crate::notation::{Condition, Misspelled, Part, Test, Written, shown_name};
 
 /// A place in the text, and what to do there.
 type Place = (usize, String);
@@ -21,7 +21,7 @@ pub fn help_with_refused(folder: &Folder, text: &str, written: &Written, refusal
         Refusal::TooDeep => too_deep(written),
         Refusal::TooManyConditions => one_too_many(written),
         Refusal::RepeatedCondition => repeated(folder, written),
-        _ => refused_alone(folder, written),
+        _ => refused_alone(folder, written, refusal),
     };
     match place {
         Some((at, what)) => caret(text, at, &what),
@@ -63,9 +63,12 @@ fn repeated(folder: &Folder, written: &Written) -> Option<Place> {
     })
 }
 
-/// The first condition that the engine refuses by itself.
-fn refused_alone(folder: &Folder, written: &Written) -> Option<Place> {
-    let condition = written.conditions.iter().find(|condition| alone(folder, condition).is_err())?;
+/// The first condition that the engine refuses by itself, with the same number if there is one.
+fn refused_alone(folder: &Folder, written: &Written, refusal: Refusal) -> Option<Place> {
+    let refusals: Vec<_> = written.conditions.iter().map(|condition| alone(folder, condition).err()).collect();
+    let same = refusals.iter().position(|alone| *alone == Some(refusal));
+    let number = same.or_else(|| refusals.iter().position(Option::is_some))?;
+    let condition = &written.conditions[number];
     Some((condition.place.start, advice(folder, condition)))
 }
 
@@ -76,22 +79,18 @@ fn alone(folder: &Folder, condition: &Condition) -> Result<Vec<u8>, Refusal> {
 
 /// What to do about a condition that the engine refuses alone.
 fn advice(folder: &Folder, condition: &Condition) -> String {
-    let names = folder.names();
+    let names: Vec<String> = folder.names().into_iter().map(shown_name).collect();
     let number = condition.column.parse().unwrap_or(usize::MAX);
-    let Some(column) = folder.catalogue.columns.get(number) else {
+    let (Some(column), Some(name)) = (folder.catalogue.columns.get(number), names.get(number)) else {
         let last = names.len() - 1;
         return format!("there is no c{}; the columns are c0 to c{last}: {}", condition.column, names.join(", "));
     };
-    let name = names[number];
     match (&condition.test, column) {
         (Test::In { .. }, Column::Texts(_)) => format!("{name} holds texts; ask `is`, `starts`, `has` or `blank`"),
-        (Test::In { .. }, Column::Numbers(_)) => {
-            "the first number is at most the last, and that at most 4,294,967,294".to_owned()
-        }
         (Test::Text { .. }, Column::Numbers(_)) => format!("{name} holds numbers; ask `in` or `blank`"),
-        (Test::Text { text, .. }, Column::Texts(_)) if text.is_empty() => "an empty text; ask `blank`".to_owned(),
-        (Test::Text { text, .. }, Column::Texts(_)) => format!("{} letters; a text has at most {MAX_TEXT}", text.len()),
-        (Test::Blank, _) => "the engine does not take this condition".to_owned(),
+        (Test::Text { text, .. }, _) if text.is_empty() => "an empty text; ask `blank`".to_owned(),
+        (Test::Text { text, .. }, _) => format!("{} letters; a text has at most {MAX_TEXT}", text.len()),
+        _ => format!("the first number is at most the last, and that at most {MAX_NUMBER}"),
     }
 }
 

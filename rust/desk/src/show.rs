@@ -43,11 +43,26 @@ pub fn counted(number: usize, one: &str, more: &str) -> String {
     format!("{number} {}", if number == 1 { one } else { more })
 }
 
-/// A value without control characters: these as a backslash and their number, as the notation has them.
+/// A value as it may go to a terminal: of what nobody sees, control characters above all, a backslash and the number.
 pub fn shown(text: &str) -> String {
+    text.chars().map(|letter| if is_unseen(letter) { numbered(letter) } else { letter.to_string() }).collect()
+}
+
+/// A value as it may stand between quotes: in the same way, and a backslash before quotes and backslashes.
+pub fn quoted(text: &str) -> String {
     let letter = |letter: char| match letter {
-        _ if letter.is_control() => format!("\\{:02X}", u32::from(letter)),
+        '"' | '\\' => format!("\\{letter}"),
+        _ if is_unseen(letter) => numbered(letter),
         _ => letter.to_string(),
     };
-    text.chars().map(letter).collect()
+    format!("\"{}\"", text.chars().map(letter).collect::<String>())
+}
+
+/// Control characters, the space that does not break and the hyphen that does not show. All have two digits.
+fn is_unseen(letter: char) -> bool {
+    letter.is_control() || matches!(letter, '\u{A0}' | '\u{AD}')
+}
+
+fn numbered(letter: char) -> String {
+    format!("\\{:02X}", u32::from(letter))
 }

@@ -1,6 +1,9 @@
 //! A CSV file as lines of cells, and what does not fit in it.
 
 use std::fmt;
+use std::iter;
+
+use crate::show::{quoted, shown};
 
 /// A line of a CSV file: its number in the file, counted from 1 as editors do, and its cells.
 pub struct Line {
@@ -33,11 +36,11 @@ impl fmt::Display for Fault {
         if let Some(Cell { place, name, value }) = &self.cell {
             write!(f, ", column {}", place + 1)?;
             if !name.is_empty() {
-                write!(f, " ({})", name.escape_debug())?;
+                write!(f, " ({})", shown(name))?;
             }
-            let shown: String = value.chars().take(SHOWN).collect();
-            let more = if shown.len() < value.len() { "…" } else { "" };
-            write!(f, ", \"{}{more}\"", shown.escape_debug())?;
+            let cut: String = value.chars().take(SHOWN).collect();
+            let more = if cut.len() < value.len() { "…" } else { "" };
+            write!(f, ", {}", quoted(&format!("{cut}{more}")))?;
         }
         write!(f, ": {}", self.what)
     }
@@ -55,36 +58,41 @@ pub fn read_lines(bytes: &[u8], separator: u8) -> (Vec<Line>, Vec<Fault>) {
     loop {
         let more = reader.read_byte_record(&mut record).expect("memory can always be read");
         while place.at_line_end() {
-            let what = "an empty line; remove it, or write \"\" if it is a blank value".to_owned();
-            faults.push(Fault { line: place.line, cell: None, what });
+            faults.push(Fault { line: place.line, cell: None, what: EMPTY_LINE.to_owned() });
             place.pass_line_end();
         }
         if !more {
             return (lines, faults);
         }
-        let (start, end) = (place.at, usize::try_from(reader.position().byte()).expect("a place in memory"));
-        if end == bytes.len() && ends_in_quotes(&bytes[start..], separator) {
-            let what = "from here on a quote is open and never closed; close it".to_owned();
-            faults.push(Fault { line: place.line, cell: None, what });
+        let end = usize::try_from(reader.position().byte()).expect("a place in memory");
+        if !is_told_as_it_stands(&bytes[place.at..end], &record, separator) {
+            faults.push(Fault { line: place.line, cell: None, what: BAD_QUOTES.to_owned() });
         }
         lines.push(Line { number: place.line, cells: record.iter().map(<[u8]>::to_vec).collect() });
         place.advance(end);
     }
 }
 
-/// Does the last record end inside quotes? The library takes the end of the file for their end.
-fn ends_in_quotes(record: &[u8], separator: u8) -> bool {
-    let (mut inside, mut at_start) = (false, true);
-    for &byte in record {
-        // A quote inside quotes is doubled: it closes and opens them again.
-        if byte == b'"' && (inside || at_start) {
-            inside = !inside;
-            at_start = !inside;
-        } else if !inside {
-            at_start = byte == separator;
-        }
+const EMPTY_LINE: &str = "an empty line; remove it (the blank value of a file of one column is \"\")";
+
+const BAD_QUOTES: &str = "a quote is not closed, or letters follow a closing quote; a value in quotes begins and ends with one, \
+                          and a quote inside is doubled";
+
+/// Do the cells stand in the line as they are, or in quotes? The library lets other quotes pass, and would change the value or
+/// take further lines into it.
+fn is_told_as_it_stands(line: &[u8], cells: &csv::ByteRecord, separator: u8) -> bool {
+    let mut rest = line;
+    for (place, cell) in cells.iter().enumerate() {
+        let parted: &[u8] = if place == 0 { b"" } else { &[separator] };
+        let Some(after) = rest.strip_prefix(parted) else { return false };
+        let times = |byte| if byte == b'"' { 2 } else { 1 };
+        let doubled: Vec<u8> = cell.iter().flat_map(|&byte| iter::repeat_n(byte, times(byte))).collect();
+        let quoted = [b"\"", doubled.as_slice(), b"\""].concat();
+        let told = if after.starts_with(b"\"") { quoted.as_slice() } else { cell };
+        let Some(after) = after.strip_prefix(told) else { return false };
+        rest = after;
     }
-    inside
+    matches!(rest, b"" | b"\n" | b"\r" | b"\r\n")
 }
 
 const BYTE_ORDER_MARK: &[u8] = b"\xEF\xBB\xBF";

@@ -13,15 +13,15 @@ use clap::{Args, Parser, Subcommand};
 #[command(
     name = "searchroom",
     version,
-    after_help = "Exit status: 0 done, whether entries were found or not; 1 refused, with the reason on standard error; 2 wrong usage.",
-    after_long_help = "\
+    after_help = "\
 Example:
   searchroom import examples/deeds/deeds.csv deeds
   searchroom ask deeds 'all(year in 1700..1799, parish starts \"ash\")'
   searchroom explain deeds 'all(year in 1700..1799, parish starts \"ash\")' 17
   searchroom draw deeds 'all(year in 1700..1799, parish starts \"ash\")' -o question.svg
 
-Exit status: 0 done, whether entries were found or not; 1 refused, with the reason on standard error; 2 wrong usage."
+Exit status: 0 done, whether entries were found or not; 1 refused, with the reason on standard error; \
+2 wrong usage."
 )]
 pub struct Desk {
     #[command(subcommand)]
@@ -108,7 +108,7 @@ pub struct Ask {
     #[command(flatten)]
     pub asked: Asked,
     /// The reader for whom the run is made, 0 to 15
-    #[arg(long, value_name = "NUMBER", default_value_t = 0)]
+    #[arg(long, value_name = "NUMBER", default_value_t = 0, value_parser = reader, allow_hyphen_values = true)]
     pub reader: u64,
     /// Add the looks to this reader's number in FILE, which is made if it is not there
     #[arg(long, value_name = "FILE")]
@@ -149,7 +149,7 @@ Example:
 pub struct Draw {
     #[command(flatten)]
     pub asked: Asked,
-    /// The file for the picture
+    /// The file for the picture, or - for standard output
     #[arg(short, long, value_name = "FILE")]
     pub output: PathBuf,
 }
@@ -162,12 +162,20 @@ pub struct Asked {
     /// The question; `searchroom ask --help` has the notation
     pub question: String,
     /// The running order: the conditions' numbers, as in 2,0,1. Without it they run as they stand
-    #[arg(long, value_name = "NUMBERS", value_delimiter = ',', value_parser = condition_number)]
+    #[arg(long, value_name = "NUMBERS", value_delimiter = ',', value_parser = condition, allow_hyphen_values = true)]
     pub order: Option<Vec<u8>>,
 }
 
-fn condition_number(text: &str) -> Result<u8, String> {
-    text.trim().parse().map_err(|_| "conditions have numbers from 0 on, parted by commas, as in 2,0,1".to_owned())
+/// The number of a condition, if it fits a byte of the order; the engine judges it.
+fn condition(text: &str) -> Result<u8, String> {
+    text.trim()
+        .parse()
+        .map_err(|_| "conditions are numbers from 0 to at most 63, parted by commas, as in 2,0,1".to_owned())
+}
+
+/// The number of a reader; the engine judges it.
+fn reader(text: &str) -> Result<u64, String> {
+    text.trim().parse().map_err(|_| "readers are numbers, 0 to 15".to_owned())
 }
 
 /// The byte of a separator.

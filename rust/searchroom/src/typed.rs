@@ -1,3 +1,5 @@
+use crate::catalogue::MAX_TEXT;
+use crate::question::{MAX_CONDITIONS, MAX_DEPTH};
 use crate::{Refusal, Word, sys};
 
 /// The most bytes that a typed question may have.
@@ -5,7 +7,10 @@ pub const MAX_TYPED: usize = 16_384;
 
 /// Bytes that are enough for any question that was typed: 64 conditions of 28 bytes, each in seven groups of its own inside
 /// the outermost.
-pub const TYPED_BYTES: usize = 3 + 64 * (7 * 3 + 28);
+pub const TYPED_BYTES: usize = HEAD + MAX_CONDITIONS * ((MAX_DEPTH - 1) * HEAD + HEAD + 2 + MAX_TEXT);
+
+/// The bytes of a field before its payload.
+const HEAD: usize = 3;
 
 /// Reads a typed question into the question bytes that the other calls take. Gives the number of bytes written.
 ///
