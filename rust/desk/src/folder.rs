@@ -99,8 +99,10 @@ fn read_both(folder: &Path) -> Result<(Vec<u8>, Option<Vec<u8>>), Failure> {
     let both = patiently(|| {
         let before = read_if_there(&columns)?;
         let bytes = read_catalogue(folder, &file)?;
-        // An import that came between has taken the names away, or put others there.
-        let is_one = before == read_if_there(&columns)? && (before.is_some() || !beside(&columns).exists());
+        // An import that came between has taken the names away, or put others there. It is asked for before the names are
+        // read again: once it is done they are there.
+        let is_going_on = before.is_none() && beside(&columns).exists();
+        let is_one = !is_going_on && before == read_if_there(&columns)?;
         Ok(is_one.then_some((bytes, before)))
     })?;
     both.ok_or_else(|| left_over(&beside(&columns)))

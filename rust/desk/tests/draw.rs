@@ -135,6 +135,16 @@ fn file_is_replaced() {
     assert!(said.starts_with("searchroom: ") && said.contains("folder"), "{said}");
 }
 
+/// With `-` the picture goes to standard output, and nothing else does.
+#[test]
+fn picture_on_standard_output() {
+    let room = parish();
+    room.run(&["draw", "parish", QUESTION, "-o", "a.svg"]).done();
+    let drawn = fs::read_to_string(room.path("a.svg")).unwrap();
+    assert_eq!(room.run(&["draw", "parish", QUESTION, "-o", "-"]).done(), drawn);
+    assert!(!room.path("-").exists());
+}
+
 #[test]
 fn random_pictures() {
     for seed in 0..40 {

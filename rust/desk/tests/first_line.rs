@@ -187,3 +187,24 @@ fn separator_is_forgotten() {
         assert!(lines.len() == 1 && lines[0].contains(&format!("--separator {word}")), "{lines:?}");
     }
 }
+
+/// One column whose name and values hold a comma, in quotes, is just that.
+#[test]
+fn one_column_with_a_sign_in_its_name() {
+    for (name, value) in [("surname, forename", "Smith, J"), ("either|or", "left")] {
+        let (_, _, catalogue) = import(format!("\"{name}\"\n\"{value}\"\n"));
+        assert_eq!(catalogue.columns, [texts(&[value])], "{name}");
+    }
+}
+
+/// Capitals make no difference to what a name declares, nor do spaces around it.
+#[test]
+fn sorts_in_capitals() {
+    let (room, _, catalogue) = import("Shelf:Text,box : NUMBER ,Withdrawn:TEXT\n12,,x\n");
+    assert_eq!(
+        catalogue,
+        Catalogue::unmarked(1, vec![texts(&["12"]), Column::Numbers(vec![BLANK_NUMBER]), texts(&["x"])])
+    );
+    let said = room.run(&["ask", "deeds", "all(shelf is \"12\", Box blank, withdrawn is \"X\")"]).done();
+    assert!(said.starts_with("1 of 1 entry found\n"), "{said}");
+}

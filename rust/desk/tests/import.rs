@@ -445,3 +445,24 @@ fn quote_that_is_not_closed() {
         assert!(lines.len() == 1 && lines[0].starts_with("deeds.csv, line 3"), "{table:?}: {lines:?}");
     }
 }
+
+/// Letters behind a closing quote would be taken into the value by another reader: they are a fault, with the line.
+#[test]
+fn letters_behind_a_closing_quote() {
+    for line in ["\"Ash\"ton", "\"a\" b", "\"\"q", "\"a\"b\"c\""] {
+        expect_faults(format!("parish,b\nx,1\n{line},2\n"), &["deeds.csv, line 3"]);
+    }
+    assert_eq!(columns("parish\nAsh\"ton\nsay \"so\"\n").0, [texts(&["Ash\"ton", "say \"so\""])]);
+}
+
+/// A space around a value is told, because nobody sees it and a search does.
+#[test]
+fn spaces_around_a_value_are_told() {
+    let (_, said, _) = import("year, parish\n1701,Ash\n1702, Ashby\n");
+    assert!(
+        said.ends_with("c1  parish  texts, 0 blank (line 3 has \" Ashby\", with a space before or after)\n"),
+        "{said}"
+    );
+    let (_, said, _) = import("year,parish\n1701,Ash by\n");
+    assert!(!said.contains('('), "{said}");
+}

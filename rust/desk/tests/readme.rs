@@ -53,7 +53,8 @@ fn shell(room: &Room, commands: &str) -> Said {
 #[test]
 fn readme_gets_from_a_csv_file_to_a_list_a_register_and_a_picture() {
     let blocks = blocks(&page("README.md"));
-    let [commands, printed, explain, explained, ..] = blocks.as_slice() else { panic!("{blocks:?}") };
+    let [make, commands, printed, explain, explained, ..] = blocks.as_slice() else { panic!("{blocks:?}") };
+    assert_eq!(make, "make desk && PATH=$PWD/target/bin:$PATH\n");
     let room = repository();
     let said = shell(&room, commands).done();
     let (imported, rest) = said.split_at(said.len() - printed.len());
@@ -71,7 +72,7 @@ fn readme_gets_from_a_csv_file_to_a_list_a_register_and_a_picture() {
 fn readme_shows_the_picture_that_is_drawn() {
     let blocks = blocks(&page("README.md"));
     let room = repository();
-    shell(&room, &blocks[0]).done();
+    shell(&room, &blocks[1]).done();
     assert!(page("README.md").contains("](examples/deeds/question.svg)\n"));
     let drawn = fs::read_to_string(room.path("target/deeds/question.svg")).expect("the picture");
     assert_eq!(drawn, page("examples/deeds/question.svg"));

@@ -44,7 +44,7 @@ fn misspelling_of_the_specification() {
 }
 
 /// Questions that cannot be read any further than to a letter, and what is expected there.
-const MISSPELLED: [(&str, usize, &[&str]); 32] = [
+const MISSPELLED: [(&str, usize, &[&str]); 36] = [
     ("", 0, &["condition", "group", "year", "parish"]),
     ("   ", 0, &["group", "year"]),
     ("yeer in 1..2", 0, &["year", "parish"]),
@@ -73,8 +73,12 @@ const MISSPELLED: [(&str, usize, &[&str]); 32] = [
     ("all(year blank parish blank)", 15, &["`,`", "`)`"]),
     ("not not year blank", 4, &["year"]),
     ("not all(year blank)", 4, &["year"]),
-    ("ALL(year blank)", 0, &["year"]),
-    ("year IN 1..2", 5, &["`in`"]),
+    ("ALL(year blank)", 0, &["`all`", "small letters", "year"]),
+    ("year IN 1..2", 5, &["`in`", "small letters"]),
+    ("all(year blank; parish blank)", 14, &["`,`", "`)`"]),
+    ("year blank.", 10, &["nothing more", "all(", "any("]),
+    ("withdrawn is \"no\"", 0, &["year", "never listed"]),
+    ("not ANY(year blank)", 4, &["`any`", "small letters"]),
     ("(year blank)", 0, &["group"]),
     ("any(parish is \"é\", yeer blank)", 19, &["year", "parish"]),
 ];

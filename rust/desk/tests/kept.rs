@@ -1,0 +1,113 @@
+//! What is nobody's to replace stays, and what is read is of one import.
+
+mod desk {
+    pub mod parish;
+    pub mod room;
+}
+
+use std::fs;
+use std::os::unix::fs::symlink;
+use std::time::{Duration, Instant};
+
+use desk::parish::{QUESTION, TABLE, parish};
+use desk::room::Room;
+
+/// The catalogue's own two files are never an output.
+#[test]
+fn catalogue_is_no_output() {
+    let room = parish();
+    symlink("parish/catalogue.bin", room.path("link")).unwrap();
+    let before = ["catalogue.bin", "columns.csv"].map(|name| fs::read(room.path("parish").join(name)).unwrap());
+    for file in ["parish/catalogue.bin", "./parish/columns.csv", "parish/../parish/catalogue.bin", "link"] {
+        let words: [&[&str]; 3] = [&["ask", "--tally"], &["ask", "--copy"], &["draw", "-o"]];
+        for words in words {
+            let said = room.run(&[words[0], "parish", QUESTION, words[1], file]).failed(1);
+            assert_eq!(said, format!("searchroom: {file} is the catalogue's own: name another file\n"));
+        }
+    }
+    let after = ["catalogue.bin", "columns.csv"].map(|name| fs::read(room.path("parish").join(name)).unwrap());
+    assert_eq!(before, after);
+}
+
+/// A tally and a copy in one file: told at once, however the file is spelled.
+#[test]
+fn tally_and_copy_in_one_file() {
+    let room = parish();
+    for copy in ["t.bin", "./t.bin", "parish/../t.bin"] {
+        let started = Instant::now();
+        let said = room.run(&["ask", "parish", QUESTION, "--tally", "t.bin", "--copy", copy]).failed(1);
+        assert!(said.contains("--tally and --copy name the same file"), "{said}");
+        assert!(started.elapsed() < Duration::from_secs(4), "it did not wait for itself");
+        assert!(!room.path("t.bin").exists() && !room.path("t.bin.new").exists());
+    }
+}
+
+/// A `columns.csv` of a person's own is not replaced, even if it is the file that is imported.
+#[test]
+fn columns_that_no_import_wrote() {
+    let room = Room::new();
+    for table in [TABLE, "", "notes on the columns\n"] {
+        room.set("mine/columns.csv", table);
+        room.set("deeds.csv", TABLE);
+        for file in ["mine/columns.csv", "deeds.csv"] {
+            let said = room.run(&["import", file, "mine"]).failed(1);
+            assert!(!said.is_empty(), "{file}: {table}");
+            assert_eq!(fs::read_to_string(room.path("mine/columns.csv")).unwrap(), table);
+            assert_eq!(fs::read_dir(room.path("mine")).unwrap().count(), 1, "nothing beside it");
+        }
+    }
+}
+
+/// Where `columns.csv` is a link, it stays one, and leads to the new names.
+#[test]
+fn columns_by_a_link() {
+    let room = parish();
+    fs::rename(room.path("parish/columns.csv"), room.path("names.csv")).unwrap();
+    symlink("../names.csv", room.path("parish/columns.csv")).unwrap();
+    room.set("deeds.csv", "box,parish\n7,Ash\n");
+    room.run(&["import", "deeds.csv", "parish"]).done();
+    assert_eq!(fs::read_to_string(room.path("names.csv")).unwrap(), "header,values\nbox,number\nparish,text\n");
+    assert!(fs::symlink_metadata(room.path("parish/columns.csv")).unwrap().is_symlink());
+    assert!(room.run(&["ask", "parish", "box in 7..7"]).done().starts_with("1 of 1 entry found\n"));
+}
+
+/// Two tables that have the same columns in another order, imported in turn: whoever asks meanwhile finds the one entry by
+/// its name, for names and catalogue are of one import.
+#[test]
+fn asked_while_it_is_imported() {
+    let room = Room::new();
+    for (file, table) in [("a.csv", "first,second\n1,2\n"), ("b.csv", "second,first\n2,1\n")] {
+        room.set(file, table);
+        room.run(&["import", file, "deeds"]).done();
+    }
+    std::thread::scope(|scope| {
+        let importing = scope.spawn(|| {
+            for turn in 0..150 {
+                room.run(&["import", ["a.csv", "b.csv"][turn % 2], "deeds"]).done();
+            }
+        });
+        let mut asked = 0;
+        while !importing.is_finished() {
+            let said = room.run(&["ask", "deeds", "all(first in 1..1, second in 2..2)"]).done();
+            assert!(said.starts_with("1 of 1 entry found\n"), "run {asked}: {said}");
+            asked += 1;
+        }
+        assert!(asked > 0);
+    });
+}
+
+/// An import that was cut off between its two steps: the catalogue has no names, and nobody takes those of another.
+#[test]
+fn import_that_was_cut_off() {
+    let room = parish();
+    fs::rename(room.path("parish/columns.csv"), room.path("parish/columns.csv.new")).unwrap();
+    let left_over = "parish/columns.csv.new stands there";
+    assert!(room.run(&["ask", "parish", "c0 blank"]).failed(1).contains(left_over));
+    fs::remove_file(room.path("parish/columns.csv.new")).unwrap();
+    assert!(room.run(&["ask", "parish", "c0 blank"]).done().starts_with("1 of 3 entries found\n"));
+    room.set("deeds.csv", TABLE);
+    let said = room.run(&["import", "deeds.csv", "parish"]).failed(1);
+    assert!(said.contains("parish/catalogue.bin has no columns.csv beside it"), "{said}");
+    fs::remove_file(room.path("parish/catalogue.bin")).unwrap();
+    room.run(&["import", "deeds.csv", "parish"]).done();
+}
