@@ -39,7 +39,7 @@ const LETTER: f64 = 7.9;
 const NUMBER: f64 = 34.0;
 const TURN: f64 = 56.0;
 const BAR: f64 = 220.0;
-const SHARE: f64 = 180.0;
+const SHARE: f64 = 200.0;
 /// The most letters that a condition is shown with; all of them stand in its title.
 const SHOWN: usize = 64;
 

@@ -16,6 +16,7 @@ mod notation;
 mod question;
 mod refused;
 mod replace;
+mod sheet;
 mod show;
 mod table;
 mod words;

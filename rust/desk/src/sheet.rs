@@ -1,0 +1,228 @@
+//! A CSV file as the columns of a catalogue, and everything in it that does not fit one.
+
+use std::str;
+
+use searchroom::{MAX_COLUMNS, MAX_ENTRIES, MAX_TEXT};
+
+use crate::catalogue::{Catalogue, Column, MAX_NUMBER, number_of};
+use crate::folder::Folder;
+use crate::heading::{Heading, Holds, marks, name_faults, name_of, says_withdrawn};
+use crate::show::{counted, quoted};
+use crate::table::{Cell, Fault, Line, read_lines};
+
+/// What was noticed in a CSV file.
+#[derive(Default)]
+pub struct Noticed {
+    pub faults: Vec<Fault>,
+    /// Of the catalogue's columns by number: what may surprise in it.
+    pub notes: Vec<Option<String>>,
+}
+
+/// A column of the file: its place in a line, its name, and the value of each line with the line's number.
+struct Cells<'a> {
+    place: usize,
+    name: &'a str,
+    values: Vec<(usize, &'a str)>,
+}
+
+impl Noticed {
+    /// The folder that the file's bytes make; none where there is no first line. It is sound if there are no faults.
+    pub fn folder(&mut self, bytes: &[u8], separator: u8) -> Option<Folder> {
+        let (lines, faults) = read_lines(bytes, separator);
+        self.faults.extend(faults);
+        let Some((first, rest)) = lines.split_first() else {
+            self.fault(1, None, "the file has no line; the first one names the columns".to_owned());
+            return None;
+        };
+        let cells = self.first_line(first, rest, separator);
+        let whole: Vec<&Line> = rest.iter().filter(|line| self.is_whole(line, cells.len())).collect();
+        if let Some(line) = rest.get(MAX_ENTRIES) {
+            let entries = rest.len();
+            let what = format!("{entries} entries; at most {MAX_ENTRIES} fit, so split the file before this line");
+            self.fault(line.number, None, what);
+        }
+        let (mut headings, mut columns, mut mark) = (Vec::new(), Vec::new(), None);
+        for (place, cell) in cells.into_iter().enumerate() {
+            let column = self.cells(place, name_of(&cell).0, &whole);
+            let holds = if marks(&cell) {
+                let (told, holds) = self.mark(&column);
+                mark = Some(told);
+                holds
+            } else {
+                let (told, holds) = self.column(&column, name_of(&cell).1);
+                columns.push(told);
+                holds
+            };
+            headings.push(Heading { cell, holds });
+        }
+        let catalogue = Catalogue { entries: whole.len(), columns, mark };
+        let bytes = if self.faults.is_empty() { catalogue.bytes() } else { Vec::new() };
+        Some(Folder { bytes, catalogue, headings })
+    }
+
+    fn fault(&mut self, line: usize, cell: Option<Cell>, what: String) {
+        self.faults.push(Fault { line, cell, what });
+    }
+
+    /// A fault of a column's value.
+    fn unfit(&mut self, column: &Cells, line: usize, value: &str, what: String) {
+        let cell = Cell { place: column.place, name: column.name.to_owned(), value: value.to_owned() };
+        self.fault(line, Some(cell), what);
+    }
+
+    /// A fault of a cell of the first line.
+    fn unnamed(&mut self, first: &Line, place: usize, what: String) {
+        let value = String::from_utf8_lossy(&first.cells[place]).into_owned();
+        self.fault(first.number, Some(Cell { place, name: String::new(), value }), what);
+    }
+
+    /// The cells of the first line, which name the columns.
+    fn first_line(&mut self, first: &Line, rest: &[Line], separator: u8) -> Vec<String> {
+        let cells: Vec<String> = first.cells.iter().map(|cell| String::from_utf8_lossy(cell).into_owned()).collect();
+        for (place, cell) in first.cells.iter().enumerate() {
+            if str::from_utf8(cell).is_err() {
+                self.unnamed(first, place, NOT_UTF_8.to_owned());
+            }
+        }
+        for (place, what) in name_faults(&cells) {
+            self.unnamed(first, place, what);
+        }
+        if let Some((_, option)) = SEPARATORS.into_iter().find(|(sign, _)| is_parted_by(*sign, separator, first, rest))
+        {
+            self.unnamed(first, 0, format!("one name only; if {option} parts the values, say --separator {option}"));
+        }
+        let columns: Vec<usize> = (0..cells.len()).filter(|&place| !marks(&cells[place])).collect();
+        for &place in columns.iter().skip(MAX_COLUMNS) {
+            let what = format!("a column too many; a catalogue has at most {MAX_COLUMNS} beside the mark");
+            self.unnamed(first, place, what);
+        }
+        if columns.is_empty() {
+            self.unnamed(first, 0, "no column beside the mark; a catalogue has at least one".to_owned());
+        }
+        cells
+    }
+
+    /// Has a line a value for each column?
+    fn is_whole(&mut self, line: &Line, columns: usize) -> bool {
+        let count = line.cells.len();
+        if count != columns {
+            let values = counted(count, "value", "values");
+            let advice = if count > columns {
+                "a value that holds the separator stands in quotes"
+            } else {
+                "an empty value keeps its separator"
+            };
+            self.fault(line.number, None, format!("{values}; the first line has {columns}; {advice}"));
+        }
+        count == columns
+    }
+
+    /// The values of a column.
+    fn cells<'a>(&mut self, place: usize, name: &'a str, lines: &[&'a Line]) -> Cells<'a> {
+        let mut column = Cells { place, name, values: Vec::new() };
+        for line in lines {
+            let bytes = &line.cells[place];
+            match str::from_utf8(bytes) {
+                Ok(value) => column.values.push((line.number, value)),
+                Err(_) => self.unfit(&column, line.number, &String::from_utf8_lossy(bytes), NOT_UTF_8.to_owned()),
+            }
+        }
+        column
+    }
+
+    /// A column as it is declared; else of numbers if every value is empty or a number, else of texts.
+    fn column(&mut self, column: &Cells, declared: Option<Holds>) -> (Column, Holds) {
+        let guessed = declared.is_none();
+        let is_number = |value: &str| value.is_empty() || number_of(value).is_some();
+        let other = column.values.iter().find(|(_, value)| !is_number(value));
+        let holds = declared.unwrap_or(if other.is_none() { Holds::Numbers } else { Holds::Texts });
+        self.notes.push(note(column, other.filter(|_| guessed)));
+        let told = match holds {
+            Holds::Numbers => Column::Numbers(self.each(column, Noticed::number)),
+            _ => Column::Texts(self.each(column, Noticed::text)),
+        };
+        (told, holds)
+    }
+
+    /// What each value of a column says; nothing if it is empty.
+    fn each<T>(&mut self, column: &Cells, says: fn(&mut Noticed, &Cells, usize, &str) -> Option<T>) -> Vec<Option<T>> {
+        let value = |&(line, value): &(usize, &str)| match value {
+            "" => None,
+            _ => says(self, column, line, value),
+        };
+        column.values.iter().map(value).collect()
+    }
+
+    fn number(&mut self, column: &Cells, line: usize, value: &str) -> Option<u32> {
+        let number = number_of(value);
+        if number.is_none() {
+            let what = format!("not a number; write digits alone, no leading zero, at most {MAX_NUMBER}");
+            self.unfit(column, line, value, what);
+        }
+        number
+    }
+
+    /// A text in ISO 8859-1.
+    fn text(&mut self, column: &Cells, line: usize, value: &str) -> Option<Vec<u8>> {
+        let letters = value.chars().count();
+        if letters > MAX_TEXT {
+            self.unfit(column, line, value, format!("{letters} letters; a text has at most {MAX_TEXT}"));
+        }
+        if let Some(letter) = value.chars().find(|&letter| u8::try_from(letter).is_err()) {
+            let what = format!("{letter} (U+{:04X}) is not in ISO 8859-1; write it otherwise", u32::from(letter));
+            self.unfit(column, line, value, what);
+        }
+        value.chars().map(|letter| u8::try_from(letter).ok()).collect()
+    }
+
+    /// The mark, and the two words that the file has for it.
+    fn mark(&mut self, column: &Cells) -> (Vec<bool>, Holds) {
+        // The first word for each, with its line.
+        let mut words: [Option<(usize, &str)>; 2] = [None, None];
+        let mut mark = Vec::new();
+        for &(line, value) in &column.values {
+            let Some(withdrawn) = says_withdrawn(value) else {
+                let what =
+                    "neither yes nor no; write yes, true, 1 or x if it is withdrawn, else no, false, 0 or nothing";
+                self.unfit(column, line, value, what.to_owned());
+                continue;
+            };
+            let (first, word) = *words[usize::from(withdrawn)].get_or_insert((line, value));
+            if word != value {
+                self.unfit(
+                    column,
+                    line,
+                    value,
+                    format!("line {first} says {} for the same; use one word", quoted(word)),
+                );
+            }
+            mark.push(withdrawn);
+        }
+        let word =
+            |withdrawn: bool, usual: &str| words[usize::from(withdrawn)].map_or(usual, |(_, word)| word).to_owned();
+        (mark, Holds::Mark { withdrawn: word(true, "yes"), present: word(false, "no") })
+    }
+}
+
+const NOT_UTF_8: &str = "not UTF-8; save the file as \"CSV UTF-8\"";
+
+/// Signs that often part values, and how they are named on the command line.
+const SEPARATORS: [(u8, &str); 4] = [(b',', "','"), (b';', "';'"), (b'\t', "tab"), (b'|', "'|'")];
+
+/// Has every line one cell, with this sign in it, where another is said to part the values?
+fn is_parted_by(sign: u8, separator: u8, first: &Line, rest: &[Line]) -> bool {
+    let has_sign = |line: &Line| line.cells.len() == 1 && line.cells[0].contains(&sign);
+    sign != separator && has_sign(first) && rest.iter().all(has_sign)
+}
+
+/// What may surprise in a column: a value that makes it one of texts though half of them are numbers, or one with spaces
+/// around it.
+fn note(column: &Cells, no_number: Option<&(usize, &str)>) -> Option<String> {
+    let filled: Vec<&(usize, &str)> = column.values.iter().filter(|(_, value)| !value.is_empty()).collect();
+    let numbers = filled.iter().filter(|(_, value)| number_of(value).is_some()).count();
+    if let Some((line, value)) = no_number.filter(|_| 2 * numbers >= filled.len()) {
+        return Some(format!("line {line} has {}, which is no number", quoted(value)));
+    }
+    let (line, value) = filled.into_iter().find(|(_, value)| value.trim() != *value)?;
+    Some(format!("line {line} has {}, with a space before or after", quoted(value)))
+}
