@@ -7,6 +7,7 @@ use std::path::Path;
 use crate::failure::Failure;
 use crate::folder::{Folder, output};
 use crate::found::{Found, run_without_tally};
+use crate::notation::Condition;
 use crate::question::{Group, Question};
 use crate::replace::replace;
 use crate::show::counted;
@@ -40,8 +41,9 @@ const NUMBER: f64 = 34.0;
 const TURN: f64 = 56.0;
 const BAR: f64 = 220.0;
 const SHARE: f64 = 200.0;
-/// The most letters that a condition is shown with; all of them stand in its title.
+/// The most letters that a condition is shown with, and a column's name in it; all of them stand in its title.
 const SHOWN: usize = 64;
+const SHOWN_NAME: usize = 24;
 
 const STYLE: &str = "\
 text { font: 13px 'DejaVu Sans Mono', Menlo, Consolas, monospace; fill: #1a202c; }
@@ -62,6 +64,8 @@ struct Picture<'a> {
     question: &'a Question,
     order: &'a [u8],
     found: &'a Found,
+    /// The conditions, as they are shown.
+    texts: Vec<String>,
     /// Where the conditions begin, right of the strips of all groups.
     conditions_at: f64,
     turn_at: f64,
@@ -71,15 +75,14 @@ struct Picture<'a> {
 
 impl<'a> Picture<'a> {
     fn new(folder: &'a Folder, question: &'a Question, order: &'a [u8], found: &'a Found) -> Picture<'a> {
-        let names = folder.names();
-        let letters = |text: String| text.chars().count().min(SHOWN);
-        let widest = question.conditions().iter().map(|condition| letters(condition.shown(&names))).max();
+        let texts: Vec<String> = question.conditions().iter().map(|condition| shortened(folder, condition)).collect();
+        let widest = texts.iter().map(|text| text.chars().count()).max();
         let depth = (0..question.conditions().len()).map(|number| question.around(number).count()).max();
         let conditions_at = MARGIN + STRIP * depth.unwrap_or_default() as f64 + 8.0;
         let turn_at = conditions_at + NUMBER + LETTER * widest.unwrap_or_default().max(9) as f64 + TURN;
         let bar_at = turn_at + 20.0;
         let width = bar_at + BAR + SHARE + MARGIN;
-        Picture { folder, question, order, found, conditions_at, turn_at, bar_at, width }
+        Picture { folder, question, order, found, texts, conditions_at, turn_at, bar_at, width }
     }
 
     fn svg(&self) -> String {
@@ -132,13 +135,11 @@ impl<'a> Picture<'a> {
 
     fn condition(&self, number: usize, svg: &mut String) {
         let whole = self.question.conditions()[number].shown(&self.folder.names());
-        let cut = whole.chars().count() > SHOWN;
-        let shown = if cut { whole.chars().take(SHOWN - 1).chain(['…']).collect() } else { whole.clone() };
         let y = HEAD + ROW * number as f64;
         let base = y + ROW / 2.0 + 4.5;
         let _ = writeln!(svg, "<g><title>{}</title>", xml(&whole));
         text(svg, "small", self.conditions_at, base, &number.to_string());
-        text(svg, "condition", self.conditions_at + NUMBER, base, &shown);
+        text(svg, "condition", self.conditions_at + NUMBER, base, &self.texts[number]);
         let turn = self.order.iter().position(|&other| usize::from(other) == number).map_or(0, |turn| turn + 1);
         text(svg, "small right", self.turn_at, base, &turn.to_string());
         let (looks, entries) = (self.found.looks[number].len(), self.folder.catalogue.present());
@@ -153,6 +154,19 @@ impl<'a> Picture<'a> {
         text(svg, "share", self.bar_at + BAR + 8.0, base, &share);
         svg.push_str("</g>\n");
     }
+}
+
+/// A condition as it is shown: a long name is cut before the condition is.
+fn shortened(folder: &Folder, condition: &Condition) -> String {
+    let names: Vec<String> = folder.names().into_iter().map(|name| cut(name, SHOWN_NAME)).collect();
+    let names: Vec<&str> = names.iter().map(String::as_str).collect();
+    cut(&condition.shown(&names), SHOWN)
+}
+
+/// At most so many letters of a text.
+fn cut(text: &str, most: usize) -> String {
+    let is_long = text.chars().count() > most;
+    if is_long { text.chars().take(most - 1).chain(['…']).collect() } else { text.to_owned() }
 }
 
 fn text(svg: &mut String, class: &str, x: f64, y: f64, content: &str) {

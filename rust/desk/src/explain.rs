@@ -60,7 +60,7 @@ fn print_entry(folder: &Folder, entry: usize, order: &[u8], out: &mut dyn Write)
     };
     let values: Vec<String> = folder.names().into_iter().zip(&folder.catalogue.columns).map(value).collect();
     let order: Vec<String> = order.iter().map(u8::to_string).collect();
-    writeln!(out, "entry {entry}: {}\norder {}\n", values.join(", "), order.join(", "))?;
+    writeln!(out, "entry {entry}: {}\nrunning order {}\n", values.join(", "), order.join(", "))?;
     Ok(())
 }
 

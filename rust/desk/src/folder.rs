@@ -35,18 +35,12 @@ impl Folder {
             let help = format!("\n  in {}: import the CSV file again", catalogue_file(folder).display());
             Failure::Refused { refusal, help }
         })?;
-        let headings = match columns {
-            None => heading::unnamed(&catalogue),
-            Some(columns) => {
-                let headings = read_headings(&columns).filter(|headings| heading::fit(headings, &catalogue));
-                headings.ok_or_else(|| {
-                    let file = columns_file(folder).display().to_string();
-                    Failure::Desk(format!(
-                        "{file} does not fit catalogue.bin: import the CSV file again, or remove {file}"
-                    ))
-                })?
-            }
-        };
+        let headings = columns.map_or(Some(heading::unnamed(&catalogue)), |columns| read_headings(&columns));
+        let headings = headings.map(|headings| heading::with_mark(headings, &catalogue));
+        let headings = headings.filter(|headings| heading::fit(headings, &catalogue)).ok_or_else(|| {
+            let file = columns_file(folder).display().to_string();
+            Failure::Desk(format!("{file} does not fit catalogue.bin: import the CSV file again, or remove {file}"))
+        })?;
         Ok(Folder { bytes, catalogue, headings })
     }
 
@@ -119,7 +113,7 @@ fn read_catalogue(folder: &Path, file: &Path) -> Result<Vec<u8>, Failure> {
 }
 
 fn not_a_folder(path: &Path) -> Failure {
-    Failure::Desk(format!("{} is not a folder: name one, or one that `import` is to make", path.display()))
+    Failure::Desk(format!("{} is not a folder: name the folder of a catalogue", path.display()))
 }
 
 fn not_imported(file: &Path, why: &str) -> Failure {

@@ -20,12 +20,12 @@ pub struct Found {
 impl Found {
     /// "2 of 3 entries found", and how many are withdrawn.
     pub fn listing(&self, catalogue: &Catalogue) -> String {
-        let withdrawn = match catalogue.withdrawn() {
+        let (entries, withdrawn) = (catalogue.entries, catalogue.withdrawn());
+        let withdrawn = match withdrawn {
             0 => String::new(),
-            count => format!(", {count} withdrawn"),
+            _ => format!(" ({} withdrawn)", counted(withdrawn, "is", "are")),
         };
-        let entries = counted(catalogue.entries, "entry", "entries");
-        format!("{} of {entries} found{withdrawn}", self.counts.found)
+        format!("{} of {} found{withdrawn}", self.counts.found, counted(entries, "entry", "entries"))
     }
 
     /// "6 looks instead of 9": of a look at every condition of every entry still in the house.
@@ -64,7 +64,7 @@ fn advice(refusal: Refusal, question: &Question, tally_bytes: usize) -> String {
     match refusal {
         Refusal::BadOrder => match question.conditions().len() {
             1 => "\n  the question has one condition: its order is 0".to_owned(),
-            count => format!("\n  the question has {count} conditions: name each of 0 to {} once", count - 1),
+            count => format!("\n  the question has {count} conditions: name each number from 0 to {} once", count - 1),
         },
         Refusal::BadTally if tally_bytes != Tally::BYTES => {
             format!("\n  the tally's file has {tally_bytes} bytes: name another, or one that is not there yet")

@@ -88,23 +88,23 @@ pub fn name_faults(cells: &[String]) -> Vec<(usize, String)> {
     let mut column = 0;
     for (place, cell) in cells.iter().enumerate() {
         let name = name_of(cell).0;
-        if let Some(earlier) = cells[..place].iter().position(|other| same(name_of(other).0, name)) {
+        if name.is_empty() {
+            faults.push((place, "no name; write one into the first line, or remove the column".to_owned()));
+        } else if let Some(earlier) = cells[..place].iter().position(|other| same(name_of(other).0, name)) {
             faults.push((place, format!("column {} has that name too; each column needs its own", earlier + 1)));
-        } else if name.is_empty() {
-            faults.push((place, "no name; write one into the first line".to_owned()));
         } else if name.chars().count() > MAX_NAME {
             faults.push((place, format!("a name has at most {MAX_NAME} letters; shorten it")));
         } else if name.contains(BYTE_ORDER_MARK) {
             faults.push((place, "a byte order mark (U+FEFF) stands in the name; remove it".to_owned()));
         } else if numbered(name).is_some_and(|number| number != column.to_string()) {
-            faults.push((place, format!("in a question {name} is the column of that number; name it otherwise")));
+            faults.push((place, format!("in a question {name} is the column of that number; give it another name")));
         }
         column += usize::from(!marks(cell));
     }
     faults
 }
 
-/// The headings of a catalogue that has no names.
+/// The headings of the columns of a catalogue that has no names.
 pub fn unnamed(catalogue: &Catalogue) -> Vec<Heading> {
     let column = |(number, column): (usize, &Column)| match column {
         Column::Numbers(_) => Heading { cell: format!("c{number}"), holds: Holds::Numbers },
@@ -114,10 +114,14 @@ pub fn unnamed(catalogue: &Catalogue) -> Vec<Heading> {
         }
         Column::Texts(_) => Heading { cell: format!("c{number}"), holds: Holds::Texts },
     };
-    let mut headings: Vec<Heading> = catalogue.columns.iter().enumerate().map(column).collect();
-    if catalogue.mark.is_some() {
-        let words = Holds::Mark { withdrawn: "yes".to_owned(), present: "no".to_owned() };
-        headings.push(Heading { cell: WITHDRAWN.to_owned(), holds: words });
+    catalogue.columns.iter().enumerate().map(column).collect()
+}
+
+/// The headings, and one for a mark that they lack: it was added to the catalogue since.
+pub fn with_mark(mut headings: Vec<Heading>, catalogue: &Catalogue) -> Vec<Heading> {
+    if catalogue.mark.is_some() && !headings.iter().any(Heading::is_mark) {
+        let holds = Holds::Mark { withdrawn: "yes".to_owned(), present: "no".to_owned() };
+        headings.push(Heading { cell: WITHDRAWN.to_owned(), holds });
     }
     headings
 }

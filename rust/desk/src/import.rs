@@ -16,6 +16,7 @@ use crate::show::{counted, shown};
 pub fn import(file: &Path, folder: &Path, separator: u8, out: &mut dyn Write) -> Result<(), Failure> {
     let bytes = fs::read(file).map_err(|error| match error.kind() {
         io::ErrorKind::NotFound => Failure::Desk(format!("there is no {}: name the CSV file", file.display())),
+        io::ErrorKind::IsADirectory => Failure::Desk(format!("{} is a folder: name the CSV file", file.display())),
         _ => Failure::file("read", file, &error),
     })?;
     let mut noticed = Noticed::default();
@@ -31,7 +32,7 @@ pub fn import(file: &Path, folder: &Path, separator: u8, out: &mut dyn Write) ->
         (0, Some(imported)) => {
             check_catalogue(&imported.bytes)?;
             imported.save(folder)?;
-            report(&noticed.notes, &imported, folder, out)
+            report(&noticed, &imported, folder, out)
         }
         (count, _) => {
             let faults = counted(count, "fault", "faults");
@@ -41,11 +42,11 @@ pub fn import(file: &Path, folder: &Path, separator: u8, out: &mut dyn Write) ->
 }
 
 /// Tells what was imported.
-fn report(notes: &[Option<String>], imported: &Folder, folder: &Path, out: &mut dyn Write) -> Result<(), Failure> {
+fn report(noticed: &Noticed, imported: &Folder, folder: &Path, out: &mut dyn Write) -> Result<(), Failure> {
     let Folder { catalogue, .. } = imported;
-    let withdrawn = match catalogue.withdrawn() {
-        0 => String::new(),
-        count => format!(", {count} of them withdrawn,"),
+    let withdrawn = match catalogue.mark {
+        Some(_) => format!(", {} of them withdrawn,", catalogue.withdrawn()),
+        None => String::new(),
     };
     let entries = counted(catalogue.entries, "entry", "entries");
     let columns = counted(catalogue.columns.len(), "column", "columns");
@@ -54,9 +55,12 @@ fn report(notes: &[Option<String>], imported: &Folder, folder: &Path, out: &mut 
     let wide = names.iter().map(|name| name.chars().count()).max().unwrap_or(0);
     for (number, column) in catalogue.columns.iter().enumerate() {
         let sort = if matches!(column, Column::Numbers(_)) { "numbers" } else { "texts" };
-        let note = notes[number].as_ref().map_or(String::new(), |note| format!(" ({note})"));
+        let note = noticed.notes[number].as_ref().map_or(String::new(), |note| format!(" ({note})"));
         let place = if catalogue.columns.len() > 10 { format!("c{number:<2}") } else { format!("c{number}") };
         writeln!(out, "{place}  {:<wide$}  {sort}, {} blank{note}", names[number], column.blanks())?;
+    }
+    for remark in &noticed.remarks {
+        writeln!(out, "{remark}")?;
     }
     Ok(())
 }

@@ -48,8 +48,8 @@ fn carry_out(word: &Word) -> Result<(), Failure> {
     let paint = Paint::of(&io::stdout());
     let mut out = BufWriter::new(io::stdout().lock());
     match word {
-        Word::Import(words) => import::import(&words.file, &words.folder, words.parted.separator, &mut out),
-        Word::Export(words) => export::export(&words.folder, words.parted.separator, &mut out),
+        Word::Import(words) => import::import(&words.file, &words.folder, words.separated.separator, &mut out),
+        Word::Export(words) => export::export(&words.folder, words.separated.separator, &mut out),
         Word::Ask(words) => ask::ask(words, paint, &mut out),
         Word::Explain(words) => explain::explain(words, paint, &mut out),
         Word::Draw(words) => draw::draw(words, &mut out),

@@ -265,6 +265,8 @@ impl<'a> Reader<'a> {
             format!("`{word}` in small letters, or a column: {columns}")
         } else if same(name, WITHDRAWN) {
             format!("a column: {columns}; withdrawn entries are never listed, so nobody need ask for the mark")
+        } else if self.rest().trim_start().starts_with('(') && !opposite {
+            format!("a group, all(.., ..) or any(.., ..), or a column: {columns}")
         } else if opposite {
             format!("a column, for `not` stands before a condition and not before a group: {columns}")
         } else if name.is_empty() {
@@ -279,7 +281,8 @@ impl<'a> Reader<'a> {
         let word = &rest[..rest.find(|letter: char| !letter.is_ascii_alphabetic()).unwrap_or(rest.len())];
         let text_word = TEXT_WORDS.into_iter().find(|known| *known == word);
         if text_word.is_none() && word != "in" && word != "blank" {
-            return Err(self.expected("`in`, `is`, `starts`, `has` or `blank`, in small letters"));
+            let small = if word.contains(|letter: char| letter.is_uppercase()) { ", in small letters" } else { "" };
+            return Err(self.expected(format!("`in`, `is`, `starts`, `has` or `blank`{small}")));
         }
         self.at += word.len();
         match text_word {
@@ -293,7 +296,7 @@ impl<'a> Reader<'a> {
         let low = self.number()?;
         self.spaces();
         if !self.take("..") {
-            return Err(self.expected("`..` and the last number, as in 1700..1799"));
+            return Err(self.expected("`..` and the last number, as in 1700..1799 (one year: 1700..1700)"));
         }
         Ok(Test::In { low, high: self.number()? })
     }
@@ -312,7 +315,9 @@ impl<'a> Reader<'a> {
     fn latin_1_text(&mut self) -> Result<Vec<u8>, Misspelled> {
         self.spaces();
         if !self.rest().starts_with('"') {
-            return Err(self.expected("a text in quotes, as in \"ash\"; a number is asked with `in`, as in 1700..1799"));
+            return Err(self.expected(
+                "a text in straight double quotes, as in \"ash\"; a number is asked with `in`, as in 1700..1799",
+            ));
         }
         let letter = |(at, letter): (usize, char)| {
             let expected = || format!("a letter of ISO 8859-1, and {letter} is not; no entry has it");

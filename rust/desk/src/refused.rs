@@ -6,6 +6,7 @@ use searchroom::{MAX_CONDITIONS, MAX_DEPTH, MAX_TEXT, MAX_TYPED, Refusal, typed_
 use crate::catalogue::{Column, MAX_NUMBER};
 use crate::folder::Folder;
 use crate::notation::{Condition, Misspelled, Part, Test, Written, shown_name};
+use crate::show::grouped;
 
 /// A place in the text, and what to do there.
 type Place = (usize, String);
@@ -26,8 +27,8 @@ pub fn help_with_refused(folder: &Folder, text: &str, written: &Written, refusal
     match place {
         Some((at, what)) => caret(text, at, &what),
         None => {
-            let bytes = written.strict().len();
-            format!("\n  in the strict spelling it has {bytes} bytes; at most {MAX_TYPED} are read")
+            let (bytes, most) = (grouped(written.strict().len()), grouped(MAX_TYPED));
+            format!("\n  in the strict spelling it has {bytes} bytes; at most {most} are read, so ask two questions")
         }
     }
 }
@@ -58,7 +59,7 @@ fn repeated(folder: &Folder, written: &Written) -> Option<Place> {
     let bytes: Vec<_> = written.conditions.iter().map(|condition| alone(folder, condition)).collect();
     (0..bytes.len()).find_map(|number| {
         let earlier = bytes[..number].iter().position(|other| *other == bytes[number])?;
-        let what = format!("the same as condition {earlier}; leave one of them out");
+        let what = format!("the same as condition {earlier}, and each stands once; regroup, as in all(A, any(B, C))");
         Some((written.conditions[number].place.start, what))
     })
 }
@@ -90,7 +91,7 @@ fn advice(folder: &Folder, condition: &Condition) -> String {
         (Test::Text { .. }, Column::Numbers(_)) => format!("{name} holds numbers; ask `in` or `blank`"),
         (Test::Text { text, .. }, _) if text.is_empty() => "an empty text; ask `blank`".to_owned(),
         (Test::Text { text, .. }, _) => format!("{} letters; a text has at most {MAX_TEXT}", text.len()),
-        _ => format!("the first number is at most the last, and that at most {MAX_NUMBER}"),
+        _ => format!("the smaller number stands first, and the largest is {}", grouped(MAX_NUMBER as usize)),
     }
 }
 

@@ -120,7 +120,7 @@ pub fn beside(file: &Path) -> PathBuf {
 pub fn left_over(beside: &Path) -> Failure {
     let beside = beside.display();
     Failure::Desk(format!(
-        "{beside} stands there: another run is writing it, or one was cut off; if none is running, remove it"
+        "{beside} is already there: another run is writing it, or one was cut off; if none is running, remove it"
     ))
 }
 

@@ -7,7 +7,7 @@ use searchroom::{MAX_COLUMNS, MAX_ENTRIES, MAX_TEXT};
 use crate::catalogue::{Catalogue, Column, MAX_NUMBER, number_of};
 use crate::folder::Folder;
 use crate::heading::{Heading, Holds, marks, name_faults, name_of, says_withdrawn};
-use crate::show::{counted, quoted};
+use crate::show::{counted, grouped, quoted};
 use crate::table::{Cell, Fault, Line, read_lines};
 
 /// What was noticed in a CSV file.
@@ -16,6 +16,8 @@ pub struct Noticed {
     pub faults: Vec<Fault>,
     /// Of the catalogue's columns by number: what may surprise in it.
     pub notes: Vec<Option<String>>,
+    /// What may surprise in the file as a whole.
+    pub remarks: Vec<String>,
 }
 
 /// A column of the file: its place in a line, its name, and the value of each line with the line's number.
@@ -38,9 +40,11 @@ impl Noticed {
         let whole: Vec<&Line> = rest.iter().filter(|line| self.is_whole(line, cells.len())).collect();
         if let Some(line) = rest.get(MAX_ENTRIES) {
             let entries = rest.len();
-            let what = format!("{entries} entries; at most {MAX_ENTRIES} fit, so split the file before this line");
+            let most = grouped(MAX_ENTRIES);
+            let what = format!("{} entries; at most {most} fit, so split the file before this line", grouped(entries));
             self.fault(line.number, None, what);
         }
+        self.remark(&cells, &whole);
         let (mut headings, mut columns, mut mark) = (Vec::new(), Vec::new(), None);
         for (place, cell) in cells.into_iter().enumerate() {
             let column = self.cells(place, name_of(&cell).0, &whole);
@@ -58,6 +62,18 @@ impl Noticed {
         let catalogue = Catalogue { entries: whole.len(), columns, mark };
         let bytes = if self.faults.is_empty() { catalogue.bytes() } else { Vec::new() };
         Some(Folder { bytes, catalogue, headings })
+    }
+
+    /// Remarks on a first line that looks like an entry, and on entries that look like none.
+    fn remark(&mut self, cells: &[String], lines: &[&Line]) {
+        if let Some(cell) = cells.iter().find(|cell| number_of(cell).is_some()) {
+            self.remarks.push(format!("{cell} is taken for a column's name: the first line names the columns"));
+        }
+        let blank: Vec<_> = lines.iter().filter(|line| line.cells.iter().all(Vec::is_empty)).collect();
+        if let [first, ..] = blank.as_slice() {
+            let (one, more) = ("entry has no value at all, in line", "entries have no value at all, the first in line");
+            self.remarks.push(format!("{} {}", counted(blank.len(), one, more), first.number));
+        }
     }
 
     fn fault(&mut self, line: usize, cell: Option<Cell>, what: String) {
@@ -87,9 +103,14 @@ impl Noticed {
         for (place, what) in name_faults(&cells) {
             self.unnamed(first, place, what);
         }
-        if let Some((_, option)) = SEPARATORS.into_iter().find(|(sign, _)| is_parted_by(*sign, separator, first, rest))
+        if let Some((_, option)) =
+            SEPARATORS.into_iter().find(|(sign, _)| is_separated_by(*sign, separator, first, rest))
         {
-            self.unnamed(first, 0, format!("one name only; if {option} parts the values, say --separator {option}"));
+            self.unnamed(
+                first,
+                0,
+                format!("one name only; if {option} separates the values, say --separator {option}"),
+            );
         }
         let columns: Vec<usize> = (0..cells.len()).filter(|&place| !marks(&cells[place])).collect();
         for &place in columns.iter().skip(MAX_COLUMNS) {
@@ -156,7 +177,8 @@ impl Noticed {
     fn number(&mut self, column: &Cells, line: usize, value: &str) -> Option<u32> {
         let number = number_of(value);
         if number.is_none() {
-            let what = format!("not a number; write digits alone, no leading zero, at most {MAX_NUMBER}");
+            let most = grouped(MAX_NUMBER as usize);
+            let what = format!("not a number; write digits alone, no leading zero, at most {most}");
             self.unfit(column, line, value, what);
         }
         number
@@ -166,10 +188,12 @@ impl Noticed {
     fn text(&mut self, column: &Cells, line: usize, value: &str) -> Option<Vec<u8>> {
         let letters = value.chars().count();
         if letters > MAX_TEXT {
-            self.unfit(column, line, value, format!("{letters} letters; a text has at most {MAX_TEXT}"));
+            self.unfit(column, line, value, format!("{letters} letters; a text has at most {MAX_TEXT}, so shorten it"));
         }
-        if let Some(letter) = value.chars().find(|&letter| u8::try_from(letter).is_err()) {
-            let what = format!("{letter} (U+{:04X}) is not in ISO 8859-1; write it otherwise", u32::from(letter));
+        let outside = value.chars().filter(|&letter| u8::try_from(letter).is_err());
+        let outside: Vec<String> = outside.map(|letter| format!("{letter} (U+{:04X})", u32::from(letter))).collect();
+        if !outside.is_empty() {
+            let what = format!("not in ISO 8859-1: {}; use other letters", outside.join(", "));
             self.unfit(column, line, value, what);
         }
         value.chars().map(|letter| u8::try_from(letter).ok()).collect()
@@ -206,11 +230,11 @@ impl Noticed {
 
 const NOT_UTF_8: &str = "not UTF-8; save the file as \"CSV UTF-8\"";
 
-/// Signs that often part values, and how they are named on the command line.
+/// Signs that often separate values, and how they are named on the command line.
 const SEPARATORS: [(u8, &str); 4] = [(b',', "','"), (b';', "';'"), (b'\t', "tab"), (b'|', "'|'")];
 
-/// Has every line one cell, with this sign in it, where another is said to part the values?
-fn is_parted_by(sign: u8, separator: u8, first: &Line, rest: &[Line]) -> bool {
+/// Has every line one cell, with this sign in it, where another is said to separate the values?
+fn is_separated_by(sign: u8, separator: u8, first: &Line, rest: &[Line]) -> bool {
     let has_sign = |line: &Line| line.cells.len() == 1 && line.cells[0].contains(&sign);
     sign != separator && has_sign(first) && rest.iter().all(has_sign)
 }
@@ -221,8 +245,11 @@ fn note(column: &Cells, no_number: Option<&(usize, &str)>) -> Option<String> {
     let filled: Vec<&(usize, &str)> = column.values.iter().filter(|(_, value)| !value.is_empty()).collect();
     let numbers = filled.iter().filter(|(_, value)| number_of(value).is_some()).count();
     if let Some((line, value)) = no_number.filter(|_| 2 * numbers >= filled.len()) {
-        return Some(format!("line {line} has {}, which is no number", quoted(value)));
+        return Some(format!(
+            "line {line} has {}, which is no number; with digits alone it would hold numbers",
+            quoted(value)
+        ));
     }
     let (line, value) = filled.into_iter().find(|(_, value)| value.trim() != *value)?;
-    Some(format!("line {line} has {}, with a space before or after", quoted(value)))
+    Some(format!("line {line} has {}, with a space before or after; a search takes it for a letter", quoted(value)))
 }

@@ -43,6 +43,16 @@ pub fn counted(number: usize, one: &str, more: &str) -> String {
     format!("{number} {}", if number == 1 { one } else { more })
 }
 
+/// A number in groups of three digits, as the pages write it.
+pub fn grouped(number: usize) -> String {
+    let digits = number.to_string();
+    let place = |(at, digit): (usize, char)| {
+        let comma = at > 0 && (digits.len() - at) % 3 == 0;
+        comma.then_some(',').into_iter().chain([digit])
+    };
+    digits.chars().enumerate().flat_map(place).collect()
+}
+
 /// A value as it may go to a terminal: of what nobody sees, control characters above all, a backslash and the number.
 pub fn shown(text: &str) -> String {
     text.chars().map(|letter| if is_unseen(letter) { numbered(letter) } else { letter.to_string() }).collect()

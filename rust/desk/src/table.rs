@@ -53,15 +53,16 @@ pub fn read_lines(bytes: &[u8], separator: u8) -> (Vec<Line>, Vec<Fault>) {
         csv::ReaderBuilder::new().has_headers(false).flexible(true).delimiter(separator).from_reader(bytes);
     let mut place =
         Place { bytes, at: if bytes.starts_with(BYTE_ORDER_MARK) { BYTE_ORDER_MARK.len() } else { 0 }, line: 1 };
-    let (mut lines, mut faults) = (Vec::new(), Vec::new());
+    let (mut lines, mut faults, mut empty) = (Vec::new(), Vec::new(), Vec::new());
     let mut record = csv::ByteRecord::new();
     loop {
         let more = reader.read_byte_record(&mut record).expect("memory can always be read");
         while place.at_line_end() {
-            faults.push(Fault { line: place.line, cell: None, what: EMPTY_LINE.to_owned() });
+            empty.push(place.line);
             place.pass_line_end();
         }
         if !more {
+            faults.extend(empty.into_iter().map(|line| empty_line(line, lines.first())));
             return (lines, faults);
         }
         let end = usize::try_from(reader.position().byte()).expect("a place in memory");
@@ -73,7 +74,16 @@ pub fn read_lines(bytes: &[u8], separator: u8) -> (Vec<Line>, Vec<Fault>) {
     }
 }
 
-const EMPTY_LINE: &str = "an empty line; remove it (the blank value of a file of one column is \"\")";
+/// The fault of an empty line. In a file of one column it may be meant for a blank.
+fn empty_line(line: usize, first: Option<&Line>) -> Fault {
+    let what = match first {
+        Some(first) if first.cells.len() == 1 => {
+            "an empty line; write \"\" for a blank value, or remove it if it is no entry"
+        }
+        _ => "an empty line; remove it",
+    };
+    Fault { line, cell: None, what: what.to_owned() }
+}
 
 const BAD_QUOTES: &str = "a quote is not closed, or letters follow a closing quote; a value in quotes begins and ends with one, \
                           and a quote inside is doubled";

@@ -274,7 +274,7 @@ entry    c0  c1
 #[test]
 fn withdrawn_entries_for_people() {
     let room = imported("year,parish,withdrawn\n1701,Ash,x\n1822,ASHBY,\n,,\n");
-    let expected = r#"1 of 3 entries found, 1 withdrawn
+    let expected = r#"1 of 3 entries found (1 is withdrawn)
 
 entry  year  parish
     2
@@ -295,7 +295,7 @@ fn nothing_found() {
     let expected = "0 of 3 entries found\n\n3 looks instead of 3\n  condition 0  3  year in 1..2\n";
     assert_eq!(parish().run(&["ask", "parish", "year in 1..2"]).done(), expected);
     let room = imported("year,withdrawn\n1701,yes\n");
-    let expected = "0 of 1 entry found, 1 withdrawn\n\n0 looks instead of 0\n  condition 0  0  year in 1..2\n";
+    let expected = "0 of 1 entry found (1 is withdrawn)\n\n0 looks instead of 0\n  condition 0  0  year in 1..2\n";
     assert_eq!(room.run(&["ask", "parish", "year in 1..2"]).done(), expected);
     let said = imported("year\n").run(&["ask", "parish", "year blank", "--json"]).done();
     let expected = concat!(
@@ -317,7 +317,11 @@ fn random_questions_for_people() {
         let lines: Vec<&str> = said.lines().collect();
         let label = format!("seed {seed}, {asked:?}:\n{said}");
         let (entries, count) = (asked.catalogue.entries, asked.question.conditions.len());
-        let withdrawn = if present < entries { format!(", {} withdrawn", entries - present) } else { String::new() };
+        let withdrawn = match entries - present {
+            0 => String::new(),
+            1 => " (1 is withdrawn)".to_owned(),
+            more => format!(" ({more} are withdrawn)"),
+        };
         let noun = if entries == 1 { "entry" } else { "entries" };
         assert_eq!(lines[0], format!("{} of {entries} {noun} found{withdrawn}", found.found_count()), "{label}");
         let listed: Vec<usize> = (0..entries).filter(|&entry| found.listed[entry]).collect();

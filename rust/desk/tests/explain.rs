@@ -18,7 +18,7 @@ use searchroom::Refusal;
 #[test]
 fn parish_of_the_specification() {
     let expected = r#"entry 1: year 1822, parish ASHBY
-order 0, 1, 2
+running order 0, 1, 2
 
 group 0, any of: settled, no
   group 1, all of: settled, no
@@ -35,7 +35,7 @@ not listed: 2 looks, 1 passed
 fn parish_at_the_other_entries() {
     let room = parish();
     let expected = r#"entry 0: year 1701, parish Ash
-order 0, 1, 2
+running order 0, 1, 2
 
 group 0, any of: settled, yes
   group 1, all of: settled, yes
@@ -47,7 +47,7 @@ listed: 2 looks, 1 passed
 "#;
     assert_eq!(room.run(&["explain", "parish", QUESTION, "0"]).done(), expected);
     let expected = r#"entry 2: year blank, parish blank
-order 2, 1, 0
+running order 2, 1, 0
 
 group 0, any of: settled, yes
   group 1, all of: not settled
@@ -66,7 +66,7 @@ listed: 1 look, 2 passed
 fn blank_answers() {
     let said = parish().run(&["explain", "parish", "not year in 1..2", "2"]).done();
     let lines: Vec<&str> = said.lines().collect();
-    assert_eq!(lines[..3], ["entry 2: year blank, parish blank", "order 0", ""]);
+    assert_eq!(lines[..3], ["entry 2: year blank, parish blank", "running order 0", ""]);
     assert_eq!(
         lines[3].split_whitespace().collect::<Vec<_>>().join(" "),
         "condition 0 not year in 1..2 looked at: blank"
@@ -81,7 +81,7 @@ fn blank_answers() {
 fn withdrawn_entry() {
     let room = imported("year,parish,withdrawn\n1701,Ash,x\n1822,ASHBY,\n,,\n");
     let expected = r#"entry 0: year 1701, parish Ash
-order 0, 1, 2
+running order 0, 1, 2
 
 group 0, any of: not settled
   group 1, all of: not settled
@@ -254,7 +254,7 @@ fn compare(label: &str, explained: &Explained, said: &str) {
     let (mut lines, asked) = (Vec::new(), explained.asked);
     explained.lines(&asked.question.tree, 0, &mut 0, &mut lines);
     let order: Vec<String> = asked.order.iter().map(u8::to_string).collect();
-    let head = [explained.head(), format!("order {}", order.join(", ")), String::new()];
+    let head = [explained.head(), format!("running order {}", order.join(", ")), String::new()];
     assert_eq!(said_lines[..3], head, "{label}");
     let tail = [String::new(), explained.last()];
     assert_eq!(said_lines[3 + lines.len()..], tail, "{label}:\n{said}");

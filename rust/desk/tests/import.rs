@@ -70,11 +70,10 @@ fn twenty_three_letters_and_twenty_four() {
         let table = |letters| one_column("parish", [letter.repeat(letters)].into_iter());
         assert_eq!(columns(table(23)).0, [texts(&[&letter.repeat(23)])]);
         let place = format!("deeds.csv, line 2, column 1 (parish), {:?}", letter.repeat(24));
-        assert_eq!(expect_faults(table(24), &[&place]), ["24 letters; a text has at most 23"]);
+        assert_eq!(expect_faults(table(24), &[&place]), ["24 letters; a text has at most 23, so shorten it"]);
     }
     let line = "a,b,parish\n".to_owned() + &"1,2,x\n".repeat(10) + "1,2,Ashby-de-la-Zouch Saint Helen\n";
-    let expected =
-        r#"deeds.csv, line 12, column 3 (parish), "Ashby-de-la-Zouch Saint Helen": 29 letters; a text has at most 23"#;
+    let expected = r#"deeds.csv, line 12, column 3 (parish), "Ashby-de-la-Zouch Saint Helen": 29 letters; a text has at most 23, so shorten it"#;
     assert_eq!(faults(line), [expected]);
 }
 
@@ -85,8 +84,8 @@ fn two_thousand_and_forty_eight_entries_and_one_more() {
     assert_eq!(catalogue, Catalogue::unmarked(2_048, vec![Column::Numbers((0..2_048).collect())]));
     assert!(said.starts_with("2048 entries"), "{said}");
     let lines = faults(table(2_049));
-    assert!(lines.len() == 1 && lines[0].starts_with("deeds.csv, line 2050: 2049 entries"), "{lines:?}");
-    assert!(lines[0].contains("at most 2048"), "{lines:?}");
+    assert!(lines.len() == 1 && lines[0].starts_with("deeds.csv, line 2050: 2,049 entries"), "{lines:?}");
+    assert!(lines[0].contains("at most 2,048"), "{lines:?}");
     assert_eq!(faults(table(5_000)).len(), 1, "one fault, however many entries");
 }
 
@@ -134,7 +133,7 @@ fn all_faults_are_told() {
         r#"deeds.csv, line 9, column 1 (year), "01""#,
     ];
     let why = expect_faults(table, &places);
-    assert_eq!(why[1], "29 letters; a text has at most 23");
+    assert_eq!(why[1], "29 letters; a text has at most 23, so shorten it");
     assert_eq!(why[3], "3 values; the first line has 4; an empty value keeps its separator");
     assert_eq!(why[4], "5 values; the first line has 4; a value that holds the separator stands in quotes");
     let one = expect_faults("a,b,c\n1\n", &["deeds.csv, line 2"]);
@@ -329,6 +328,7 @@ fn what_was_imported_is_told() {
         "3 entries, 1 of them withdrawn, in 2 columns: deeds/catalogue.bin",
         "c0 year numbers, 2 blank",
         "c1 parish texts, 1 blank",
+        "1 entry has no value at all, in line 3",
     ];
     assert_eq!(lines, expected);
     let (_, said, _) = import("date of deed\n1701\n");
@@ -354,7 +354,8 @@ fn nearly_a_column_of_numbers() {
     let note = |csv: &str| {
         import(csv).1.lines().nth(1).and_then(|line| line.split_once(" (")).map(|(_, note)| note.to_owned())
     };
-    let told = Some(r#"line 3 has "12a", which is no number)"#.to_owned());
+    let told = r#"line 3 has "12a", which is no number; with digits alone it would hold numbers)"#;
+    let told = Some(told.to_owned());
     assert_eq!(note("shelf\n1\n12a\n2\n"), told);
     assert_eq!(note("shelf\n1\n12a\n"), told, "half of the values are numbers");
     assert_eq!(note("shelf\n\"\"\n12a\n2\n"), told, "blanks do not count");
@@ -460,9 +461,20 @@ fn letters_behind_a_closing_quote() {
 fn spaces_around_a_value_are_told() {
     let (_, said, _) = import("year, parish\n1701,Ash\n1702, Ashby\n");
     assert!(
-        said.ends_with("c1  parish  texts, 0 blank (line 3 has \" Ashby\", with a space before or after)\n"),
+        said.ends_with("c1  parish  texts, 0 blank (line 3 has \" Ashby\", with a space before or after; a search takes it for a letter)\n"),
         "{said}"
     );
     let (_, said, _) = import("year,parish\n1701,Ash by\n");
     assert!(!said.contains('('), "{said}");
+}
+
+/// What may surprise in a file as a whole is told: lines without a value, and a first line that looks like an entry.
+#[test]
+fn remarks() {
+    let (_, said, _) = import("year,parish\n1701,Ash\n,\n,\n");
+    assert!(said.ends_with("\n2 entries have no value at all, the first in line 3\n"), "{said}");
+    let (_, said, _) = import("1701,Ash\n1702,Ashby\n");
+    assert!(said.ends_with("\n1701 is taken for a column's name: the first line names the columns\n"), "{said}");
+    let (_, said, _) = import("year,withdrawn\n1701,no\n,no\n");
+    assert_eq!(said, "2 entries, 0 of them withdrawn, in 1 column: deeds/catalogue.bin\nc0  year  numbers, 1 blank\n");
 }

@@ -101,7 +101,7 @@ fn asked_while_it_is_imported() {
 fn import_that_was_cut_off() {
     let room = parish();
     fs::rename(room.path("parish/columns.csv"), room.path("parish/columns.csv.new")).unwrap();
-    let left_over = "parish/columns.csv.new stands there";
+    let left_over = "parish/columns.csv.new is already there";
     assert!(room.run(&["ask", "parish", "c0 blank"]).failed(1).contains(left_over));
     fs::remove_file(room.path("parish/columns.csv.new")).unwrap();
     assert!(room.run(&["ask", "parish", "c0 blank"]).done().starts_with("1 of 3 entries found\n"));

@@ -251,10 +251,23 @@ fn folders_that_cannot_be_exported() {
     assert!(said.starts_with("searchroom: ") && said.contains("deeds/catalogue.bin"), "{said}");
     room.set("deeds.csv", "a,withdrawn\n1,x\n");
     room.run(&["import", "deeds.csv", "deeds"]).done();
-    for columns in ["a,number", "a,text\nwithdrawn,x/", "a,number\nb,number\nwithdrawn,x/", "a,number\nb,text", ""] {
+    for columns in ["a,text", "a,text\nwithdrawn,x/", "a,number\nb,number\nwithdrawn,x/", "a,number\nb,text", ""] {
         room.set("deeds/columns.csv", format!("header,values\n{columns}\n"));
         let said = room.run(&["export", "deeds"]).failed(1);
         assert!(said.starts_with("searchroom: ") && said.contains("deeds/columns.csv"), "{columns:?}: {said}");
         assert!(said.contains("import"), "{columns:?}: {said}");
     }
+}
+
+/// A mark that another program adds to an imported catalogue: the names stay, and the export has it as a last column.
+#[test]
+fn mark_that_is_added_later() {
+    let room = Room::new();
+    room.set("deeds.csv", "year,parish\n1701,Ash\n1702,Ashby\n");
+    room.run(&["import", "deeds.csv", "deeds"]).done();
+    let catalogue = fs::read(room.path("deeds/catalogue.bin")).unwrap();
+    room.set("deeds/catalogue.bin", [&catalogue[..], &[87, 0, 1, 0b01]].concat());
+    assert_eq!(room.run(&["export", "deeds"]).done(), "year,parish,withdrawn\n1701,Ash,yes\n1702,Ashby,no\n");
+    let said = room.run(&["ask", "deeds", "not year blank"]).done();
+    assert!(said.starts_with("1 of 2 entries found (1 is withdrawn)\n"), "{said}");
 }

@@ -150,6 +150,19 @@ fn every_refusal_of_the_crates_is_in_the_header_and_in_the_wrapper() {
 }
 
 #[test]
+fn refusals_have_the_same_texts_in_c_and_in_rust() {
+    let numbers = header_constants();
+    let text = |line: &str| {
+        let (name, text) = line.trim().strip_prefix("case SEARCHROOM_")?.split_once(": return \"")?;
+        Some((numbers[name], text.strip_suffix("\";")?.to_string()))
+    };
+    let of_c: BTreeMap<u64, String> = HEADER.lines().filter_map(text).collect();
+    let of_rust = Refusal::ALL.iter().map(|refusal| (refusal.number().into(), refusal.text().to_string()));
+    let accepted = [(0, "accepted".to_string())];
+    assert_eq!(of_c, accepted.into_iter().chain(of_rust).collect());
+}
+
+#[test]
 fn example_of_a_typed_question_is_read_into_its_bytes() {
     let (before, after) = HEADER.split_once("\n * is read into the 32 bytes\n").expect("the example");
     let text = before.lines().last().unwrap().trim_start_matches([' ', '*']);
