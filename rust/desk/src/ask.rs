@@ -1,7 +1,7 @@
 //! `searchroom ask`: the entries found, and the looks.
 
 use std::io::Write;
-use std::path::PathBuf;
+use std::path::Path;
 
 use searchroom::{Tally, copy_of};
 use serde_json::{Map, Value, json};
@@ -10,69 +10,73 @@ use crate::catalogue::Column;
 use crate::failure::Failure;
 use crate::folder::{Folder, output};
 use crate::found::{Found, run};
-use crate::question::Question;
-use crate::replace::Replacement;
+use crate::replace::{Replacement, Target};
+use crate::request::Request;
 use crate::show::{Paint, shown};
 use crate::words::Ask;
 
 pub fn ask(ask: &Ask, paint: Paint, out: &mut dyn Write) -> Result<(), Failure> {
-    let folder = Folder::open(&ask.asked.folder)?;
-    let question = Question::read(&folder, &ask.asked.question)?;
+    let request = Request::read(&ask.asked)?;
     if ask.strict {
-        return Ok(writeln!(out, "{}", question.strict)?);
+        return Ok(writeln!(out, "{}", request.question.strict)?);
     }
-    let order = ask.asked.order.clone().unwrap_or_else(|| question.standing_order());
-    let answered = Answered::make(ask, folder, question, order)?;
-    if ask.json { Ok(writeln!(out, "{}", answered.json())?) } else { answered.print(paint, out) }
+    let answer = Answer::make(ask, &request)?;
+    if ask.json { Ok(writeln!(out, "{}", answer.json())?) } else { answer.print(paint, out) }
 }
 
-/// A question that was run and registered.
-struct Answered<'a> {
+/// What came of a question that was run and registered.
+struct Answer<'a> {
     ask: &'a Ask,
-    folder: Folder,
-    question: Question,
-    order: Vec<u8>,
+    request: &'a Request,
     found: Found,
-    /// The reader's number in the tally's file, and whether the file is new.
-    tally: Option<(u64, bool)>,
+    /// What the tally's file says, if one is kept.
+    tally: Option<Kept>,
     /// The bytes of the copy that was written.
     copied: Option<usize>,
 }
 
-impl<'a> Answered<'a> {
+struct Kept {
+    /// The reader's number.
+    number: u64,
+    /// There was no such file.
+    is_new: bool,
+}
+
+impl<'a> Answer<'a> {
     /// Runs the question. The files are put in their places when nothing can refuse any more.
-    fn make(ask: &'a Ask, folder: Folder, question: Question, order: Vec<u8>) -> Result<Answered<'a>, Failure> {
+    fn make(ask: &'a Ask, request: &'a Request) -> Result<Answer<'a>, Failure> {
+        let Request { folder, question, order } = request;
         let (tally_file, copy_file) = outputs(ask)?;
-        let mut kept = tally_file.as_deref().map(Replacement::begin).transpose()?;
-        let before = kept.as_ref().map(Replacement::read).transpose()?.flatten();
+        let mut new_tally = tally_file.map(Replacement::begin).transpose()?;
+        let before = new_tally.as_ref().map(Replacement::read).transpose()?.flatten();
         let is_new = before.is_none();
         let mut tally = before.unwrap_or_else(|| Tally::default().bytes().to_vec());
-        let found = run(&folder, &question, &order, ask.reader, &mut tally)?;
-        let mut copy = copy_file.as_deref().map(Replacement::begin).transpose()?;
+        let found = run(folder, question, order, ask.reader, &mut tally)?;
+        let mut new_copy = copy_file.map(Replacement::begin).transpose()?;
         let mut copied = None;
-        if let Some(copy) = &mut copy {
-            let bytes = copy_of(&folder.bytes, &question.bytes, &order)?;
-            copy.write(&bytes)?;
+        if let Some(new_copy) = &mut new_copy {
+            let bytes = copy_of(&folder.bytes, &question.bytes, order)?;
+            new_copy.write(&bytes)?;
             copied = Some(bytes.len());
         }
-        if let Some(kept) = &mut kept {
-            kept.write(&tally)?;
+        if let Some(new_tally) = &mut new_tally {
+            new_tally.write(&tally)?;
         }
-        let number = Tally::try_from(tally.as_slice())?.of(ask.reader).unwrap_or_default();
-        let tally = kept.is_some().then_some((number, is_new));
-        for file in [kept, copy].into_iter().flatten() {
+        let number = Tally::try_from(tally.as_slice())?.of(ask.reader).expect("the engine took this reader");
+        let tally = new_tally.is_some().then_some(Kept { number, is_new });
+        for file in [new_tally, new_copy].into_iter().flatten() {
             file.finish()?;
         }
-        Ok(Answered { ask, folder, question, order, found, tally, copied })
+        Ok(Answer { ask, request, found, tally, copied })
     }
 
     fn json(&self) -> Value {
-        let Answered { folder, question, found, .. } = self;
+        let Request { folder, question, order } = self.request;
         let names = folder.names();
-        let condition = |(number, looks): (usize, &Vec<usize>)| {
+        let condition = |(number, looks): (usize, &usize)| {
             let condition = &question.conditions()[number];
             let (text, strict) = (condition.shown(&names), condition.strict());
-            json!({"condition": number, "text": text, "strict": strict, "looks": looks.len()})
+            json!({"condition": number, "text": text, "strict": strict, "looks": looks})
         };
         let value = |column: &Column, entry: usize| match column {
             Column::Numbers(numbers) => json!(numbers[entry]),
@@ -86,30 +90,32 @@ impl<'a> Answered<'a> {
         let mut answer = json!({
             "entries": folder.catalogue.entries,
             "withdrawn": folder.catalogue.withdrawn(),
-            "found": found.counts.found,
-            "looks": found.counts.looks,
-            "order": self.order,
-            "conditions": found.looks.iter().enumerate().map(condition).collect::<Vec<_>>(),
-            "listed": found.listed.iter().map(listed).collect::<Vec<_>>(),
+            "found": self.found.counts.found,
+            "looks": self.found.counts.looks,
+            "order": order,
+            "conditions": self.found.looks.iter().enumerate().map(condition).collect::<Vec<_>>(),
+            "listed": self.found.listed.iter().map(listed).collect::<Vec<_>>(),
             "reader": self.ask.reader,
         });
-        if let Some((number, _)) = self.tally {
+        if let Some(Kept { number, is_new }) = &self.tally {
             answer["tally"] = json!(number);
+            answer["tally_is_new"] = json!(is_new);
         }
         answer
     }
 
     fn print(&self, paint: Paint, out: &mut dyn Write) -> Result<(), Failure> {
-        let Answered { ask, folder, found, .. } = self;
-        writeln!(out, "{}", paint.bold(&found.listing(&folder.catalogue)))?;
+        let Answer { ask, found, .. } = self;
+        let Folder { catalogue, .. } = &self.request.folder;
+        writeln!(out, "{}", paint.bold(&found.listing(catalogue)))?;
         if !found.listed.is_empty() {
             writeln!(out)?;
-            print_listed(folder, &found.listed, paint, out)?;
+            print_listed(&self.request.folder, &found.listed, paint, out)?;
         }
         writeln!(out)?;
         self.print_looks(paint, out)?;
-        if let (Some((number, is_new)), Some(file)) = (self.tally, &ask.tally) {
-            let new = if is_new { format!(" ({} is new)", file.display()) } else { String::new() };
+        if let (Some(Kept { number, is_new }), Some(file)) = (&self.tally, &ask.tally) {
+            let new = if *is_new { format!(" ({} is new)", file.display()) } else { String::new() };
             writeln!(out, "tally of reader {}: {number}{new}", ask.reader)?;
         }
         if let (Some(bytes), Some(file)) = (self.copied, &ask.copy) {
@@ -119,55 +125,67 @@ impl<'a> Answered<'a> {
     }
 
     fn print_looks(&self, paint: Paint, out: &mut dyn Write) -> Result<(), Failure> {
-        let Answered { folder, question, found, .. } = self;
-        writeln!(out, "{}", paint.bold(&found.looking(&folder.catalogue)))?;
+        let Request { folder, question, .. } = self.request;
+        let looks = &self.found.looks;
+        writeln!(out, "{}", paint.bold(&self.found.looking(&folder.catalogue)))?;
         let names = folder.names();
-        let wide = digits(found.looks.iter().map(Vec::len).max());
-        let widest = digits(found.looks.len().checked_sub(1));
-        for (number, (condition, looks)) in question.conditions().iter().zip(&found.looks).enumerate() {
-            writeln!(out, "  condition {number:<widest$}  {:>wide$}  {}", looks.len(), condition.shown(&names))?;
+        let digits = |number: usize| number.to_string().len();
+        let number_wide = digits(looks.len() - 1);
+        let looks_wide = digits(looks.iter().copied().max().unwrap_or_default());
+        for (number, condition) in question.conditions().iter().enumerate() {
+            let (looks, text) = (looks[number], condition.shown(&names));
+            writeln!(out, "  condition {number:<number_wide$}  {looks:>looks_wide$}  {text}")?;
         }
         Ok(())
     }
 }
 
 /// The files for the tally and the copy.
-fn outputs(ask: &Ask) -> Result<(Option<PathBuf>, Option<PathBuf>), Failure> {
-    let file = |path: &Option<PathBuf>| path.as_deref().map(|path| output(&ask.asked.folder, path)).transpose();
-    let (tally, copy) = (file(&ask.tally)?, file(&ask.copy)?);
-    if tally.is_some() && tally == copy {
-        return Err(Failure::Desk("--tally and --copy name the same file: name two".to_owned()));
+fn outputs(ask: &Ask) -> Result<(Option<Target>, Option<Target>), Failure> {
+    let file = |path: Option<&Path>| path.map(|path| output(&ask.asked.folder, path)).transpose();
+    let (tally, copy) = (file(ask.tally.as_deref())?, file(ask.copy.as_deref())?);
+    match (&tally, &copy) {
+        (Some(tally), Some(copy)) if tally.is_same(copy) => {
+            Err(Failure::Desk("--tally and --copy name the same file: name two".to_owned()))
+        }
+        _ => Ok((tally, copy)),
     }
-    Ok((tally, copy))
 }
 
-/// The listed entries with their values, as a table. Numbers stand to the right.
-fn print_listed(folder: &Folder, listed: &[usize], paint: Paint, out: &mut dyn Write) -> Result<(), Failure> {
-    let mut columns = vec![("entry".to_owned(), true, listed.iter().map(usize::to_string).collect::<Vec<_>>())];
-    for (name, column) in folder.names().into_iter().zip(&folder.catalogue.columns) {
-        let values = listed.iter().map(|&entry| shown(&column.value(entry).unwrap_or_default()));
-        columns.push((shown(name), matches!(column, Column::Numbers(_)), values.collect()));
+/// A column of the table that people are shown.
+struct Shown {
+    name: String,
+    values: Vec<String>,
+    /// Numbers stand to the right.
+    to_the_right: bool,
+    wide: usize,
+}
+
+impl Shown {
+    fn new(name: String, values: Vec<String>, to_the_right: bool) -> Shown {
+        let wide = values.iter().chain([&name]).map(|text| text.chars().count()).max().unwrap_or_default();
+        Shown { name, values, to_the_right, wide }
     }
-    let letters = |text: &String| text.chars().count();
-    let widths: Vec<usize> = columns
-        .iter()
-        .map(|(name, _, values)| values.iter().chain([name]).map(letters).max().unwrap_or_default())
-        .collect();
-    let line = |cell: &dyn Fn(usize) -> String| {
-        let cells = columns.iter().zip(&widths).enumerate().map(|(place, ((_, to_the_right, _), &wide))| {
-            let cell = cell(place);
-            if *to_the_right { format!("{cell:>wide$}") } else { format!("{cell:<wide$}") }
-        });
-        cells.collect::<Vec<_>>().join("  ").trim_end().to_owned()
-    };
-    writeln!(out, "{}", paint.dim(&line(&|place| columns[place].0.clone())))?;
+
+    fn cell(&self, text: &str) -> String {
+        let wide = self.wide;
+        if self.to_the_right { format!("{text:>wide$}") } else { format!("{text:<wide$}") }
+    }
+}
+
+/// The listed entries with their values, as a table.
+fn print_listed(folder: &Folder, listed: &[usize], paint: Paint, out: &mut dyn Write) -> Result<(), Failure> {
+    let entries = listed.iter().map(usize::to_string).collect();
+    let mut columns = vec![Shown::new("entry".to_owned(), entries, true)];
+    for (name, column) in folder.names().into_iter().zip(&folder.catalogue.columns) {
+        let values = listed.iter().map(|&entry| shown(&column.value(entry).unwrap_or_default())).collect();
+        columns.push(Shown::new(shown(name), values, matches!(column, Column::Numbers(_))));
+    }
+    let line = |cells: Vec<String>| cells.join("  ").trim_end().to_owned();
+    let names = columns.iter().map(|column| column.cell(&column.name)).collect();
+    writeln!(out, "{}", paint.dim(&line(names)))?;
     for row in 0..listed.len() {
-        writeln!(out, "{}", line(&|place| columns[place].2[row].clone()))?;
+        writeln!(out, "{}", line(columns.iter().map(|column| column.cell(&column.values[row])).collect()))?;
     }
     Ok(())
-}
-
-/// How many digits a number has.
-fn digits(number: Option<usize>) -> usize {
-    number.unwrap_or_default().to_string().len()
 }

@@ -64,7 +64,8 @@ impl Catalogue {
     /// The engine's refusal of the bytes.
     pub fn read(bytes: &[u8]) -> Result<Catalogue, Refusal> {
         let size = check_catalogue(bytes)?;
-        let mut rest = &bytes[HEAD + HEAD..];
+        let mut rest = bytes;
+        take_field(&mut rest);
         let columns = (0..size.columns).map(|_| read_column(&mut rest)).collect();
         let entries = usize::from(size.entries);
         let mark = (!rest.is_empty()).then(|| {

@@ -10,21 +10,20 @@ use crate::found::{Found, run_without_tally};
 use crate::notation::Condition;
 use crate::question::{Group, Question};
 use crate::replace::replace;
+use crate::request::Request;
 use crate::show::counted;
 use crate::words::Draw;
 
 pub fn draw(draw: &Draw, out: &mut dyn Write) -> Result<(), Failure> {
-    let folder = Folder::open(&draw.asked.folder)?;
-    let question = Question::read(&folder, &draw.asked.question)?;
-    let order = draw.asked.order.clone().unwrap_or_else(|| question.standing_order());
-    let found = run_without_tally(&folder, &question, &order)?;
-    let picture = Picture::new(&folder, &question, &order, &found).svg();
+    let request = Request::read(&draw.asked)?;
+    let found = run_without_tally(&request.folder, &request.question, &request.order)?;
+    let picture = Picture::new(&request, &found).svg();
     if draw.output == Path::new("-") {
         return Ok(out.write_all(picture.as_bytes())?);
     }
-    replace(&output(&draw.asked.folder, &draw.output)?, picture.as_bytes())?;
-    let conditions = counted(question.conditions().len(), "condition", "conditions");
-    let groups = counted(question.groups.len(), "group", "groups");
+    replace(output(&draw.asked.folder, &draw.output)?, picture.as_bytes())?;
+    let conditions = counted(request.question.conditions().len(), "condition", "conditions");
+    let groups = counted(request.question.groups.len(), "group", "groups");
     Ok(writeln!(out, "{}: {conditions}, {groups}", draw.output.display())?)
 }
 
@@ -74,7 +73,8 @@ struct Picture<'a> {
 }
 
 impl<'a> Picture<'a> {
-    fn new(folder: &'a Folder, question: &'a Question, order: &'a [u8], found: &'a Found) -> Picture<'a> {
+    fn new(request: &'a Request, found: &'a Found) -> Picture<'a> {
+        let Request { folder, question, order } = request;
         let texts: Vec<String> = question.conditions().iter().map(|condition| shortened(folder, condition)).collect();
         let widest = texts.iter().map(|text| text.chars().count()).max();
         let depth = (0..question.conditions().len()).map(|number| question.around(number).count()).max();
@@ -140,9 +140,10 @@ impl<'a> Picture<'a> {
         let _ = writeln!(svg, "<g><title>{}</title>", xml(&whole));
         text(svg, "small", self.conditions_at, base, &number.to_string());
         text(svg, "condition", self.conditions_at + NUMBER, base, &self.texts[number]);
-        let turn = self.order.iter().position(|&other| usize::from(other) == number).map_or(0, |turn| turn + 1);
+        let turn = self.order.iter().position(|&other| usize::from(other) == number);
+        let turn = turn.expect("an accepted order holds every condition") + 1;
         text(svg, "small right", self.turn_at, base, &turn.to_string());
-        let (looks, entries) = (self.found.looks[number].len(), self.folder.catalogue.present());
+        let (looks, entries) = (self.found.looks[number], self.folder.catalogue.present());
         for (class, width) in [("track", BAR), ("looks", BAR * looks as f64 / entries.max(1) as f64)] {
             let (x, y, height) = (self.bar_at, y + 6.0, ROW - 12.0);
             let _ = writeln!(

@@ -5,18 +5,18 @@ use std::io::Write;
 
 use searchroom::{Answer, copy_of, looks, outcome};
 
+use crate::catalogue::Column;
 use crate::failure::Failure;
 use crate::folder::Folder;
 use crate::found::run_without_tally;
 use crate::notation::{Kind, Part};
 use crate::question::Question;
+use crate::request::Request;
 use crate::show::{Paint, counted, shown};
 use crate::words::Explain;
 
 pub fn explain(explain: &Explain, paint: Paint, out: &mut dyn Write) -> Result<(), Failure> {
-    let folder = Folder::open(&explain.asked.folder)?;
-    let question = Question::read(&folder, &explain.asked.question)?;
-    let order = explain.asked.order.clone().unwrap_or_else(|| question.standing_order());
+    let Request { folder, question, order } = Request::read(&explain.asked)?;
     let entry = existing(&folder, &question, explain.entry)?;
     let found = run_without_tally(&folder, &question, &order)?;
     let mut answers = vec![None; question.conditions().len()];
@@ -55,7 +55,7 @@ fn existing(folder: &Folder, question: &Question, entry: u64) -> Result<usize, F
 
 /// The entry's values, and the running order.
 fn print_entry(folder: &Folder, entry: usize, order: &[u8], out: &mut dyn Write) -> Result<(), Failure> {
-    let value = |(name, column): (&str, &crate::catalogue::Column)| {
+    let value = |(name, column): (&str, &Column)| {
         format!("{} {}", shown(name), column.value(entry).map_or("blank".to_owned(), |value| shown(&value)))
     };
     let values: Vec<String> = folder.names().into_iter().zip(&folder.catalogue.columns).map(value).collect();

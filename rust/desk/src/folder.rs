@@ -1,13 +1,15 @@
 //! A folder of the desk's: `catalogue.bin`, and `columns.csv`, which keeps the headings of the file it was imported from.
 
-use std::fs;
-use std::io;
+use std::fs::{self, File};
+use std::io::{self, Read};
+use std::os::unix::fs::MetadataExt;
 use std::path::{Path, PathBuf};
 
 use crate::catalogue::Catalogue;
+use crate::columns;
 use crate::failure::Failure;
-use crate::heading::{self, Heading, Holds};
-use crate::replace::{Replacement, beside, left_over, patiently, read_if_there, target};
+use crate::heading::Heading;
+use crate::replace::{Replacement, Target, beside, left_over, patiently};
 
 pub struct Folder {
     /// The catalogue's bytes, as the engine takes them.
@@ -27,17 +29,15 @@ fn columns_file(folder: &Path) -> PathBuf {
 impl Folder {
     /// Reads a folder. One without `columns.csv` has columns named by their numbers alone.
     pub fn open(folder: &Path) -> Result<Folder, Failure> {
-        if folder.exists() && !folder.is_dir() {
-            return Err(not_a_folder(folder));
-        }
+        refuse_a_file(folder)?;
         let (bytes, columns) = read_both(folder)?;
         let catalogue = Catalogue::read(&bytes).map_err(|refusal| {
             let help = format!("\n  in {}: import the CSV file again", catalogue_file(folder).display());
             Failure::Refused { refusal, help }
         })?;
-        let headings = columns.map_or(Some(heading::unnamed(&catalogue)), |columns| read_headings(&columns));
-        let headings = headings.map(|headings| heading::with_mark(headings, &catalogue));
-        let headings = headings.filter(|headings| heading::fit(headings, &catalogue)).ok_or_else(|| {
+        let headings = columns.map_or(Some(columns::unnamed(&catalogue)), |columns| columns::read(&columns));
+        let headings = headings.map(|headings| columns::with_mark(headings, &catalogue));
+        let headings = headings.filter(|headings| columns::fit(headings, &catalogue)).ok_or_else(|| {
             let file = columns_file(folder).display().to_string();
             Failure::Desk(format!("{file} does not fit catalogue.bin: import the CSV file again, or remove {file}"))
         })?;
@@ -51,22 +51,21 @@ impl Folder {
 
     /// Writes a folder, which is made if it is not there. Files that no import wrote stay.
     pub fn save(&self, folder: &Path) -> Result<(), Failure> {
-        if folder.exists() && !folder.is_dir() {
-            return Err(not_a_folder(folder));
-        }
+        refuse_a_file(folder)?;
         fs::create_dir_all(folder).map_err(|error| Failure::file("make", folder, &error))?;
         let (file, columns) = (catalogue_file(folder), columns_file(folder));
-        let (mut new_catalogue, mut new_columns) = (Replacement::begin(&file)?, Replacement::begin(&columns)?);
+        let mut new_catalogue = Replacement::begin(Target::of(&file)?)?;
+        let mut new_columns = Replacement::begin(Target::of(&columns)?)?;
         let before = new_columns.read()?;
         match &before {
             None if file.exists() => return Err(not_imported(&file, "has no columns.csv beside it")),
-            Some(bytes) if !bytes.starts_with(FIRST_LINE.as_bytes()) => {
-                return Err(not_imported(&columns, "stands there"));
+            Some(bytes) if !bytes.starts_with(columns::FIRST_LINE.as_bytes()) => {
+                return Err(not_imported(&columns, "is not of the form that an import writes"));
             }
             _ => {}
         }
         new_catalogue.write(&self.bytes)?;
-        new_columns.write(&write_headings(&self.headings))?;
+        new_columns.write(&columns::write(&self.headings))?;
         // Between the two steps stand no names, rather than those of another catalogue.
         new_columns.remove()?;
         new_catalogue.finish().inspect_err(|_| {
@@ -77,12 +76,17 @@ impl Folder {
     }
 }
 
-/// The file that a path names for what is written beside a folder's own two files, and not in their place.
-pub fn output(folder: &Path, path: &Path) -> Result<PathBuf, Failure> {
-    let file = target(path)?;
+/// A file for what a run writes: beside the folder's own two files, and not in their place, nor where another file is written
+/// before it is renamed.
+pub fn output(folder: &Path, path: &Path) -> Result<Target, Failure> {
+    let file = Target::of(path)?;
     let own = [catalogue_file(folder), columns_file(folder)];
-    if own.iter().any(|own| target(own).is_ok_and(|own| own == file)) {
+    if own.iter().any(|own| Target::of(own).is_ok_and(|own| own.is_same(&file))) {
         return Err(Failure::Desk(format!("{} is the catalogue's own: name another file", path.display())));
+    }
+    if path.extension().is_some_and(|extension| extension == "new") {
+        let path = path.display();
+        return Err(Failure::Desk(format!("{path}: names in .new are for files being written; name another file")));
     }
     Ok(file)
 }
@@ -90,16 +94,31 @@ pub fn output(folder: &Path, path: &Path) -> Result<PathBuf, Failure> {
 /// The bytes of `catalogue.bin` and `columns.csv`, of one import.
 fn read_both(folder: &Path) -> Result<(Vec<u8>, Option<Vec<u8>>), Failure> {
     let (file, columns) = (catalogue_file(folder), columns_file(folder));
-    let both = patiently(|| {
-        let before = read_if_there(&columns)?;
+    let failed = |error: io::Error| Failure::file("read", &columns, &error);
+    let both = patiently(|_| {
+        let opened = if_there(File::open(&columns)).map_err(failed)?;
         let bytes = read_catalogue(folder, &file)?;
-        // An import that came between has taken the names away, or put others there. It is asked for before the names are
-        // read again: once it is done they are there.
-        let is_going_on = before.is_none() && beside(&columns).exists();
-        let is_one = !is_going_on && before == read_if_there(&columns)?;
-        Ok(is_one.then_some((bytes, before)))
+        let Some(mut opened) = opened else {
+            // An import may be between its two steps. That is asked before the names: once it is done they are there.
+            let is_going_on = beside(&columns).exists();
+            return Ok((!is_going_on && !columns.exists()).then_some((bytes, None)));
+        };
+        let mut names = Vec::new();
+        opened.read_to_end(&mut names).map_err(failed)?;
+        // An import that came between has put another file in its place.
+        let (before, now) = (opened.metadata().map_err(failed)?, if_there(fs::metadata(&columns)).map_err(failed)?);
+        let is_same = now.is_some_and(|now| (now.dev(), now.ino()) == (before.dev(), before.ino()));
+        Ok(is_same.then_some((bytes, Some(names))))
     })?;
     both.ok_or_else(|| left_over(&beside(&columns)))
+}
+
+/// What was asked of a file, if it is there.
+fn if_there<T>(asked: io::Result<T>) -> io::Result<Option<T>> {
+    match asked {
+        Err(error) if error.kind() == io::ErrorKind::NotFound => Ok(None),
+        asked => asked.map(Some),
+    }
 }
 
 fn read_catalogue(folder: &Path, file: &Path) -> Result<Vec<u8>, Failure> {
@@ -112,46 +131,14 @@ fn read_catalogue(folder: &Path, file: &Path) -> Result<Vec<u8>, Failure> {
     })
 }
 
-fn not_a_folder(path: &Path) -> Failure {
-    Failure::Desk(format!("{} is not a folder: name the folder of a catalogue", path.display()))
+fn refuse_a_file(folder: &Path) -> Result<(), Failure> {
+    if folder.exists() && !folder.is_dir() {
+        return Err(Failure::Desk(format!("{} is not a folder: name the folder of a catalogue", folder.display())));
+    }
+    Ok(())
 }
 
 fn not_imported(file: &Path, why: &str) -> Failure {
     let file = file.display();
     Failure::Desk(format!("{file} {why}: no import made it, or one was cut off; name another folder, or remove {file}"))
-}
-
-/// The first line of `columns.csv`.
-const FIRST_LINE: &str = "header,values\n";
-
-/// The headings that `columns.csv` keeps; none where it is not as [`write_headings`] writes it.
-fn read_headings(bytes: &[u8]) -> Option<Vec<Heading>> {
-    let mut headings = Vec::new();
-    for record in csv::Reader::from_reader(bytes).into_records() {
-        let record = record.ok()?;
-        let holds = match record.get(1)? {
-            "number" => Holds::Numbers,
-            "text" => Holds::Texts,
-            words => {
-                let (withdrawn, present) = words.split_once('/')?;
-                Holds::Mark { withdrawn: withdrawn.to_owned(), present: present.to_owned() }
-            }
-        };
-        headings.push(Heading { cell: record[0].to_owned(), holds });
-    }
-    let cells: Vec<String> = headings.iter().map(|heading| heading.cell.clone()).collect();
-    heading::name_faults(&cells).is_empty().then_some(headings)
-}
-
-fn write_headings(headings: &[Heading]) -> Vec<u8> {
-    let mut writer = csv::Writer::from_writer(FIRST_LINE.as_bytes().to_vec());
-    let mut write = |cell: &str, values: &str| writer.write_record([cell, values]).expect("memory takes every record");
-    for Heading { cell, holds } in headings {
-        match holds {
-            Holds::Numbers => write(cell, "number"),
-            Holds::Texts => write(cell, "text"),
-            Holds::Mark { withdrawn, present } => write(cell, &format!("{withdrawn}/{present}")),
-        }
-    }
-    writer.into_inner().expect("memory takes every record")
 }

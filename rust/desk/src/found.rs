@@ -13,8 +13,8 @@ pub struct Found {
     pub counts: Counts,
     /// The listed entries, ascending.
     pub listed: Vec<usize>,
-    /// For each condition the entries at which it was looked at, ascending.
-    pub looks: Vec<Vec<usize>>,
+    /// For each condition the number of entries at which it was looked at.
+    pub looks: Vec<usize>,
 }
 
 impl Found {
@@ -48,9 +48,7 @@ pub fn run(
     let mut looks = vec![0; row * question.conditions().len()];
     let counts = searchroom::run(&folder.bytes, &question.bytes, order, reader, &mut listed, &mut looks, tally)
         .map_err(|refusal| Failure::Refused { refusal, help: advice(refusal, question, tally.len()) })?;
-    let rows = looks.chunks(row.max(1)).map(ones);
-    // Without entries there are no rows, but as many conditions.
-    let looks = rows.chain(std::iter::repeat_with(Vec::new)).take(question.conditions().len()).collect();
+    let looks = (0..question.conditions().len()).map(|number| ones(&looks[number * row..][..row]).len()).collect();
     Ok(Found { counts, listed: ones(&listed), looks })
 }
 

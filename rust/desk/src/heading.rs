@@ -1,15 +1,10 @@
-//! What stands at the head of a column: its name, and what it holds. `columns.csv` keeps the headings of a folder.
-
-use crate::catalogue::{Catalogue, Column, from_latin_1, number_of};
+//! What stands at the head of a column: its name, and what it holds.
 
 /// The name of the column that is the mark.
 pub const WITHDRAWN: &str = "withdrawn";
 
 /// The most letters of a name: more would not fit any page.
 const MAX_NAME: usize = 200;
-
-/// At the start of a file it is no letter; so a name that begins with it would not come back.
-const BYTE_ORDER_MARK: char = '\u{FEFF}';
 
 /// The words that say that an entry is withdrawn, and that it is not; their case does not matter.
 const WITHDRAWN_WORDS: [&str; 4] = ["yes", "true", "1", "x"];
@@ -82,6 +77,11 @@ pub fn says_withdrawn(word: &str) -> Option<bool> {
     is_among(&WITHDRAWN_WORDS).then_some(true).or_else(|| is_among(&PRESENT_WORDS).then_some(false))
 }
 
+/// Letters of no width, the byte order mark among them: two names that differ by one look the same.
+fn is_invisible(letter: char) -> bool {
+    matches!(letter, '\u{AD}' | '\u{200B}'..='\u{200F}' | '\u{202A}'..='\u{202E}' | '\u{2060}'..='\u{206F}' | '\u{FEFF}')
+}
+
 /// What is wrong with the names in a first line: the place of the cell, and the fault.
 pub fn name_faults(cells: &[String]) -> Vec<(usize, String)> {
     let mut faults = Vec::new();
@@ -94,46 +94,12 @@ pub fn name_faults(cells: &[String]) -> Vec<(usize, String)> {
             faults.push((place, format!("column {} has that name too; each column needs its own", earlier + 1)));
         } else if name.chars().count() > MAX_NAME {
             faults.push((place, format!("a name has at most {MAX_NAME} letters; shorten it")));
-        } else if name.contains(BYTE_ORDER_MARK) {
-            faults.push((place, "a byte order mark (U+FEFF) stands in the name; remove it".to_owned()));
+        } else if let Some(letter) = name.chars().find(|&letter| is_invisible(letter)) {
+            faults.push((place, format!("nobody sees the letter U+{:04X} in this name; remove it", u32::from(letter))));
         } else if numbered(name).is_some_and(|number| number != column.to_string()) {
             faults.push((place, format!("in a question {name} is the column of that number; give it another name")));
         }
         column += usize::from(!marks(cell));
     }
     faults
-}
-
-/// The headings of the columns of a catalogue that has no names.
-pub fn unnamed(catalogue: &Catalogue) -> Vec<Heading> {
-    let column = |(number, column): (usize, &Column)| match column {
-        Column::Numbers(_) => Heading { cell: format!("c{number}"), holds: Holds::Numbers },
-        // Texts that all look like numbers would be read as numbers again.
-        Column::Texts(texts) if texts.iter().flatten().all(|text| number_of(&from_latin_1(text)).is_some()) => {
-            Heading { cell: format!("c{number}:text"), holds: Holds::Texts }
-        }
-        Column::Texts(_) => Heading { cell: format!("c{number}"), holds: Holds::Texts },
-    };
-    catalogue.columns.iter().enumerate().map(column).collect()
-}
-
-/// The headings, and one for a mark that they lack: it was added to the catalogue since.
-pub fn with_mark(mut headings: Vec<Heading>, catalogue: &Catalogue) -> Vec<Heading> {
-    if catalogue.mark.is_some() && !headings.iter().any(Heading::is_mark) {
-        let holds = Holds::Mark { withdrawn: "yes".to_owned(), present: "no".to_owned() };
-        headings.push(Heading { cell: WITHDRAWN.to_owned(), holds });
-    }
-    headings
-}
-
-/// Do these headings fit the catalogue?
-pub fn fit(headings: &[Heading], catalogue: &Catalogue) -> bool {
-    let held = |column: &Column| match column {
-        Column::Numbers(_) => Holds::Numbers,
-        Column::Texts(_) => Holds::Texts,
-    };
-    let columns: Vec<Holds> = catalogue.columns.iter().map(held).collect();
-    let named = headings.iter().filter(|heading| !heading.is_mark()).map(|heading| heading.holds.clone());
-    let marks = headings.iter().filter(|heading| heading.is_mark()).count();
-    named.eq(columns) && marks == usize::from(catalogue.mark.is_some())
 }

@@ -22,23 +22,22 @@ pub fn import(file: &Path, folder: &Path, separator: u8, out: &mut dyn Write) ->
     let mut noticed = Noticed::default();
     let imported = noticed.folder(&bytes, separator);
     noticed.faults.sort_by_key(|fault| (fault.line, fault.cell.as_ref().map(|cell| cell.place)));
-    let mut told = BufWriter::new(io::stderr().lock());
-    for fault in &noticed.faults {
+    let Some(imported) = imported else { return Err(faulty(&noticed, file)) };
+    check_catalogue(&imported.bytes)?;
+    imported.save(folder)?;
+    report(&noticed, &imported, folder, out)
+}
+
+/// Tells every fault of a file; gives their number.
+fn faulty(noticed: &Noticed, file: &Path) -> Failure {
+    let mut err = BufWriter::new(io::stderr().lock());
+    let faults = noticed.faults.iter().map(|fault| format!("{}, {fault}", file.display()));
+    for line in faults.chain(noticed.remarks.iter().cloned()) {
         // Where nobody hears it the status still tells.
-        let _ = writeln!(told, "{}, {fault}", file.display());
+        let _ = writeln!(err, "{line}");
     }
-    drop(told);
-    match (noticed.faults.len(), imported) {
-        (0, Some(imported)) => {
-            check_catalogue(&imported.bytes)?;
-            imported.save(folder)?;
-            report(&noticed, &imported, folder, out)
-        }
-        (count, _) => {
-            let faults = counted(count, "fault", "faults");
-            Err(Failure::Desk(format!("{faults} in {}: nothing was written", file.display())))
-        }
-    }
+    let faults = counted(noticed.faults.len(), "fault", "faults");
+    Failure::Desk(format!("{faults} in {}: nothing was written", file.display()))
 }
 
 /// Tells what was imported.

@@ -4,6 +4,7 @@
 
 mod ask;
 mod catalogue;
+mod columns;
 mod draw;
 mod explain;
 mod export;
@@ -16,6 +17,7 @@ mod notation;
 mod question;
 mod refused;
 mod replace;
+mod request;
 mod sheet;
 mod show;
 mod table;

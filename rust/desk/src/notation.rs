@@ -1,8 +1,6 @@
 //! The notation of order 4 as people type it: with columns' names, spaces and letters in UTF-8. It is turned into the strict
 //! spelling, which the engine reads.
 
-use std::ops::Range;
-
 use crate::catalogue::from_latin_1;
 use crate::heading::{WITHDRAWN, numbered, same, without_zeros};
 use crate::show::quoted;
@@ -46,8 +44,8 @@ pub struct Condition {
     /// The digits of the column's number.
     pub column: String,
     pub test: Test,
-    /// Where it stands in the text.
-    pub place: Range<usize>,
+    /// Where it begins in the text.
+    pub at: usize,
 }
 
 pub enum Test {
@@ -125,8 +123,7 @@ impl Condition {
 
 fn strict_letter(byte: u8) -> String {
     match byte {
-        b'"' | b'\\' => format!("\\{byte:02X}"),
-        b' '..=b'~' => char::from(byte).to_string(),
+        b' '..=b'~' if byte != b'"' && byte != b'\\' => char::from(byte).to_string(),
         _ => format!("\\{byte:02X}"),
     }
 }
@@ -224,7 +221,7 @@ impl<'a> Reader<'a> {
     }
 
     fn condition(&mut self) -> Result<Condition, Misspelled> {
-        let start = self.at;
+        let at = self.at;
         let opposite = self.word() == "not";
         if opposite {
             self.at += "not".len();
@@ -233,7 +230,7 @@ impl<'a> Reader<'a> {
         let column = self.column(opposite)?;
         self.spaces();
         let test = self.test()?;
-        Ok(Condition { opposite, column, test, place: start..self.at })
+        Ok(Condition { opposite, column, test, at })
     }
 
     /// The digits of the column's number.

@@ -53,11 +53,6 @@ impl Question {
         // A group that opens later and has the condition stands further in.
         (0..self.groups.len()).rev().filter(move |&group| self.groups[group].conditions.contains(&condition))
     }
-
-    /// Every condition in the order in which it stands, where none other is asked for.
-    pub fn standing_order(&self) -> Vec<u8> {
-        (0..self.conditions().len()).map(|number| u8::try_from(number).expect("at most 64 conditions")).collect()
-    }
 }
 
 /// The groups of a question.

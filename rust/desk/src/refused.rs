@@ -9,7 +9,7 @@ use crate::notation::{Condition, Misspelled, Part, Test, Written, shown_name};
 use crate::show::grouped;
 
 /// A place in the text, and what to do there.
-type Place = (usize, String);
+type Trouble = (usize, String);
 
 /// Help with a text that cannot be read.
 pub fn help_with_misspelled(text: &str, misspelled: &Misspelled) -> String {
@@ -34,7 +34,7 @@ pub fn help_with_refused(folder: &Folder, text: &str, written: &Written, refusal
 }
 
 /// The first group that stands too deep.
-fn too_deep(written: &Written) -> Option<Place> {
+fn too_deep(written: &Written) -> Option<Trouble> {
     let mut depth = 0;
     for part in &written.parts {
         match part {
@@ -49,28 +49,25 @@ fn too_deep(written: &Written) -> Option<Place> {
     None
 }
 
-fn one_too_many(written: &Written) -> Option<Place> {
+fn one_too_many(written: &Written) -> Option<Trouble> {
     let condition = written.conditions.get(MAX_CONDITIONS)?;
-    Some((condition.place.start, format!("one condition too many; at most {MAX_CONDITIONS} fit, so ask two questions")))
+    Some((condition.at, format!("one condition too many; at most {MAX_CONDITIONS} fit, so ask two questions")))
 }
 
 /// The first condition that the engine reads into the bytes of an earlier one.
-fn repeated(folder: &Folder, written: &Written) -> Option<Place> {
+fn repeated(folder: &Folder, written: &Written) -> Option<Trouble> {
     let bytes: Vec<_> = written.conditions.iter().map(|condition| alone(folder, condition)).collect();
     (0..bytes.len()).find_map(|number| {
         let earlier = bytes[..number].iter().position(|other| *other == bytes[number])?;
         let what = format!("the same as condition {earlier}, and each stands once; regroup, as in all(A, any(B, C))");
-        Some((written.conditions[number].place.start, what))
+        Some((written.conditions[number].at, what))
     })
 }
 
-/// The first condition that the engine refuses by itself, with the same number if there is one.
-fn refused_alone(folder: &Folder, written: &Written, refusal: Refusal) -> Option<Place> {
-    let refusals: Vec<_> = written.conditions.iter().map(|condition| alone(folder, condition).err()).collect();
-    let same = refusals.iter().position(|alone| *alone == Some(refusal));
-    let number = same.or_else(|| refusals.iter().position(Option::is_some))?;
-    let condition = &written.conditions[number];
-    Some((condition.place.start, advice(folder, condition)))
+/// The first condition that the engine refuses by itself with the same number.
+fn refused_alone(folder: &Folder, written: &Written, refusal: Refusal) -> Option<Trouble> {
+    let condition = written.conditions.iter().find(|condition| alone(folder, condition) == Err(refusal))?;
+    Some((condition.at, advice(folder, condition)))
 }
 
 /// What the engine makes of a condition alone.

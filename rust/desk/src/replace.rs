@@ -2,6 +2,7 @@
 
 use std::fs::{self, File, OpenOptions};
 use std::io::{self, Write};
+use std::os::unix::fs::MetadataExt;
 use std::path::{Path, PathBuf};
 use std::thread;
 use std::time::{Duration, Instant};
@@ -11,10 +12,70 @@ use crate::failure::Failure;
 /// How long to wait for another run that is replacing the same file.
 const PATIENCE: Duration = Duration::from_secs(5);
 
+/// A file that is to be replaced, or made.
+#[derive(Clone)]
+pub struct Target {
+    /// As it was named.
+    named: PathBuf,
+    /// The file itself, by one path alone: where a link is named, that to which it leads.
+    file: PathBuf,
+}
+
+/// How many links to links are followed, as many as the system follows.
+const LINKS: usize = 40;
+
+impl Target {
+    /// The file that a path names, be it there yet or not. A folder or a device is not to be replaced.
+    pub fn of(path: &Path) -> Result<Target, Failure> {
+        let mut file = path.to_path_buf();
+        for _ in 0..LINKS {
+            let Ok(link) = fs::read_link(&file) else { break };
+            file = folder_of(&file).join(link);
+        }
+        let folder = folder_of(&file);
+        let folder = fs::canonicalize(folder).map_err(|error| match error.kind() {
+            io::ErrorKind::NotFound => Failure::Desk(format!("there is no folder {}: make it", folder.display())),
+            _ => Failure::file("find", folder, &error),
+        })?;
+        let file = file.file_name().map_or(folder.clone(), |name| folder.join(name));
+        match fs::metadata(&file) {
+            Ok(found) if !found.is_file() => {
+                Err(Failure::Desk(format!("{} is not a file: name one, or one to be made", path.display())))
+            }
+            Err(error) if error.kind() != io::ErrorKind::NotFound => Err(Failure::file("write", path, &error)),
+            _ => Ok(Target { named: path.to_path_buf(), file }),
+        }
+    }
+
+    pub fn is_same(&self, other: &Target) -> bool {
+        self.file == other.file
+    }
+
+    /// The file's bytes, if it is there.
+    pub fn read(&self) -> Result<Option<Vec<u8>>, Failure> {
+        match fs::read(&self.file) {
+            Ok(bytes) => Ok(Some(bytes)),
+            Err(error) if error.kind() == io::ErrorKind::NotFound => Ok(None),
+            Err(error) => Err(Failure::file("read", &self.named, &error)),
+        }
+    }
+}
+
+fn folder_of(file: &Path) -> &Path {
+    file.parent().filter(|folder| !folder.as_os_str().is_empty()).unwrap_or(Path::new("."))
+}
+
+/// Where a file is written before it is renamed.
+pub fn beside(file: &Path) -> PathBuf {
+    let mut name = file.as_os_str().to_owned();
+    name.push(".new");
+    PathBuf::from(name)
+}
+
 /// A file that is about to be replaced. As long as this stands no other run replaces it, for all of them write to the same name
 /// beside it; so what is read of the file after [`Replacement::begin`] is what will be replaced.
 pub struct Replacement {
-    file: PathBuf,
+    target: Target,
     beside: PathBuf,
     writer: File,
     /// Not yet renamed: to be removed.
@@ -23,25 +84,33 @@ pub struct Replacement {
 
 impl Replacement {
     /// Begins to replace a file, or to make it. Waits for another run that has begun.
-    pub fn begin(path: &Path) -> Result<Replacement, Failure> {
-        let file = target(path)?;
-        if file.exists() {
+    pub fn begin(target: Target) -> Result<Replacement, Failure> {
+        if target.file.exists() {
             // A rename asks nobody whether the file itself may be written.
-            OpenOptions::new().write(true).open(&file).map_err(|error| Failure::file("write", path, &error))?;
+            let open = OpenOptions::new().write(true).open(&target.file);
+            open.map_err(|error| Failure::file("write", &target.named, &error))?;
         }
-        let beside = beside(&file);
-        let writer = patiently(|| match OpenOptions::new().write(true).create_new(true).open(&beside) {
+        let beside = beside(&target.file);
+        let mut other = None;
+        let writer = patiently(|since| match OpenOptions::new().write(true).create_new(true).open(&beside) {
             Ok(writer) => Ok(Some(writer)),
-            Err(error) if error.kind() == io::ErrorKind::AlreadyExists => Ok(None),
-            Err(error) => Err(Failure::file("write", path, &error)),
+            Err(error) if error.kind() == io::ErrorKind::AlreadyExists => {
+                let standing = fs::metadata(&beside).ok().map(|found| found.ino());
+                if standing != other {
+                    // Yet another run goes ahead of this one.
+                    (other, *since) = (standing, Instant::now());
+                }
+                Ok(None)
+            }
+            Err(error) => Err(Failure::file("write", &beside, &error)),
         })?;
         let writer = writer.ok_or_else(|| left_over(&beside))?;
-        Ok(Replacement { file, beside, writer, left: true })
+        Ok(Replacement { target, beside, writer, left: true })
     }
 
     /// The bytes of the file that will be replaced, if there is one.
     pub fn read(&self) -> Result<Option<Vec<u8>>, Failure> {
-        read_if_there(&self.file)
+        self.target.read()
     }
 
     /// Writes the bytes beside the file, down to the disk.
@@ -50,7 +119,7 @@ impl Replacement {
     }
 
     fn written(&mut self, bytes: &[u8]) -> io::Result<()> {
-        if let Ok(before) = fs::metadata(&self.file) {
+        if let Ok(before) = fs::metadata(&self.target.file) {
             self.writer.set_permissions(before.permissions())?;
         }
         self.writer.write_all(bytes)?;
@@ -59,15 +128,18 @@ impl Replacement {
 
     /// Removes the file that will be replaced, if there is one.
     pub fn remove(&self) -> Result<(), Failure> {
-        match fs::remove_file(&self.file) {
-            Err(error) if error.kind() != io::ErrorKind::NotFound => Err(Failure::file("replace", &self.file, &error)),
+        match fs::remove_file(&self.target.file) {
+            Err(error) if error.kind() != io::ErrorKind::NotFound => {
+                Err(Failure::file("replace", &self.target.named, &error))
+            }
             _ => Ok(()),
         }
     }
 
     /// Puts what was written in the file's place.
     pub fn finish(mut self) -> Result<(), Failure> {
-        fs::rename(&self.beside, &self.file).map_err(|error| Failure::file("replace", &self.file, &error))?;
+        let renamed = fs::rename(&self.beside, &self.target.file);
+        renamed.map_err(|error| Failure::file("replace", &self.target.named, &error))?;
         self.left = false;
         Ok(())
     }
@@ -83,37 +155,21 @@ impl Drop for Replacement {
 }
 
 /// Replaces a file by one with these bytes.
-pub fn replace(path: &Path, bytes: &[u8]) -> Result<(), Failure> {
-    let mut replacement = Replacement::begin(path)?;
+pub fn replace(target: Target, bytes: &[u8]) -> Result<(), Failure> {
+    let mut replacement = Replacement::begin(target)?;
     replacement.write(bytes)?;
     replacement.finish()
 }
 
-/// The bytes of a file, if it is there.
-pub fn read_if_there(file: &Path) -> Result<Option<Vec<u8>>, Failure> {
-    match fs::read(file) {
-        Ok(bytes) => Ok(Some(bytes)),
-        Err(error) if error.kind() == io::ErrorKind::NotFound => Ok(None),
-        Err(error) => Err(Failure::file("read", file, &error)),
-    }
-}
-
-/// Tries until something comes of it, or for as long as patience lasts.
-pub fn patiently<T>(mut attempt: impl FnMut() -> Result<Option<T>, Failure>) -> Result<Option<T>, Failure> {
-    let started = Instant::now();
+/// Tries until something comes of it, or for as long as patience lasts since an instant that an attempt may put forward.
+pub fn patiently<T>(mut attempt: impl FnMut(&mut Instant) -> Result<Option<T>, Failure>) -> Result<Option<T>, Failure> {
+    let mut since = Instant::now();
     loop {
-        match attempt()? {
-            None if started.elapsed() < PATIENCE => thread::sleep(Duration::from_millis(10)),
+        match attempt(&mut since)? {
+            None if since.elapsed() < PATIENCE => thread::sleep(Duration::from_millis(10)),
             done => return Ok(done),
         }
     }
-}
-
-/// Where a file is written before it is renamed.
-pub fn beside(file: &Path) -> PathBuf {
-    let mut name = file.as_os_str().to_owned();
-    name.push(".new");
-    PathBuf::from(name)
 }
 
 /// Another run's file stands beside the one that is to be replaced.
@@ -122,34 +178,4 @@ pub fn left_over(beside: &Path) -> Failure {
     Failure::Desk(format!(
         "{beside} is already there: another run is writing it, or one was cut off; if none is running, remove it"
     ))
-}
-
-/// How many links to links are followed, as many as the system follows.
-const LINKS: usize = 40;
-
-/// The file that a path names, by one path alone: where a link is named, the file to which it leads, be that there yet or not. A
-/// folder or a device is not to be replaced.
-pub fn target(path: &Path) -> Result<PathBuf, Failure> {
-    let mut file = path.to_path_buf();
-    for _ in 0..LINKS {
-        let Ok(link) = fs::read_link(&file) else { break };
-        file = folder_of(&file).join(link);
-    }
-    let folder = folder_of(&file);
-    let folder = fs::canonicalize(folder).map_err(|error| match error.kind() {
-        io::ErrorKind::NotFound => Failure::Desk(format!("there is no folder {}: make it", folder.display())),
-        _ => Failure::file("find", folder, &error),
-    })?;
-    let file = file.file_name().map_or(folder.clone(), |name| folder.join(name));
-    match fs::metadata(&file) {
-        Ok(found) if !found.is_file() => {
-            Err(Failure::Desk(format!("{} is not a file: name one, or one to be made", path.display())))
-        }
-        Err(error) if error.kind() != io::ErrorKind::NotFound => Err(Failure::file("write", path, &error)),
-        _ => Ok(file),
-    }
-}
-
-fn folder_of(file: &Path) -> &Path {
-    file.parent().filter(|folder| !folder.as_os_str().is_empty()).unwrap_or(Path::new("."))
 }

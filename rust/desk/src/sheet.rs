@@ -21,14 +21,14 @@ pub struct Noticed {
 }
 
 /// A column of the file: its place in a line, its name, and the value of each line with the line's number.
-struct Cells<'a> {
+struct Values<'a> {
     place: usize,
     name: &'a str,
     values: Vec<(usize, &'a str)>,
 }
 
 impl Noticed {
-    /// The folder that the file's bytes make; none where there is no first line. It is sound if there are no faults.
+    /// The folder that the file's bytes make; none if there are faults.
     pub fn folder(&mut self, bytes: &[u8], separator: u8) -> Option<Folder> {
         let (lines, faults) = read_lines(bytes, separator);
         self.faults.extend(faults);
@@ -36,7 +36,7 @@ impl Noticed {
             self.fault(1, None, "the file has no line; the first one names the columns".to_owned());
             return None;
         };
-        let cells = self.first_line(first, rest, separator);
+        let cells = self.first_line(first);
         let whole: Vec<&Line> = rest.iter().filter(|line| self.is_whole(line, cells.len())).collect();
         if let Some(line) = rest.get(MAX_ENTRIES) {
             let entries = rest.len();
@@ -44,6 +44,7 @@ impl Noticed {
             let what = format!("{} entries; at most {most} fit, so split the file before this line", grouped(entries));
             self.fault(line.number, None, what);
         }
+        self.remark_separator(first, rest, separator);
         self.remark(&cells, &whole);
         let (mut headings, mut columns, mut mark) = (Vec::new(), Vec::new(), None);
         for (place, cell) in cells.into_iter().enumerate() {
@@ -60,8 +61,20 @@ impl Noticed {
             headings.push(Heading { cell, holds });
         }
         let catalogue = Catalogue { entries: whole.len(), columns, mark };
-        let bytes = if self.faults.is_empty() { catalogue.bytes() } else { Vec::new() };
-        Some(Folder { bytes, catalogue, headings })
+        self.faults.is_empty().then(|| Folder { bytes: catalogue.bytes(), catalogue, headings })
+    }
+
+    /// A remark on another sign that may separate the values: it stands in a first line of one cell, and either in all the
+    /// others, of one cell too, or some have more than one.
+    fn remark_separator(&mut self, first: &Line, rest: &[Line], separator: u8) {
+        let has = |line: &Line, sign: u8| line.cells.len() == 1 && line.cells[0].contains(&sign);
+        let is_likely = |sign: u8| {
+            let others = rest.iter().all(|line| has(line, sign)) || rest.iter().any(|line| line.cells.len() > 1);
+            sign != separator && has(first, sign) && others
+        };
+        if let Some((_, option)) = SEPARATORS.into_iter().find(|(sign, _)| is_likely(*sign)) {
+            self.remarks.push(format!("one column only: if {option} separates the values, say --separator {option}"));
+        }
     }
 
     /// Remarks on a first line that looks like an entry, and on entries that look like none.
@@ -81,44 +94,35 @@ impl Noticed {
     }
 
     /// A fault of a column's value.
-    fn unfit(&mut self, column: &Cells, line: usize, value: &str, what: String) {
+    fn unfit(&mut self, column: &Values, line: usize, value: &str, what: String) {
         let cell = Cell { place: column.place, name: column.name.to_owned(), value: value.to_owned() };
         self.fault(line, Some(cell), what);
     }
 
     /// A fault of a cell of the first line.
-    fn unnamed(&mut self, first: &Line, place: usize, what: String) {
+    fn unfit_name(&mut self, first: &Line, place: usize, what: String) {
         let value = String::from_utf8_lossy(&first.cells[place]).into_owned();
         self.fault(first.number, Some(Cell { place, name: String::new(), value }), what);
     }
 
     /// The cells of the first line, which name the columns.
-    fn first_line(&mut self, first: &Line, rest: &[Line], separator: u8) -> Vec<String> {
+    fn first_line(&mut self, first: &Line) -> Vec<String> {
         let cells: Vec<String> = first.cells.iter().map(|cell| String::from_utf8_lossy(cell).into_owned()).collect();
         for (place, cell) in first.cells.iter().enumerate() {
             if str::from_utf8(cell).is_err() {
-                self.unnamed(first, place, NOT_UTF_8.to_owned());
+                self.unfit_name(first, place, NOT_UTF_8.to_owned());
             }
         }
         for (place, what) in name_faults(&cells) {
-            self.unnamed(first, place, what);
-        }
-        if let Some((_, option)) =
-            SEPARATORS.into_iter().find(|(sign, _)| is_separated_by(*sign, separator, first, rest))
-        {
-            self.unnamed(
-                first,
-                0,
-                format!("one name only; if {option} separates the values, say --separator {option}"),
-            );
+            self.unfit_name(first, place, what);
         }
         let columns: Vec<usize> = (0..cells.len()).filter(|&place| !marks(&cells[place])).collect();
         for &place in columns.iter().skip(MAX_COLUMNS) {
             let what = format!("a column too many; a catalogue has at most {MAX_COLUMNS} beside the mark");
-            self.unnamed(first, place, what);
+            self.unfit_name(first, place, what);
         }
         if columns.is_empty() {
-            self.unnamed(first, 0, "no column beside the mark; a catalogue has at least one".to_owned());
+            self.unfit_name(first, 0, "no column beside the mark; a catalogue has at least one".to_owned());
         }
         cells
     }
@@ -139,8 +143,8 @@ impl Noticed {
     }
 
     /// The values of a column.
-    fn cells<'a>(&mut self, place: usize, name: &'a str, lines: &[&'a Line]) -> Cells<'a> {
-        let mut column = Cells { place, name, values: Vec::new() };
+    fn cells<'a>(&mut self, place: usize, name: &'a str, lines: &[&'a Line]) -> Values<'a> {
+        let mut column = Values { place, name, values: Vec::new() };
         for line in lines {
             let bytes = &line.cells[place];
             match str::from_utf8(bytes) {
@@ -152,7 +156,7 @@ impl Noticed {
     }
 
     /// A column as it is declared; else of numbers if every value is empty or a number, else of texts.
-    fn column(&mut self, column: &Cells, declared: Option<Holds>) -> (Column, Holds) {
+    fn column(&mut self, column: &Values, declared: Option<Holds>) -> (Column, Holds) {
         let guessed = declared.is_none();
         let is_number = |value: &str| value.is_empty() || number_of(value).is_some();
         let other = column.values.iter().find(|(_, value)| !is_number(value));
@@ -166,7 +170,11 @@ impl Noticed {
     }
 
     /// What each value of a column says; nothing if it is empty.
-    fn each<T>(&mut self, column: &Cells, says: fn(&mut Noticed, &Cells, usize, &str) -> Option<T>) -> Vec<Option<T>> {
+    fn each<T>(
+        &mut self,
+        column: &Values,
+        says: fn(&mut Noticed, &Values, usize, &str) -> Option<T>,
+    ) -> Vec<Option<T>> {
         let value = |&(line, value): &(usize, &str)| match value {
             "" => None,
             _ => says(self, column, line, value),
@@ -174,7 +182,7 @@ impl Noticed {
         column.values.iter().map(value).collect()
     }
 
-    fn number(&mut self, column: &Cells, line: usize, value: &str) -> Option<u32> {
+    fn number(&mut self, column: &Values, line: usize, value: &str) -> Option<u32> {
         let number = number_of(value);
         if number.is_none() {
             let most = grouped(MAX_NUMBER as usize);
@@ -185,7 +193,7 @@ impl Noticed {
     }
 
     /// A text in ISO 8859-1.
-    fn text(&mut self, column: &Cells, line: usize, value: &str) -> Option<Vec<u8>> {
+    fn text(&mut self, column: &Values, line: usize, value: &str) -> Option<Vec<u8>> {
         let letters = value.chars().count();
         if letters > MAX_TEXT {
             self.unfit(column, line, value, format!("{letters} letters; a text has at most {MAX_TEXT}, so shorten it"));
@@ -200,7 +208,7 @@ impl Noticed {
     }
 
     /// The mark, and the two words that the file has for it.
-    fn mark(&mut self, column: &Cells) -> (Vec<bool>, Holds) {
+    fn mark(&mut self, column: &Values) -> (Vec<bool>, Holds) {
         // The first word for each, with its line.
         let mut words: [Option<(usize, &str)>; 2] = [None, None];
         let mut mark = Vec::new();
@@ -233,15 +241,9 @@ const NOT_UTF_8: &str = "not UTF-8; save the file as \"CSV UTF-8\"";
 /// Signs that often separate values, and how they are named on the command line.
 const SEPARATORS: [(u8, &str); 4] = [(b',', "','"), (b';', "';'"), (b'\t', "tab"), (b'|', "'|'")];
 
-/// Has every line one cell, with this sign in it, where another is said to separate the values?
-fn is_separated_by(sign: u8, separator: u8, first: &Line, rest: &[Line]) -> bool {
-    let has_sign = |line: &Line| line.cells.len() == 1 && line.cells[0].contains(&sign);
-    sign != separator && has_sign(first) && rest.iter().all(has_sign)
-}
-
 /// What may surprise in a column: a value that makes it one of texts though half of them are numbers, or one with spaces
 /// around it.
-fn note(column: &Cells, no_number: Option<&(usize, &str)>) -> Option<String> {
+fn note(column: &Values, no_number: Option<&(usize, &str)>) -> Option<String> {
     let filled: Vec<&(usize, &str)> = column.values.iter().filter(|(_, value)| !value.is_empty()).collect();
     let numbers = filled.iter().filter(|(_, value)| number_of(value).is_some()).count();
     if let Some((line, value)) = no_number.filter(|_| 2 * numbers >= filled.len()) {

@@ -55,14 +55,14 @@ pub fn grouped(number: usize) -> String {
 
 /// A value as it may go to a terminal: of what nobody sees, control characters above all, a backslash and the number.
 pub fn shown(text: &str) -> String {
-    text.chars().map(|letter| if is_unseen(letter) { numbered(letter) } else { letter.to_string() }).collect()
+    text.chars().map(|letter| if is_unseen(letter) { by_number(letter) } else { letter.to_string() }).collect()
 }
 
 /// A value as it may stand between quotes: in the same way, and a backslash before quotes and backslashes.
 pub fn quoted(text: &str) -> String {
     let letter = |letter: char| match letter {
         '"' | '\\' => format!("\\{letter}"),
-        _ if is_unseen(letter) => numbered(letter),
+        _ if is_unseen(letter) => by_number(letter),
         _ => letter.to_string(),
     };
     format!("\"{}\"", text.chars().map(letter).collect::<String>())
@@ -73,6 +73,6 @@ fn is_unseen(letter: char) -> bool {
     letter.is_control() || matches!(letter, '\u{A0}' | '\u{AD}')
 }
 
-fn numbered(letter: char) -> String {
+fn by_number(letter: char) -> String {
     format!("\\{:02X}", u32::from(letter))
 }

@@ -105,7 +105,7 @@ fn is_told_as_it_stands(line: &[u8], cells: &csv::ByteRecord, separator: u8) -> 
     matches!(rest, b"" | b"\n" | b"\r" | b"\r\n")
 }
 
-const BYTE_ORDER_MARK: &[u8] = b"\xEF\xBB\xBF";
+const BYTE_ORDER_MARK: &[u8] = "\u{FEFF}".as_bytes();
 
 /// A place in a file and the number of its line. Lines end with \n, \r\n or \r.
 struct Place<'a> {

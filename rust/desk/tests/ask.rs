@@ -207,7 +207,7 @@ fn json_of_the_parish() {
         r#"{"condition":1,"text":"parish starts \"ash\"","strict":"c1 starts \"ash\"","looks":1},"#,
         r#"{"condition":2,"text":"year blank","strict":"c0 blank","looks":2}],"#,
         r#""listed":[{"entry":0,"values":{"year":1701,"parish":"Ash"}},"#,
-        r#"{"entry":2,"values":{"year":null,"parish":null}}],"reader":3,"tally":6}"#,
+        r#"{"entry":2,"values":{"year":null,"parish":null}}],"reader":3,"tally":6,"tally_is_new":true}"#,
         "\n"
     );
     assert_eq!(said, expected);

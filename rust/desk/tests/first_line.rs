@@ -6,6 +6,7 @@ mod desk {
 }
 
 use desk::importing::{columns, columns_csv, expect_faults, faults, import, texts};
+use desk::room::Room;
 use evaluator::{BLANK_NUMBER, Catalogue, Column};
 
 /// Each word for withdrawn with each word for not, and the words as columns.csv keeps them.
@@ -179,19 +180,32 @@ fn names_in_messages() {
     assert!(!lines[0].contains(char::is_control), "{lines:?}");
 }
 
-/// A first line of one name that holds another separator was meant otherwise: the fault says what to do.
+/// Another sign may separate the values: told, whether the file is taken for one column or has faults.
 #[test]
 fn separator_is_forgotten() {
-    for (table, word) in [("year;parish\n1701;Ash\n", "';'"), ("year\tparish\n1701\tAsh\n", "tab")] {
-        let lines = faults(table);
-        assert!(lines.len() == 1 && lines[0].contains(&format!("--separator {word}")), "{lines:?}");
+    let hint = |option| format!("one column only: if {option} separates the values, say --separator {option}\n");
+    for (table, option) in
+        [("year;parish\n1701;Ash\n", "';'"), ("year\tparish\n1701\tAsh\n", "tab"), ("a|b\n", "'|'"), ("a;b\n", "';'")]
+    {
+        let (_, said, catalogue) = import(table);
+        assert_eq!(catalogue.columns.len(), 1);
+        assert!(said.ends_with(&hint(option)), "{said}");
+    }
+    let room = Room::new();
+    for table in ["name;depositor\nAsh;\"Lowther, Sir James\"\n", "name;depositor\nAsh;Ashburnham of Ashburnham\n"] {
+        room.set("deeds.csv", table);
+        let said = room.run(&["import", "deeds.csv", "deeds"]).failed(1);
+        assert!(said.contains(&hint("';'")), "{said}");
+    }
+    for table in ["a;b\n1\n2\n", "year,parish\n1701,a;b\n", "\"a;b\",c\n1;2,3\n"] {
+        assert!(!import(table).1.contains("--separator"), "{table}");
     }
 }
 
 /// One column whose name and values hold a comma, in quotes, is just that.
 #[test]
 fn one_column_with_a_sign_in_its_name() {
-    for (name, value) in [("surname, forename", "Smith, J"), ("either|or", "left")] {
+    for (name, value) in [("surname, forename", "Smith, J"), ("surname; forename", "Smith; J"), ("either|or", "left")] {
         let (_, _, catalogue) = import(format!("\"{name}\"\n\"{value}\"\n"));
         assert_eq!(catalogue.columns, [texts(&[value])], "{name}");
     }

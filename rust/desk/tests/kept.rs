@@ -111,3 +111,32 @@ fn import_that_was_cut_off() {
     fs::remove_file(room.path("parish/catalogue.bin")).unwrap();
     room.run(&["import", "deeds.csv", "parish"]).done();
 }
+
+/// A name in .new is where another file is written; nothing else may stand there.
+#[test]
+fn names_of_files_being_written() {
+    let room = parish();
+    for words in [["ask", "--tally"], ["ask", "--copy"], ["draw", "-o"]] {
+        for file in ["t.bin.new", "parish/columns.csv.new"] {
+            let said = room.run(&[words[0], "parish", QUESTION, words[1], file]).failed(1);
+            assert_eq!(
+                said,
+                format!("searchroom: {file}: names in .new are for files being written; name another file\n")
+            );
+            assert!(!room.path(file).exists());
+        }
+    }
+}
+
+/// Where the copy cannot be written the tally stays as it was.
+#[test]
+fn tally_stays_where_the_copy_fails() {
+    let room = parish();
+    room.run(&["ask", "parish", QUESTION, "--tally", "t.bin"]).done();
+    let before = fs::read(room.path("t.bin")).unwrap();
+    room.set("c.bin.new", "of a run that was cut off");
+    let said = room.run(&["ask", "parish", QUESTION, "--tally", "t.bin", "--copy", "c.bin"]).failed(1);
+    assert!(said.contains("c.bin.new is already there"), "{said}");
+    assert_eq!(fs::read(room.path("t.bin")).unwrap(), before);
+    assert!(!room.path("t.bin.new").exists() && !room.path("c.bin").exists());
+}

@@ -379,3 +379,53 @@ fn questions_spoilt_at_random() {
     }
     assert!(read > 100 && misspelled > 100, "{read} read, {misspelled} misspelled: the comparison shows little");
 }
+
+/// What each refusal advises, word by word: at the caret, or in the line below.
+#[test]
+fn what_is_advised() {
+    let room = parish();
+    let long = format!("any({})", (0..2_100).map(|low| format!("c0 in {low}..2000")).collect::<Vec<_>>().join(","));
+    let many = format!("any({})", (0..65).map(|low| format!("c0 in {low}..99")).collect::<Vec<_>>().join(","));
+    let deep = format!("{}year blank{}", "all(".repeat(9), ")".repeat(9));
+    let twice = "any(all(year blank, parish blank), all(year blank, parish is \"a\"))";
+    for (question, number, advice) in [
+        ("year is \"a\"", 11, "year holds numbers; ask `in` or `blank`"),
+        ("parish in 1..2", 11, "parish holds texts; ask `is`, `starts`, `has` or `blank`"),
+        ("year in 2..1", 11, "the smaller number stands first, and the largest is 4,294,967,294"),
+        ("year in 1..4294967295", 11, "the smaller number stands first, and the largest is 4,294,967,294"),
+        ("parish is \"\"", 11, "an empty text; ask `blank`"),
+        ("parish has \"abcdefghijklmnopqrstuvwx\"", 11, "24 letters; a text has at most 23"),
+        ("c2 blank", 11, "there is no c2; the columns are c0 to c1: year, parish"),
+        ("c256 blank", 21, "there is no c256; the columns are c0 to c1: year, parish"),
+        (twice, 13, "the same as condition 0, and each stands once; regroup, as in all(A, any(B, C))"),
+        (&many, 12, "one condition too many; at most 64 fit, so ask two questions"),
+        (&deep, 10, "this group stands too deep; at most 8 stand inside each other"),
+        (&long, 21, "in the strict spelling it has 36,393 bytes; at most 16,384 are read, so ask two questions"),
+    ] {
+        let lines = refused(&room, &[question], number);
+        let last = lines.last().expect("advice").trim_start();
+        assert_eq!(last.strip_prefix("^ ").unwrap_or(last), advice, "{lines:?}");
+    }
+    let order = refused(&room, &["any(year blank, parish blank)", "--order", "0"], 15);
+    assert_eq!(order.last().unwrap(), "  the question has 2 conditions: name each number from 0 to 1 once");
+    let order = refused(&room, &["year blank", "--order", "1"], 15);
+    assert_eq!(order.last().unwrap(), "  the question has one condition: its order is 0");
+    let entry = room.run(&["explain", "parish", "year blank", "3"]).failed(1);
+    assert_eq!(entry, format!("{}\n  the entries are 0 to 2\n", first_line(18)));
+    room.set("short.bin", "x");
+    let tally = refused(&room, &["year blank", "--tally", "short.bin"], 17);
+    assert_eq!(tally.last().unwrap(), "  the tally's file has 1 bytes: name another, or one that is not there yet");
+    room.set("full.bin", [0xFF; 128]);
+    let tally = refused(&room, &["year blank", "--tally", "full.bin"], 17);
+    assert_eq!(tally.last().unwrap(), "  keep this tally as it is, and begin another");
+    room.set("parish/catalogue.bin", "x");
+    let catalogue = refused(&room, &["year blank"], 1);
+    assert_eq!(catalogue.last().unwrap(), "  in parish/catalogue.bin: import the CSV file again");
+}
+
+/// Of two conditions that are refused alone with different numbers, the caret stands at that of the refusal.
+#[test]
+fn caret_at_the_same_number() {
+    let said = caret(&parish(), "any(year has \"x\", c0 in 1..4294967296)", 21, 18);
+    assert!(said.contains("the largest is 4,294,967,294"), "{said}");
+}

@@ -91,7 +91,11 @@ fn sums_over_random_runs() {
         let as_json = run % 2 == 0;
         let said = asked.room().run(&[&words[..], if as_json { &["--json"] } else { &[] }].concat()).done();
         let sum = sums[reader];
-        let told = if as_json { format!(",\"tally\":{sum}}}\n") } else { format!("tally of reader {reader}: {sum}") };
+        let (is_new, new) = (run == 0, if run == 0 { format!(" ({tally} is new)") } else { String::new() });
+        let told = match as_json {
+            true => format!(",\"tally\":{sum},\"tally_is_new\":{is_new}}}\n"),
+            false => format!("tally of reader {reader}: {sum}{new}\n"),
+        };
         assert!(said.contains(&told), "run {run}: {told} in {said}\n{asked:?}");
         assert_eq!(numbers(&keeper, "tally.bin"), sums, "run {run}: {asked:?}");
     }
