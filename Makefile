@@ -15,16 +15,14 @@ library: $(archive)
 $(archive): $(sources)
 	rt staticlib searchroom
 
-# the desk, for people; its crates are Debian's packages, where .cargo/config.toml says
-desk: target/bin/searchroom
-
-target/bin/searchroom: $(archive) $(wildcard rust/*.rs rust/Cargo.* rust/desk/Cargo.toml rust/desk/src/*.rs rust/searchroom/src/*.rs)
+# the desk, for people, as target/bin/searchroom; its crates are Debian's packages, where .cargo/config.toml says
+desk: $(archive)
 	@for crate in clap csv serde_json; do \
 	  ls -d /usr/share/cargo/registry/$$crate-[0-9]* >/dev/null 2>&1 || { \
 	    echo "no source of the crate $$crate: apt-get install librust-clap-dev librust-csv-dev librust-serde-json-dev"; exit 1; }; \
 	done
-	cargo build --release --offline --quiet --manifest-path rust/Cargo.toml -p desk
-	install -D rust/target/release/searchroom $@
+	cargo build --release --offline --quiet --manifest-path rust/Cargo.toml --target-dir rust/target -p desk
+	install -D rust/target/release/searchroom target/bin/searchroom
 
 # the whole test run
 test:

@@ -6,9 +6,9 @@ use clap::{Args, Parser, Subcommand};
 
 /// The desk of the searchroom: from a spreadsheet to a list, a register and a picture
 ///
-/// A catalogue is made from a CSV file and asked questions: trees of conditions, all of these, any of those. A question lists the
-/// entries that meet it and registers every look at a condition. The engine behind it is proved: the list is exactly right,
-/// and in the same running order no right way of working makes fewer looks.
+/// A catalogue is made from a CSV file and asked questions: trees of conditions, all of these, any of those. A question lists
+/// the entries that meet it and registers every look at a condition. The engine behind it is proved: the list is exactly
+/// right, and in the same running order no right way of working makes fewer looks.
 #[derive(Parser)]
 #[command(
     name = "searchroom",
@@ -67,7 +67,7 @@ pub struct Import {
 /// The values are those that were imported, in UTF-8, under the same first line.
 #[derive(Args)]
 #[command(after_help = "\
-Examples:
+Example:
   searchroom export deeds > deeds-again.csv")]
 pub struct Export {
     /// The folder with the catalogue
@@ -134,7 +134,7 @@ pub struct Ask {
 /// passed: its answer makes no difference and is not worked out. Nothing is added to a tally.
 #[derive(Args)]
 #[command(after_help = "\
-Examples:
+Example:
   searchroom explain deeds 'all(year in 1700..1799, parish starts \"ash\")' 17")]
 pub struct Explain {
     #[command(flatten)]
@@ -149,7 +149,7 @@ pub struct Explain {
 /// Each condition stands with its looks, as a share of the entries that are not withdrawn. Nothing is added to a tally.
 #[derive(Args)]
 #[command(after_help = "\
-Examples:
+Example:
   searchroom draw deeds 'all(year in 1700..1799, parish starts \"ash\")' -o question.svg")]
 pub struct Draw {
     #[command(flatten)]

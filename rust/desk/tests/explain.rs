@@ -115,7 +115,8 @@ fn no_such_entry() {
 #[test]
 fn nothing_is_written() {
     let room = parish();
-    let names = || std::fs::read_dir(room.path(".")).unwrap().count();
+    let files = |folder| std::fs::read_dir(room.path(folder)).unwrap().count();
+    let names = || [files("."), files("parish")];
     let before = names();
     room.run(&["explain", "parish", QUESTION, "0"]).done();
     assert_eq!(names(), before);

@@ -262,7 +262,7 @@ fn empty_lines() {
     assert_eq!(columns("a\n\"\"\n1\n\"\"\n").0, [Column::Numbers(vec![BLANK_NUMBER, 1, BLANK_NUMBER])]);
     assert_eq!(columns("a\n\"\"\n\"\"").0, [Column::Numbers(vec![BLANK_NUMBER; 2])]);
     assert_eq!(columns("a,b\n,\n").0, vec![Column::Numbers(vec![BLANK_NUMBER]); 2]);
-    assert!(faults("\n1\n").len() <= 2, "an empty first line");
+    expect_faults("\na\n1\n", &["deeds.csv, line 1"]);
 }
 
 #[test]

@@ -400,7 +400,7 @@ fn what_is_advised() {
         (twice, 13, "the same as condition 0, and each stands once; regroup, as in all(A, any(B, C))"),
         (&many, 12, "one condition too many; at most 64 fit, so ask two questions"),
         (&deep, 10, "this group stands too deep; at most 8 stand inside each other"),
-        (&long, 21, "in the strict spelling it has 36,393 bytes; at most 16,384 are read, so ask two questions"),
+        (&long, 21, "in the strict spelling it has 34,594 bytes; at most 16,384 are read, so ask two questions"),
     ] {
         let lines = refused(&room, &[question], number);
         let last = lines.last().expect("advice").trim_start();
