@@ -21,6 +21,7 @@ mod request;
 mod sheet;
 mod show;
 mod table;
+mod typed;
 mod words;
 
 use std::io::{self, BufWriter, Write};

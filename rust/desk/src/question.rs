@@ -6,8 +6,9 @@ use searchroom::typed_question;
 
 use crate::failure::Failure;
 use crate::folder::Folder;
-use crate::notation::{self, Condition, Kind, Part, Written};
+use crate::notation::{Condition, Kind, Part, Written};
 use crate::refused::{help_with_misspelled, help_with_refused};
+use crate::typed;
 
 pub struct Question {
     /// The bytes that the engine read the strict spelling into.
@@ -32,7 +33,7 @@ impl Question {
     /// Reads a question as people type it. What the desk cannot read the engine is given as it stands: the refusal is its own.
     pub fn read(folder: &Folder, text: &str) -> Result<Question, Failure> {
         let names = folder.names();
-        let written = notation::read(text, &names).map_err(|misspelled| Failure::Refused {
+        let written = typed::read(text, &names).map_err(|misspelled| Failure::Refused {
             refusal: typed_question(&folder.bytes, text.as_bytes()).expect_err("the desk reads what the engine takes"),
             help: help_with_misspelled(text, &misspelled),
         })?;

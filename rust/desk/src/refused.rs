@@ -5,8 +5,9 @@ use searchroom::{MAX_CONDITIONS, MAX_DEPTH, MAX_TEXT, MAX_TYPED, Refusal, typed_
 
 use crate::catalogue::{Column, MAX_NUMBER};
 use crate::folder::Folder;
-use crate::notation::{Condition, Misspelled, Part, Test, Written, shown_name};
+use crate::notation::{Condition, Part, Test, Written, shown_name};
 use crate::show::grouped;
+use crate::typed::Misspelled;
 
 /// A place in the text, and what to do there.
 type Trouble = (usize, String);

@@ -48,14 +48,15 @@ impl Noticed {
         self.remark(&cells, &whole);
         let (mut headings, mut columns, mut mark) = (Vec::new(), Vec::new(), None);
         for (place, cell) in cells.into_iter().enumerate() {
-            let column = self.cells(place, name_of(&cell).0, &whole);
+            let (name, declared) = name_of(&cell);
+            let values = self.values(place, name, &whole);
             let holds = if marks(&cell) {
-                let (told, holds) = self.mark(&column);
-                mark = Some(told);
+                let (withdrawn, holds) = self.mark(&values);
+                mark = Some(withdrawn);
                 holds
             } else {
-                let (told, holds) = self.column(&column, name_of(&cell).1);
-                columns.push(told);
+                let (column, holds) = self.column(&values, declared);
+                columns.push(column);
                 holds
             };
             headings.push(Heading { cell, holds });
@@ -143,7 +144,7 @@ impl Noticed {
     }
 
     /// The values of a column.
-    fn cells<'a>(&mut self, place: usize, name: &'a str, lines: &[&'a Line]) -> Values<'a> {
+    fn values<'a>(&mut self, place: usize, name: &'a str, lines: &[&'a Line]) -> Values<'a> {
         let mut column = Values { place, name, values: Vec::new() };
         for line in lines {
             let bytes = &line.cells[place];
