@@ -20,12 +20,12 @@ pub fn ask(ask: &Ask, paint: Paint, out: &mut dyn Write) -> Result<(), Failure> 
     if ask.strict {
         return Ok(writeln!(out, "{}", request.question.strict)?);
     }
-    let answer = Answer::make(ask, &request)?;
-    if ask.json { Ok(writeln!(out, "{}", answer.json())?) } else { answer.print(paint, out) }
+    let register = Register::make(ask, &request)?;
+    if ask.json { Ok(writeln!(out, "{}", register.json())?) } else { register.print(paint, out) }
 }
 
 /// What came of a question that was run and registered.
-struct Answer<'a> {
+struct Register<'a> {
     ask: &'a Ask,
     request: &'a Request,
     found: Found,
@@ -42,9 +42,9 @@ struct Kept {
     is_new: bool,
 }
 
-impl<'a> Answer<'a> {
+impl<'a> Register<'a> {
     /// Runs the question. The files are put in their places when nothing can refuse any more.
-    fn make(ask: &'a Ask, request: &'a Request) -> Result<Answer<'a>, Failure> {
+    fn make(ask: &'a Ask, request: &'a Request) -> Result<Register<'a>, Failure> {
         let Request { folder, question, order } = request;
         let (tally_file, copy_file) = outputs(ask)?;
         let mut new_tally = tally_file.map(Replacement::begin).transpose()?;
@@ -64,10 +64,11 @@ impl<'a> Answer<'a> {
         }
         let number = Tally::try_from(tally.as_slice())?.of(ask.reader).expect("the engine took this reader");
         let tally = new_tally.is_some().then_some(Kept { number, is_new });
-        for file in [new_tally, new_copy].into_iter().flatten() {
+        // The sum comes last, because it cannot be made again.
+        for file in [new_copy, new_tally].into_iter().flatten() {
             file.finish()?;
         }
-        Ok(Answer { ask, request, found, tally, copied })
+        Ok(Register { ask, request, found, tally, copied })
     }
 
     fn json(&self) -> Value {
@@ -105,7 +106,7 @@ impl<'a> Answer<'a> {
     }
 
     fn print(&self, paint: Paint, out: &mut dyn Write) -> Result<(), Failure> {
-        let Answer { ask, found, .. } = self;
+        let Register { ask, found, .. } = self;
         let Folder { catalogue, .. } = &self.request.folder;
         writeln!(out, "{}", paint.bold(&found.listing(catalogue)))?;
         if !found.listed.is_empty() {

@@ -75,7 +75,7 @@ impl Catalogue {
         Ok(Catalogue { entries, columns, mark })
     }
 
-    /// The catalogue's bytes; it keeps to the limits above.
+    /// The catalogue's bytes; it keeps to the engine's limits.
     pub fn bytes(&self) -> Vec<u8> {
         let [high, low] = u16::try_from(self.entries).expect("at most 2,048 entries").to_be_bytes();
         let columns = u8::try_from(self.columns.len()).expect("at most 16 columns");

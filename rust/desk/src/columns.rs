@@ -6,8 +6,11 @@ use crate::heading::{Heading, Holds, WITHDRAWN, name_faults};
 /// The first line of `columns.csv`.
 pub const FIRST_LINE: &str = "header,values\n";
 
-/// The headings that `columns.csv` keeps; none where it is not as [`write`] writes it.
+/// The headings that `columns.csv` keeps; none where it is not of the form that [`write`] gives it, or the names are faulty.
 pub fn read(bytes: &[u8]) -> Option<Vec<Heading>> {
+    if !bytes.starts_with(FIRST_LINE.as_bytes()) {
+        return None;
+    }
     let mut headings = Vec::new();
     for record in csv::Reader::from_reader(bytes).into_records() {
         let record = record.ok()?;

@@ -56,7 +56,7 @@ fn existing(folder: &Folder, question: &Question, entry: u64) -> Result<usize, F
 /// The entry's values, and the running order.
 fn print_entry(folder: &Folder, entry: usize, order: &[u8], out: &mut dyn Write) -> Result<(), Failure> {
     let value = |(name, column): (&str, &Column)| {
-        format!("{} {}", shown(name), column.value(entry).map_or("blank".to_owned(), |value| shown(&value)))
+        format!("{} {}", shown(name), column.value(entry).map_or("(blank)".to_owned(), |value| shown(&value)))
     };
     let values: Vec<String> = folder.names().into_iter().zip(&folder.catalogue.columns).map(value).collect();
     let order: Vec<String> = order.iter().map(u8::to_string).collect();

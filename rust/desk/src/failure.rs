@@ -1,10 +1,12 @@
+//! Why a word was not carried out.
+
 use std::fmt;
 use std::io;
 use std::path::Path;
 
 use searchroom::Refusal;
 
-/// Why a word was not carried out. All but the last end the program with status 1.
+/// All but the last end the program with status 1.
 #[derive(Debug)]
 pub enum Failure {
     /// The engine refuses. `help` says where, and what to do, in lines of its own.

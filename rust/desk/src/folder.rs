@@ -9,7 +9,7 @@ use crate::catalogue::Catalogue;
 use crate::columns;
 use crate::failure::Failure;
 use crate::heading::Heading;
-use crate::replace::{Replacement, Target, beside, left_over, patiently};
+use crate::replace::{Replacement, Target, if_there, left_over, patiently};
 
 pub struct Folder {
     /// The catalogue's bytes, as the engine takes them.
@@ -69,22 +69,21 @@ impl Folder {
         // Between the two steps stand no names, rather than those of another catalogue.
         new_columns.remove()?;
         new_catalogue.finish().inspect_err(|_| {
-            // The names that were there go on; where they cannot, the failure is told all the same.
+            // The names that were there go back, though not in one step; where they cannot, the failure is told all the same.
             let _ = before.as_ref().map(|bytes| fs::write(&columns, bytes));
         })?;
         new_columns.finish()
     }
 }
 
-/// A file for what a run writes: beside the folder's own two files, and not in their place, nor where another file is written
-/// before it is renamed.
+/// A file for what a run writes. It may not be one of the folder's own two, nor have a name in .new.
 pub fn output(folder: &Path, path: &Path) -> Result<Target, Failure> {
     let file = Target::of(path)?;
     let own = [catalogue_file(folder), columns_file(folder)];
     if own.iter().any(|own| Target::of(own).is_ok_and(|own| own.is_same(&file))) {
         return Err(Failure::Desk(format!("{} is the catalogue's own: name another file", path.display())));
     }
-    if path.extension().is_some_and(|extension| extension == "new") {
+    if file.is_beside() {
         let path = path.display();
         return Err(Failure::Desk(format!("{path}: names in .new are for files being written; name another file")));
     }
@@ -100,7 +99,7 @@ fn read_both(folder: &Path) -> Result<(Vec<u8>, Option<Vec<u8>>), Failure> {
         let bytes = read_catalogue(folder, &file)?;
         let Some(mut opened) = opened else {
             // An import may be between its two steps. That is asked before the names: once it is done they are there.
-            let is_going_on = beside(&columns).exists();
+            let is_going_on = Target::of(&columns)?.beside().exists();
             return Ok((!is_going_on && !columns.exists()).then_some((bytes, None)));
         };
         let mut names = Vec::new();
@@ -110,15 +109,7 @@ fn read_both(folder: &Path) -> Result<(Vec<u8>, Option<Vec<u8>>), Failure> {
         let is_same = now.is_some_and(|now| (now.dev(), now.ino()) == (before.dev(), before.ino()));
         Ok(is_same.then_some((bytes, Some(names))))
     })?;
-    both.ok_or_else(|| left_over(&beside(&columns)))
-}
-
-/// What was asked of a file, if it is there.
-fn if_there<T>(asked: io::Result<T>) -> io::Result<Option<T>> {
-    match asked {
-        Err(error) if error.kind() == io::ErrorKind::NotFound => Ok(None),
-        asked => asked.map(Some),
-    }
+    both.map_or_else(|| Err(left_over(&Target::of(&columns)?.beside())), Ok)
 }
 
 fn read_catalogue(folder: &Path, file: &Path) -> Result<Vec<u8>, Failure> {

@@ -28,7 +28,7 @@ pub fn import(file: &Path, folder: &Path, separator: u8, out: &mut dyn Write) ->
     report(&noticed, &imported, folder, out)
 }
 
-/// Tells every fault of a file; gives their number.
+/// Tells every fault of a file, and what else was noticed; gives the failure, with their number.
 fn faulty(noticed: &Noticed, file: &Path) -> Failure {
     let mut err = BufWriter::new(io::stderr().lock());
     let faults = noticed.faults.iter().map(|fault| format!("{}, {fault}", file.display()));

@@ -1,6 +1,7 @@
 //! The desk of the searchroom, for people: from a spreadsheet to a list, a register and a picture.
 //!
-//! It turns files and words around. Every list, look, answer and refusal is the engine's.
+//! It reads and writes files and rewrites questions. Every list, look and answer, and every refusal with a number, is the
+//! engine's.
 
 mod ask;
 mod catalogue;

@@ -30,7 +30,7 @@ pub struct Group {
 }
 
 impl Question {
-    /// Reads a question as people type it. What the desk cannot read the engine is given as it stands: the refusal is its own.
+    /// Reads a question as people type it. The engine is given what the desk cannot read, as it stands: the refusal is its own.
     pub fn read(folder: &Folder, text: &str) -> Result<Question, Failure> {
         let names = folder.names();
         let written = typed::read(text, &names).map_err(|misspelled| Failure::Refused {

@@ -40,7 +40,10 @@ fn too_deep(written: &Written) -> Option<Trouble> {
     for part in &written.parts {
         match part {
             Part::Opens(_, at) if depth == MAX_DEPTH => {
-                return Some((*at, format!("this group stands too deep; at most {MAX_DEPTH} stand inside each other")));
+                return Some((
+                    *at,
+                    format!("this group stands too deep; at most {MAX_DEPTH} stand inside each other, so regroup"),
+                ));
             }
             Part::Opens(..) => depth += 1,
             Part::Condition(_) => {}
@@ -60,7 +63,7 @@ fn repeated(folder: &Folder, written: &Written) -> Option<Trouble> {
     let bytes: Vec<_> = written.conditions.iter().map(|condition| alone(folder, condition)).collect();
     (0..bytes.len()).find_map(|number| {
         let earlier = bytes[..number].iter().position(|other| *other == bytes[number])?;
-        let what = format!("the same as condition {earlier}, and each stands once; regroup, as in all(A, any(B, C))");
+        let what = format!("the same as condition {earlier}; leave one out, or regroup, as in all(A, any(B, C))");
         Some((written.conditions[number].at, what))
     })
 }
@@ -88,7 +91,7 @@ fn advice(folder: &Folder, condition: &Condition) -> String {
         (Test::In { .. }, Column::Texts(_)) => format!("{name} holds texts; ask `is`, `starts`, `has` or `blank`"),
         (Test::Text { .. }, Column::Numbers(_)) => format!("{name} holds numbers; ask `in` or `blank`"),
         (Test::Text { text, .. }, _) if text.is_empty() => "an empty text; ask `blank`".to_owned(),
-        (Test::Text { text, .. }, _) => format!("{} letters; a text has at most {MAX_TEXT}", text.len()),
+        (Test::Text { text, .. }, _) => format!("{} letters; a text has at most {MAX_TEXT}, so shorten it", text.len()),
         _ => format!("the smaller number stands first, and the largest is {}", grouped(MAX_NUMBER as usize)),
     }
 }

@@ -13,7 +13,6 @@ use crate::failure::Failure;
 const PATIENCE: Duration = Duration::from_secs(5);
 
 /// A file that is to be replaced, or made.
-#[derive(Clone)]
 pub struct Target {
     /// As it was named.
     named: PathBuf,
@@ -38,38 +37,44 @@ impl Target {
             _ => Failure::file("find", folder, &error),
         })?;
         let file = file.file_name().map_or(folder.clone(), |name| folder.join(name));
-        match fs::metadata(&file) {
-            Ok(found) if !found.is_file() => {
-                Err(Failure::Desk(format!("{} is not a file: name one, or one to be made", path.display())))
-            }
-            Err(error) if error.kind() != io::ErrorKind::NotFound => Err(Failure::file("write", path, &error)),
-            _ => Ok(Target { named: path.to_path_buf(), file }),
+        let found = if_there(fs::metadata(path)).map_err(|error| Failure::file("write", path, &error))?;
+        let is_named_a_folder = path.as_os_str().as_encoded_bytes().ends_with(b"/");
+        if found.is_some_and(|found| !found.is_file()) || is_named_a_folder {
+            return Err(Failure::Desk(format!("{} is not a file: name one, or one to be made", path.display())));
         }
+        Ok(Target { named: path.to_path_buf(), file })
     }
 
     pub fn is_same(&self, other: &Target) -> bool {
         self.file == other.file
     }
 
-    /// The file's bytes, if it is there.
-    pub fn read(&self) -> Result<Option<Vec<u8>>, Failure> {
-        match fs::read(&self.file) {
-            Ok(bytes) => Ok(Some(bytes)),
-            Err(error) if error.kind() == io::ErrorKind::NotFound => Ok(None),
-            Err(error) => Err(Failure::file("read", &self.named, &error)),
-        }
+    /// Where the file is written before it is renamed.
+    pub fn beside(&self) -> PathBuf {
+        let mut name = self.file.as_os_str().to_owned();
+        name.push(BESIDE);
+        PathBuf::from(name)
+    }
+
+    /// Is this where another file is written?
+    pub fn is_beside(&self) -> bool {
+        self.file.as_os_str().as_encoded_bytes().ends_with(BESIDE.as_bytes())
     }
 }
+
+/// What the name of a file that is being written ends with.
+const BESIDE: &str = ".new";
 
 fn folder_of(file: &Path) -> &Path {
     file.parent().filter(|folder| !folder.as_os_str().is_empty()).unwrap_or(Path::new("."))
 }
 
-/// Where a file is written before it is renamed.
-pub fn beside(file: &Path) -> PathBuf {
-    let mut name = file.as_os_str().to_owned();
-    name.push(".new");
-    PathBuf::from(name)
+/// What was asked of a file, if it is there.
+pub fn if_there<T>(asked: io::Result<T>) -> io::Result<Option<T>> {
+    match asked {
+        Err(error) if error.kind() == io::ErrorKind::NotFound => Ok(None),
+        asked => asked.map(Some),
+    }
 }
 
 /// A file that is about to be replaced. As long as this stands no other run replaces it, for all of them write to the same name
@@ -90,7 +95,7 @@ impl Replacement {
             let open = OpenOptions::new().write(true).open(&target.file);
             open.map_err(|error| Failure::file("write", &target.named, &error))?;
         }
-        let beside = beside(&target.file);
+        let beside = target.beside();
         let mut other = None;
         let writer = patiently(|since| match OpenOptions::new().write(true).create_new(true).open(&beside) {
             Ok(writer) => Ok(Some(writer)),
@@ -110,7 +115,7 @@ impl Replacement {
 
     /// The bytes of the file that will be replaced, if there is one.
     pub fn read(&self) -> Result<Option<Vec<u8>>, Failure> {
-        self.target.read()
+        if_there(fs::read(&self.target.file)).map_err(|error| Failure::file("read", &self.target.named, &error))
     }
 
     /// Writes the bytes beside the file, down to the disk.
@@ -128,12 +133,8 @@ impl Replacement {
 
     /// Removes the file that will be replaced, if there is one.
     pub fn remove(&self) -> Result<(), Failure> {
-        match fs::remove_file(&self.target.file) {
-            Err(error) if error.kind() != io::ErrorKind::NotFound => {
-                Err(Failure::file("replace", &self.target.named, &error))
-            }
-            _ => Ok(()),
-        }
+        let removed = if_there(fs::remove_file(&self.target.file));
+        removed.map(|_| ()).map_err(|error| Failure::file("replace", &self.target.named, &error))
     }
 
     /// Puts what was written in the file's place.
@@ -161,7 +162,7 @@ pub fn replace(target: Target, bytes: &[u8]) -> Result<(), Failure> {
     replacement.finish()
 }
 
-/// Tries until something comes of it, or for as long as patience lasts since an instant that an attempt may put forward.
+/// Tries until something comes of it, or for as long as patience lasts since an instant that an attempt may set anew.
 pub fn patiently<T>(mut attempt: impl FnMut(&mut Instant) -> Result<Option<T>, Failure>) -> Result<Option<T>, Failure> {
     let mut since = Instant::now();
     loop {

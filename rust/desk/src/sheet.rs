@@ -4,7 +4,7 @@ use std::str;
 
 use searchroom::{MAX_COLUMNS, MAX_ENTRIES, MAX_TEXT};
 
-use crate::catalogue::{Catalogue, Column, MAX_NUMBER, number_of};
+use crate::catalogue::{Catalogue, Column, number_of};
 use crate::folder::Folder;
 use crate::heading::{Heading, Holds, marks, name_faults, name_of, says_withdrawn};
 use crate::show::{counted, grouped, quoted};
@@ -65,8 +65,8 @@ impl Noticed {
         self.faults.is_empty().then(|| Folder { bytes: catalogue.bytes(), catalogue, headings })
     }
 
-    /// A remark on another sign that may separate the values: it stands in a first line of one cell, and either in all the
-    /// others, of one cell too, or some have more than one.
+    /// A remark on another sign that may separate the values: the first line is one cell and has the sign; every other line is
+    /// such a cell too, or some line has more than one.
     fn remark_separator(&mut self, first: &Line, rest: &[Line], separator: u8) {
         let has = |line: &Line, sign: u8| line.cells.len() == 1 && line.cells[0].contains(&sign);
         let is_likely = |sign: u8| {
@@ -109,12 +109,12 @@ impl Noticed {
     /// The cells of the first line, which name the columns.
     fn first_line(&mut self, first: &Line) -> Vec<String> {
         let cells: Vec<String> = first.cells.iter().map(|cell| String::from_utf8_lossy(cell).into_owned()).collect();
-        for (place, cell) in first.cells.iter().enumerate() {
-            if str::from_utf8(cell).is_err() {
-                self.unfit_name(first, place, NOT_UTF_8.to_owned());
-            }
+        let faulty: Vec<usize> =
+            (0..cells.len()).filter(|&place| str::from_utf8(&first.cells[place]).is_err()).collect();
+        for &place in &faulty {
+            self.unfit_name(first, place, NOT_UTF_8.to_owned());
         }
-        for (place, what) in name_faults(&cells) {
+        for (place, what) in name_faults(&cells).into_iter().filter(|(place, _)| !faulty.contains(place)) {
             self.unfit_name(first, place, what);
         }
         let columns: Vec<usize> = (0..cells.len()).filter(|&place| !marks(&cells[place])).collect();
@@ -123,7 +123,11 @@ impl Noticed {
             self.unfit_name(first, place, what);
         }
         if columns.is_empty() {
-            self.unfit_name(first, 0, "no column beside the mark; a catalogue has at least one".to_owned());
+            self.unfit_name(
+                first,
+                0,
+                "no column beside the mark; add one, for a catalogue has at least one".to_owned(),
+            );
         }
         cells
     }
@@ -186,9 +190,7 @@ impl Noticed {
     fn number(&mut self, column: &Values, line: usize, value: &str) -> Option<u32> {
         let number = number_of(value);
         if number.is_none() {
-            let most = grouped(MAX_NUMBER as usize);
-            let what = format!("not a number; write digits alone, no leading zero, at most {most}");
-            self.unfit(column, line, value, what);
+            self.unfit(column, line, value, format!("not a number; write {A_NUMBER}"));
         }
         number
     }
@@ -237,6 +239,8 @@ impl Noticed {
     }
 }
 
+const A_NUMBER: &str = "digits alone, no leading zero, at most 4,294,967,294";
+
 const NOT_UTF_8: &str = "not UTF-8; save the file as \"CSV UTF-8\"";
 
 /// Signs that often separate values, and how they are named on the command line.
@@ -248,10 +252,7 @@ fn note(column: &Values, no_number: Option<&(usize, &str)>) -> Option<String> {
     let filled: Vec<&(usize, &str)> = column.values.iter().filter(|(_, value)| !value.is_empty()).collect();
     let numbers = filled.iter().filter(|(_, value)| number_of(value).is_some()).count();
     if let Some((line, value)) = no_number.filter(|_| 2 * numbers >= filled.len()) {
-        return Some(format!(
-            "line {line} has {}, which is no number; with digits alone it would hold numbers",
-            quoted(value)
-        ));
+        return Some(format!("line {line} has {}; a number is {A_NUMBER}", quoted(value)));
     }
     let (line, value) = filled.into_iter().find(|(_, value)| value.trim() != *value)?;
     Some(format!("line {line} has {}, with a space before or after; a search takes it for a letter", quoted(value)))

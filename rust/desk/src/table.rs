@@ -62,7 +62,10 @@ pub fn read_lines(bytes: &[u8], separator: u8) -> (Vec<Line>, Vec<Fault>) {
             place.pass_line_end();
         }
         if !more {
-            faults.extend(empty.into_iter().map(|line| empty_line(line, lines.first())));
+            // Without a line that names the columns there is nothing else to say.
+            if let Some(first) = lines.first() {
+                faults.extend(empty.into_iter().map(|line| empty_line(line, first)));
+            }
             return (lines, faults);
         }
         let end = usize::try_from(reader.position().byte()).expect("a place in memory");
@@ -75,11 +78,9 @@ pub fn read_lines(bytes: &[u8], separator: u8) -> (Vec<Line>, Vec<Fault>) {
 }
 
 /// The fault of an empty line. In a file of one column it may be meant for a blank.
-fn empty_line(line: usize, first: Option<&Line>) -> Fault {
-    let what = match first {
-        Some(first) if first.cells.len() == 1 => {
-            "an empty line; write \"\" for a blank value, or remove it if it is no entry"
-        }
+fn empty_line(line: usize, first: &Line) -> Fault {
+    let what = match first.cells.len() {
+        1 => "an empty line; write \"\" for a blank value, or remove it if it is no entry",
         _ => "an empty line; remove it",
     };
     Fault { line, cell: None, what: what.to_owned() }

@@ -10,8 +10,6 @@ pub struct Misspelled {
     pub expected: String,
 }
 
-const NOTHING_MORE: &str = "nothing more; two conditions stand in a group, as in all(.., ..) or any(.., ..)";
-
 /// Reads a question. `names` are those of the catalogue's columns, by their numbers.
 pub fn read(text: &str, names: &[&str]) -> Result<Written, Misspelled> {
     let mut reader = Reader { text, at: 0, names };
@@ -30,7 +28,7 @@ pub fn read(text: &str, names: &[&str]) -> Result<Written, Misspelled> {
         loop {
             reader.spaces();
             if open == 0 {
-                return if reader.rest().is_empty() { Ok(written) } else { Err(reader.expected(NOTHING_MORE)) };
+                return if reader.rest().is_empty() { Ok(written) } else { Err(reader.nothing_more()) };
             }
             if reader.take(",") {
                 break;
@@ -57,6 +55,15 @@ impl<'a> Reader<'a> {
 
     fn expected(&self, expected: impl Into<String>) -> Misspelled {
         Misspelled { at: self.at, expected: expected.into() }
+    }
+
+    fn nothing_more(&self) -> Misspelled {
+        let group = if self.rest().starts_with(')') {
+            ""
+        } else {
+            "; two conditions stand in a group, as in all(.., ..) or any(.., ..)"
+        };
+        self.expected(format!("nothing more{group}"))
     }
 
     fn spaces(&mut self) {
@@ -100,7 +107,8 @@ impl<'a> Reader<'a> {
     /// The digits of the column's number.
     fn column(&mut self, opposite: bool) -> Result<String, Misspelled> {
         let start = self.at;
-        let name: String = if self.rest().starts_with('"') {
+        let is_quoted = self.rest().starts_with('"');
+        let name: String = if is_quoted {
             self.quoted()?.into_iter().map(|(_, letter)| letter).collect()
         } else {
             let word = self.word();
@@ -112,7 +120,7 @@ impl<'a> Reader<'a> {
         if let Some(column) = number.or_else(named) {
             return Ok(column);
         }
-        if !opposite && Kind::named(&name).is_some() {
+        if !opposite && !is_quoted && Kind::named(&name).is_some() {
             self.spaces();
             return Err(self.expected(format!("`(` after `{name}`")));
         }

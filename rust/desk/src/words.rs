@@ -140,7 +140,7 @@ pub struct Explain {
     #[command(flatten)]
     pub asked: Asked,
     /// The entry's number, from 0 on
-    #[arg(value_parser = entry)]
+    #[arg(value_parser = entry, allow_negative_numbers = true)]
     pub entry: u64,
 }
 
@@ -180,7 +180,7 @@ fn condition(text: &str) -> Result<u8, String> {
 
 /// The number of an entry; the engine judges it.
 fn entry(text: &str) -> Result<u64, String> {
-    text.parse().map_err(|_| "entries are numbers, from 0 on".to_owned())
+    text.trim().parse().map_err(|_| "entries are numbers from 0 to at most 2,047".to_owned())
 }
 
 /// The number of a reader; the engine judges it.

@@ -46,7 +46,7 @@ group 0, any of: settled, yes
 listed: 2 looks, 1 passed
 "#;
     assert_eq!(room.run(&["explain", "parish", QUESTION, "0"]).done(), expected);
-    let expected = r#"entry 2: year blank, parish blank
+    let expected = r#"entry 2: year (blank), parish (blank)
 running order 2, 1, 0
 
 group 0, any of: settled, yes
@@ -66,7 +66,7 @@ listed: 1 look, 2 passed
 fn blank_answers() {
     let said = parish().run(&["explain", "parish", "not year in 1..2", "2"]).done();
     let lines: Vec<&str> = said.lines().collect();
-    assert_eq!(lines[..3], ["entry 2: year blank, parish blank", "running order 0", ""]);
+    assert_eq!(lines[..3], ["entry 2: year (blank), parish (blank)", "running order 0", ""]);
     assert_eq!(
         lines[3].split_whitespace().collect::<Vec<_>>().join(" "),
         "condition 0 not year in 1..2 looked at: blank"
@@ -222,9 +222,9 @@ impl<'a> Explained<'a> {
 
     fn head(&self) -> String {
         let value = |column: &Column| match column {
-            Column::Numbers(numbers) if numbers[self.entry] == BLANK_NUMBER => "blank".to_owned(),
+            Column::Numbers(numbers) if numbers[self.entry] == BLANK_NUMBER => "(blank)".to_owned(),
             Column::Numbers(numbers) => numbers[self.entry].to_string(),
-            Column::Texts(texts) if texts[self.entry].is_empty() => "blank".to_owned(),
+            Column::Texts(texts) if texts[self.entry].is_empty() => "(blank)".to_owned(),
             Column::Texts(texts) => texts[self.entry].iter().map(|&byte| letter(byte)).collect(),
         };
         let cells = self.asked.names.iter().zip(&self.asked.catalogue.columns);

@@ -354,8 +354,9 @@ fn nearly_a_column_of_numbers() {
     let note = |csv: &str| {
         import(csv).1.lines().nth(1).and_then(|line| line.split_once(" (")).map(|(_, note)| note.to_owned())
     };
-    let told = r#"line 3 has "12a", which is no number; with digits alone it would hold numbers)"#;
-    let told = Some(told.to_owned());
+    let a_number = "a number is digits alone, no leading zero, at most 4,294,967,294)";
+    let told = Some(format!("line 3 has \"12a\"; {a_number}"));
+    assert_eq!(note("shelf\n1\n0012\n2\n"), Some(format!("line 3 has \"0012\"; {a_number}")));
     assert_eq!(note("shelf\n1\n12a\n2\n"), told);
     assert_eq!(note("shelf\n1\n12a\n"), told, "half of the values are numbers");
     assert_eq!(note("shelf\n\"\"\n12a\n2\n"), told, "blanks do not count");

@@ -120,8 +120,9 @@ fn import_that_was_cut_off() {
 #[test]
 fn names_of_files_being_written() {
     let room = parish();
+    symlink("x.new", room.path("to_new")).unwrap();
     for words in [["ask", "--tally"], ["ask", "--copy"], ["draw", "-o"]] {
-        for file in ["t.bin.new", "parish/columns.csv.new"] {
+        for file in ["t.bin.new", "parish/columns.csv.new", ".new", "to_new"] {
             let said = room.run(&[words[0], "parish", QUESTION, words[1], file]).failed(1);
             assert_eq!(
                 said,
@@ -130,6 +131,23 @@ fn names_of_files_being_written() {
             assert!(!room.path(file).exists());
         }
     }
+}
+
+/// A folder, or what can only be one, and what is no file at all.
+#[test]
+fn what_is_no_file() {
+    let room = parish();
+    for file in ["parish", "new/", "parish/", "/dev/null", "/dev/stdout", ".", "/"] {
+        for words in [["ask", "--tally"], ["ask", "--copy"], ["draw", "-o"]] {
+            let said = room.run(&[words[0], "parish", QUESTION, words[1], file]).failed(1);
+            let is_missing = file == "new/" && said.contains("there is no folder");
+            assert!(
+                is_missing || said == format!("searchroom: {file} is not a file: name one, or one to be made\n"),
+                "{said}"
+            );
+        }
+    }
+    assert!(!room.path("new").exists());
 }
 
 /// Where the copy cannot be written the tally stays as it was.

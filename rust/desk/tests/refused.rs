@@ -44,7 +44,7 @@ fn misspelling_of_the_specification() {
 }
 
 /// Questions that cannot be read any further than to a letter, and what is expected there.
-const MISSPELLED: [(&str, usize, &[&str]); 36] = [
+const MISSPELLED: [(&str, usize, &[&str]); 37] = [
     ("", 0, &["condition", "group", "year", "parish"]),
     ("   ", 0, &["group", "year"]),
     ("yeer in 1..2", 0, &["year", "parish"]),
@@ -78,6 +78,7 @@ const MISSPELLED: [(&str, usize, &[&str]); 36] = [
     ("all(year blank; parish blank)", 14, &["`,`", "`)`"]),
     ("year blank.", 10, &["nothing more", "all(", "any("]),
     ("withdrawn is \"no\"", 0, &["year", "never listed"]),
+    ("\"all\" blank", 0, &["a column: year, parish"]),
     ("not ANY(year blank)", 4, &["`any`", "small letters"]),
     ("(year blank)", 0, &["group"]),
     ("any(parish is \"é\", yeer blank)", 19, &["year", "parish"]),
@@ -394,12 +395,12 @@ fn what_is_advised() {
         ("year in 2..1", 11, "the smaller number stands first, and the largest is 4,294,967,294"),
         ("year in 1..4294967295", 11, "the smaller number stands first, and the largest is 4,294,967,294"),
         ("parish is \"\"", 11, "an empty text; ask `blank`"),
-        ("parish has \"abcdefghijklmnopqrstuvwx\"", 11, "24 letters; a text has at most 23"),
+        ("parish has \"abcdefghijklmnopqrstuvwx\"", 11, "24 letters; a text has at most 23, so shorten it"),
         ("c2 blank", 11, "there is no c2; the columns are c0 to c1: year, parish"),
         ("c256 blank", 21, "there is no c256; the columns are c0 to c1: year, parish"),
-        (twice, 13, "the same as condition 0, and each stands once; regroup, as in all(A, any(B, C))"),
+        (twice, 13, "the same as condition 0; leave one out, or regroup, as in all(A, any(B, C))"),
         (&many, 12, "one condition too many; at most 64 fit, so ask two questions"),
-        (&deep, 10, "this group stands too deep; at most 8 stand inside each other"),
+        (&deep, 10, "this group stands too deep; at most 8 stand inside each other, so regroup"),
         (&long, 21, "in the strict spelling it has 34,594 bytes; at most 16,384 are read, so ask two questions"),
     ] {
         let lines = refused(&room, &[question], number);
