@@ -5,12 +5,16 @@ mod desk {
     pub mod room;
 }
 
-use std::fs;
-use std::os::unix::fs::symlink;
+use std::fs::{self, File, OpenOptions};
+use std::io::Write;
+use std::os::unix::fs::{OpenOptionsExt, symlink};
+use std::path::Path;
+use std::process::{Child, Command, Stdio};
+use std::thread;
 use std::time::{Duration, Instant};
 
 use desk::parish::{QUESTION, TABLE, parish};
-use desk::room::Room;
+use desk::room::{Room, Said};
 
 /// The catalogue's own two files are never an output.
 #[test]
@@ -84,7 +88,7 @@ fn asked_while_it_is_imported() {
         room.set(file, table);
         room.run(&["import", file, "deeds"]).done();
     }
-    std::thread::scope(|scope| {
+    thread::scope(|scope| {
         let importing = scope.spawn(|| {
             for turn in 0..150 {
                 room.run(&["import", ["a.csv", "b.csv"][turn % 2], "deeds"]).done();
@@ -98,6 +102,45 @@ fn asked_while_it_is_imported() {
         }
         assert!(asked > 0);
     });
+}
+
+/// The same, step by step: `catalogue.bin` is a pipe, at which the reader waits with the names already open, and other names are
+/// put in their place before it is given a catalogue. It must begin anew.
+#[test]
+fn names_that_change_while_the_catalogue_is_read() {
+    let room = Room::new();
+    let [(_, names), (catalogue, other_names)] = ["first,second\n1,2\n", "second,first\n2,1\n"].map(|table| {
+        room.set("deeds.csv", table);
+        room.run(&["import", "deeds.csv", "deeds"]).done();
+        ["catalogue.bin", "columns.csv"].map(|file| fs::read(room.path("deeds").join(file)).unwrap()).into()
+    });
+    let pipe = room.path("deeds/catalogue.bin");
+    fs::remove_file(&pipe).unwrap();
+    assert!(Command::new("mkfifo").arg(&pipe).status().unwrap().success());
+    room.set("deeds/columns.csv", names);
+    let mut asking = room.command(&["ask", "deeds", "first in 1..1"]).stdout(Stdio::piped()).spawn().unwrap();
+    let mut writer = opened_by_a_reader(&pipe, &mut asking).expect("the program reads the catalogue");
+    for (file, bytes) in [("columns.csv", &other_names), ("catalogue.bin", &catalogue)] {
+        room.set("deeds/other", bytes);
+        fs::rename(room.path("deeds/other"), room.path("deeds").join(file)).unwrap();
+    }
+    writer.write_all(&catalogue).unwrap();
+    drop(writer);
+    let said = Said::of(asking.wait_with_output().unwrap()).done();
+    assert!(said.starts_with("1 of 1 entry found\n"), "{said}");
+}
+
+/// The pipe, to be written to, once the program has opened it to read; none if it ends before.
+fn opened_by_a_reader(pipe: &Path, program: &mut Child) -> Option<File> {
+    /// Not to wait for a reader, but to fail where there is none (O_NONBLOCK).
+    const AT_ONCE: i32 = 0o4000;
+    while program.try_wait().unwrap().is_none() {
+        if let Ok(writer) = OpenOptions::new().write(true).custom_flags(AT_ONCE).open(pipe) {
+            return Some(writer);
+        }
+        thread::sleep(Duration::from_millis(1));
+    }
+    None
 }
 
 /// An import that was cut off between its two steps: the catalogue has no names, and nobody takes those of another.
