@@ -1,6 +1,6 @@
 //! A catalogue taken apart into values, and put together again. The engine judges its bytes; here they are only told.
 
-use searchroom::{MAX_TEXT, Refusal, check_catalogue};
+use searchroom::{MAX_TEXT, Refusal, bit, check_catalogue};
 
 /// The largest number; the next one stands for a blank.
 pub const MAX_NUMBER: u32 = BLANK_NUMBER - 1;
@@ -70,7 +70,7 @@ impl Catalogue {
         let entries = usize::from(size.entries);
         let mark = (!rest.is_empty()).then(|| {
             let (_, bits) = take_field(&mut rest);
-            (0..entries).map(|entry| bits[entry / 8] >> (entry % 8) & 1 == 1).collect()
+            (0..entries).map(|entry| bit(bits, entry)).collect()
         });
         Ok(Catalogue { entries, columns, mark })
     }

@@ -77,8 +77,8 @@ impl<'a> Picture<'a> {
         let Request { folder, question, order } = request;
         let texts: Vec<String> = question.conditions().iter().map(|condition| shortened(folder, condition)).collect();
         let widest = texts.iter().map(|text| text.chars().count()).max();
-        let depth = (0..question.conditions().len()).map(|number| question.around(number).count()).max();
-        let conditions_at = MARGIN + STRIP * depth.unwrap_or_default() as f64 + 8.0;
+        let strips = question.groups.iter().map(|group| group.depth + 1).max().unwrap_or_default();
+        let conditions_at = MARGIN + STRIP * strips as f64 + 8.0;
         let turn_at = conditions_at + NUMBER + LETTER * widest.unwrap_or_default().max(9) as f64 + TURN;
         let bar_at = turn_at + 20.0;
         let width = bar_at + BAR + SHARE + MARGIN;

@@ -7,7 +7,6 @@ use std::path::Path;
 use searchroom::Refusal;
 
 /// All but the last end the program with status 1.
-#[derive(Debug)]
 pub enum Failure {
     /// The engine refuses. `help` says where, and what to do, in lines of its own.
     Refused { refusal: Refusal, help: String },

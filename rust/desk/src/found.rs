@@ -1,6 +1,6 @@
 //! A run of the engine's, its tables taken apart.
 
-use searchroom::{Counts, Refusal, Tally};
+use searchroom::{Counts, Refusal, Tally, bit};
 
 use crate::catalogue::Catalogue;
 use crate::failure::Failure;
@@ -48,6 +48,7 @@ pub fn run(
     let mut looks = vec![0; row * question.conditions().len()];
     let counts = searchroom::run(&folder.bytes, &question.bytes, order, reader, &mut listed, &mut looks, tally)
         .map_err(|refusal| Failure::Refused { refusal, help: advice(refusal, question, tally.len()) })?;
+    let ones = |row: &[u8]| (0..folder.catalogue.entries).filter(|&entry| bit(row, entry)).collect::<Vec<_>>();
     let looks = (0..question.conditions().len()).map(|number| ones(&looks[number * row..][..row]).len()).collect();
     Ok(Found { counts, listed: ones(&listed), looks })
 }
@@ -65,14 +66,10 @@ fn advice(refusal: Refusal, question: &Question, tally_bytes: usize) -> String {
             count => format!("\n  the question has {count} conditions: name each number from 0 to {} once", count - 1),
         },
         Refusal::BadTally if tally_bytes != Tally::BYTES => {
-            format!("\n  the tally's file has {tally_bytes} bytes: name another, or one that is not there yet")
+            let bytes = counted(tally_bytes, "byte", "bytes");
+            format!("\n  the tally's file has {bytes}: name another, or one that is not there yet")
         }
         Refusal::BadTally => "\n  keep this tally as it is, and begin another".to_owned(),
         _ => String::new(),
     }
-}
-
-/// The entries whose bits are one in a row.
-fn ones(row: &[u8]) -> Vec<usize> {
-    (0..8 * row.len()).filter(|entry| row[entry / 8] >> (entry % 8) & 1 == 1).collect()
 }

@@ -4,7 +4,7 @@ use std::str;
 
 use searchroom::{MAX_COLUMNS, MAX_ENTRIES, MAX_TEXT};
 
-use crate::catalogue::{Catalogue, Column, number_of};
+use crate::catalogue::{Catalogue, Column, MAX_NUMBER, number_of};
 use crate::folder::Folder;
 use crate::heading::{Heading, Holds, marks, name_faults, name_of, says_withdrawn};
 use crate::show::{counted, grouped, quoted};
@@ -190,7 +190,7 @@ impl Noticed {
     fn number(&mut self, column: &Values, line: usize, value: &str) -> Option<u32> {
         let number = number_of(value);
         if number.is_none() {
-            self.unfit(column, line, value, format!("not a number; write {A_NUMBER}"));
+            self.unfit(column, line, value, format!("not a number; write {}", a_number()));
         }
         number
     }
@@ -239,7 +239,10 @@ impl Noticed {
     }
 }
 
-const A_NUMBER: &str = "digits alone, no leading zero, at most 4,294,967,294";
+/// How a number is written.
+fn a_number() -> String {
+    format!("digits alone, no leading zero, at most {}", grouped(MAX_NUMBER as usize))
+}
 
 const NOT_UTF_8: &str = "not UTF-8; save the file as \"CSV UTF-8\"";
 
@@ -252,7 +255,7 @@ fn note(column: &Values, no_number: Option<&(usize, &str)>) -> Option<String> {
     let filled: Vec<&(usize, &str)> = column.values.iter().filter(|(_, value)| !value.is_empty()).collect();
     let numbers = filled.iter().filter(|(_, value)| number_of(value).is_some()).count();
     if let Some((line, value)) = no_number.filter(|_| 2 * numbers >= filled.len()) {
-        return Some(format!("line {line} has {}; a number is {A_NUMBER}", quoted(value)));
+        return Some(format!("line {line} has {}; a number is {}", quoted(value), a_number()));
     }
     let (line, value) = filled.into_iter().find(|(_, value)| value.trim() != *value)?;
     Some(format!("line {line} has {}, with a space before or after; a search takes it for a letter", quoted(value)))

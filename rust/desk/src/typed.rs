@@ -4,7 +4,6 @@ use crate::heading::{WITHDRAWN, numbered, same, without_zeros};
 use crate::notation::{Condition, Kind, Part, TEXT_WORDS, Test, WORDS, Written, is_of_a_word, shown_name};
 
 /// Where a text cannot be read, and what was expected there.
-#[derive(Debug)]
 pub struct Misspelled {
     pub at: usize,
     pub expected: String,

@@ -415,7 +415,7 @@ fn what_is_advised() {
     assert_eq!(entry, format!("{}\n  the entries are 0 to 2\n", first_line(18)));
     room.set("short.bin", "x");
     let tally = refused(&room, &["year blank", "--tally", "short.bin"], 17);
-    assert_eq!(tally.last().unwrap(), "  the tally's file has 1 bytes: name another, or one that is not there yet");
+    assert_eq!(tally.last().unwrap(), "  the tally's file has 1 byte: name another, or one that is not there yet");
     room.set("full.bin", [0xFF; 128]);
     let tally = refused(&room, &["year blank", "--tally", "full.bin"], 17);
     assert_eq!(tally.last().unwrap(), "  keep this tally as it is, and begin another");

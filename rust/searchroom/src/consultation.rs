@@ -1,5 +1,5 @@
 use crate::question::MAX_CONDITIONS;
-use crate::{Counts, Refusal, Tally, check_catalogue, run};
+use crate::{Counts, Refusal, Tally, bit, check_catalogue, run};
 
 /// What an accepted run found: the listed entries, and the entries at which each condition was looked at.
 #[derive(Clone, Debug, PartialEq, Eq)]
@@ -67,5 +67,5 @@ impl Consultation {
 
 /// The entries whose bits are one in a row.
 fn ones(row: &[u8]) -> impl Iterator<Item = usize> + '_ {
-    (0..8 * row.len()).filter(|entry| row[entry / 8] >> (entry % 8) & 1 == 1)
+    (0..8 * row.len()).filter(|&entry| bit(row, entry))
 }

@@ -27,7 +27,7 @@ pub use consultation::{Consultation, consult};
 pub use copy::{COPY_BYTES, Look, Looks, copy, copy_of, looks};
 pub use question::{Answer, MAX_CONDITIONS, MAX_DEPTH, check_question, outcome};
 pub use refusal::Refusal;
-pub use run::{Counts, run};
+pub use run::{Counts, bit, run};
 pub use tally::Tally;
 pub use typed::{MAX_TYPED, TYPED_BYTES, typed, typed_question};
 pub use word::Word;

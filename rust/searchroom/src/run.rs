@@ -9,6 +9,16 @@ pub struct Counts {
     pub looks: u32,
 }
 
+/// The bit of an entry in a row of a table of [`run`] or of a mark; zero past the row's end.
+///
+/// ```
+/// assert!(searchroom::bit(&[0b101, 0b1], 8));
+/// assert!(!searchroom::bit(&[0b101, 0b1], 1));
+/// ```
+pub fn bit(row: &[u8], entry: usize) -> bool {
+    row.get(entry / 8).is_some_and(|byte| byte >> (entry % 8) & 1 == 1)
+}
+
 /// Runs a question over a catalogue in a running order, for a reader, into tables of the caller's. It takes
 /// [`Answer::Blank`](crate::Answer::Blank) as no. A withdrawn entry is not listed and has no looks.
 ///
