@@ -9,8 +9,8 @@ use Rattle.catalogue.specs.Catalogue.{Catalogue}
 use Rattle.predicate.specs.declared.outcome.Outcome.{Outcome}
 use Rattle.predicate.specs.declared.outcome.Outcome.the-variants.{No, Yes, Blank}
 use Rattle.predicate.specs.Meaning.{outcome}
-use Rattle.rows.specs.Task.{predicateAt}
-use Rattle.input.specs.Input.{Input}
+use Rattle.task.specs.Task.{predicateAt}
+use Rattle.task.specs.Input.{Input}
 use Rattle.answers.specs.declared.word.Answer.{Answer}
 use Rattle.answers.specs.declared.word.Answer.the-variants.{Refused, Accepted}
 use Rattle.answers.specs.Word.{FitsWord}

@@ -17,7 +17,7 @@ use Rattle.bitmaps.specs.Table.{lineBit}
 use Rattle.bitmaps.specs.Word.{blockRows, BlockAt}
 use Rattle.plan.specs.Plan.{accessAt}
 use Rattle.access.specs.Access.{RowsIn, HasOutcomesAnyQuery, BlankIs}
-use Rattle.rows.specs.Task.{Task, predicateAt}
+use Rattle.task.specs.Task.{Task, predicateAt}
 use Rattle.blanks.specs.Blanks.{NoesIn, outcomeOn, ProbesOf, HasProbes, blankTurn}
 
 in-word : (due d : ℕ) → due < 2 ^ 64 → has due d ≡ true → d < blockRows

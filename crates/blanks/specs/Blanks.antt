@@ -14,7 +14,7 @@ use Rattle.sets.specs.Kept.{Sifted}
 use Rattle.gather.specs.Turns.{HasLines, TurnsWhere}
 use Rattle.plan.specs.Plan.{planSize, accessAt}
 use Rattle.access.specs.Access.{Accessed}
-use Rattle.rows.specs.Task.{Task, predicateAt}
+use Rattle.task.specs.Task.{Task, predicateAt}
 
 -- the numbers of `due` that are not in `met` are among those of r, which are of `due`
 abbrev pub NoesIn : (due met r : ℕ) → Type 0

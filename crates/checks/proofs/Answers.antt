@@ -9,7 +9,7 @@ use Rattle.layout.specs.declared.Layout.{Layout}
 use Rattle.layout.specs.Layout.{LaidOut}
 use Rattle.reading.specs.Tables.{Tables}
 use Rattle.input.specs.declared.begin.Beginning.{Beginning}
-use Rattle.input.specs.Input.{Input, decodeInput}
+use Rattle.task.specs.Input.{Input, decodeInput}
 use Rattle.input.specs.Beginning.{HasInput}
 use Rattle.answers.specs.declared.word.Answer.the-variants.{Refused, Accepted}
 use Rattle.answers.specs.Answers.{catalogueAnswer, questionAnswer, Answered}

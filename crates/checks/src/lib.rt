@@ -3,7 +3,7 @@ use ancestors::Ancestors;
 use answers::word::Answer;
 use query::format::Predicate;
 ghost use Rattle.catalogue.specs.Decode.{decodeCatalogue};
-ghost use Rattle.input.specs.Input.{decodeInput};
+ghost use Rattle.task.specs.Input.{decodeInput};
 ghost use Rattle.answers.specs.Answers.{catalogueAnswer, questionAnswer, Answered};
 
 // The numbers of entries and of columns.

@@ -16,7 +16,7 @@ use Rattle.layout.specs.Layout.{Laid, LaidOut}
 use Rattle.query.specs.Format.{predicateLimit}
 use Rattle.strategy.specs.Order.{isOrder}
 use Rattle.bitmaps.specs.Bitmap.{bytesFor}
-use Rattle.input.specs.Input.{Input, decodeInput}
+use Rattle.task.specs.Input.{Input, decodeInput}
 use Rattle.answers.specs.Word.{numberIn, firstIn, thirdIn}
 use Rattle.answers.specs.Refusals.{notOrder}
 use Rattle.answers.specs.Checks.{checked}

@@ -13,7 +13,7 @@ use Rattle.strategy.specs.Tree.{eval}
 use Rattle.strategy.specs.Order.{occurrences, allBelow, isOrder}
 use Rattle.bitmaps.specs.Sums.{sumOf, joined}
 use Rattle.bitmaps.specs.Bitmap.{bitmap, bitmaps, onesIn}
-use Rattle.rows.specs.Task.{isSelected, dueAt, traceAt}
+use Rattle.task.specs.Task.{isSelected, dueAt, traceAt}
 use Rattle.answers.specs.Checks.{checked}
 use Rattle.demands.specs.Run.{selection, probeBitmaps, runOn}
 use Rattle.bitmaps.specs.Bit.{bit}

@@ -6,7 +6,7 @@ use Rattle.fields.specs.Decoded.{Decoded, refused, accepted}
 use Rattle.catalogue.specs.Format.{rowLimit}
 use Rattle.query.specs.Format.{predicateLimit}
 use Rattle.bitmaps.specs.Bitmap.{bytesFor}
-use Rattle.input.specs.Input.{Input, decodeInput}
+use Rattle.task.specs.Input.{Input, decodeInput}
 use Rattle.answers.specs.Word.{numberIn, firstIn, thirdIn}
 use Rattle.demands.specs.Run.{Lent, lent, Ran, rowCount, predicateCount, tallySize, runOf}
 use Rattle.register.specs.Register as register

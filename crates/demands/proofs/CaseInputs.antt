@@ -15,7 +15,7 @@ use Rattle.predicate.specs.Payload.{tagsIn, kindFits, rangeFits, operandFits, v
 use Rattle.query.specs.Query.{Query}
 use Rattle.query.specs.Decode.{payloadAt, isRepeated, predicateField, groupField, memberField, decodeTagged, decodeQuery, member}
 use Rattle.strategy.specs.Tree.{Tree, leaf, none, more, all, any}
-use Rattle.input.specs.Input.{Input, decodeInput}
+use Rattle.task.specs.Input.{Input, decodeInput}
 use Rattle.demands.specs.Run.{lent, runOn, runOf}
 use Rattle.demands.specs.Parish.{parish, yearBlank, both, question}
 use Rattle.demands.specs.Cases.{century, oneRow}

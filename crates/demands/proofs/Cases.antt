@@ -31,8 +31,8 @@ use Rattle.strategy.specs.Order.{occurrences, allBelow, isOrder}
 use Rattle.bitmaps.specs.Sums.{sumOf, joined}
 use Rattle.bitmaps.specs.Bit.{bit}
 use Rattle.bitmaps.specs.Bitmap.{bytesFor, bitmap, bitmaps, onesIn}
-use Rattle.rows.specs.Task.{isSelected, dueAt, traceAt}
-use Rattle.input.specs.Input.{Input, withQuery, decodeInput}
+use Rattle.task.specs.Task.{isSelected, dueAt, traceAt}
+use Rattle.task.specs.Input.{Input, withQuery, decodeInput}
 use Rattle.answers.specs.Checks.{checked}
 use Rattle.answers.specs.declared.word.Answer.the-variants.{Refused, Accepted}
 use Rattle.answers.specs.Word.{packed}

@@ -16,8 +16,8 @@ use Rattle.bitmaps.specs.Sums.{sumOf, joined, digit}
 use Rattle.bitmaps.specs.SumLaws.{sum-split}
 use Rattle.log.specs.Log.{probeField, rowFields, logFields}
 use Rattle.log.proofs.LogLaws.{log-length}
-use Rattle.rows.specs.Task.{isProbed}
-use Rattle.input.specs.Input.{Input}
+use Rattle.task.specs.Task.{isProbed}
+use Rattle.task.specs.Input.{Input}
 use Rattle.demands.specs.Run.{rowCount, taskOf}
 use Rattle.demands.specs.Demands.{RunningOrder, LookMade}
 use Rattle.demands.specs.Log.{EachProbeOnce}

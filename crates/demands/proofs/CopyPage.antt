@@ -10,8 +10,8 @@ use Rattle.bools.specs.Bools.{clash}
 use Rattle.predicate.specs.Meaning.{outcome}
 use Rattle.strategy.specs.Order.{occurrences}
 use Rattle.bitmaps.specs.Sums.{digit}
-use Rattle.rows.specs.Task.{predicateAt, isProbed}
-use Rattle.input.specs.Input.{Input}
+use Rattle.task.specs.Task.{predicateAt, isProbed}
+use Rattle.task.specs.Input.{Input}
 use Rattle.answers.specs.Answers.{outcomeNumber}
 use Rattle.demands.specs.Run.{Request, rowCount, taskOf}
 use Rattle.demands.specs.Demands.{LookMade}

@@ -11,7 +11,7 @@ use Rattle.fields.specs.Output.{putFront}
 use Rattle.bools.specs.Bools.{not-true, clash, leb-yes, leb-le}
 use Rattle.catalogue.specs.Sound.{IsRefusal}
 use Rattle.strategy.specs.Order.{isOrder}
-use Rattle.input.specs.Input.{Input}
+use Rattle.task.specs.Input.{Input}
 use Rattle.answers.specs.declared.word.Answer.the-variants.{Refused, Accepted}
 use Rattle.answers.specs.Word.{packed}
 use Rattle.answers.specs.Refusals.{notOrder, outputTooShort}

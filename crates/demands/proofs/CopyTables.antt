@@ -14,8 +14,8 @@ use Rattle.bitmaps.specs.Sums.{sumOf, digit, countOf}
 use Rattle.bitmaps.specs.SumLaws.{sum-same, count-same}
 use Rattle.log.specs.Log.{probeFieldSize}
 use Rattle.log.proofs.LogLaws.{log-length}
-use Rattle.rows.specs.Task.{isProbed}
-use Rattle.input.specs.Input.{Input}
+use Rattle.task.specs.Task.{isProbed}
+use Rattle.task.specs.Input.{Input}
 use Rattle.demands.specs.Run.{rowCount, predicateCount, taskOf, lookCount}
 use Rattle.demands.specs.Demands.{RunningOrder}
 use Rattle.demands.specs.Log.{outcomeNumberAt, taskFields, EachProbeOnce, logSize}

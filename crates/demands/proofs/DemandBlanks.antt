@@ -16,7 +16,7 @@ use Rattle.predicate.specs.Meaning.{opposite, truth, valueBlank, outcomeOf, col
 use Rattle.predicate.specs.Outcome.{isBlank}
 use Rattle.predicate.proofs.KindLaws.{kind-below, kind-opposite}
 use Rattle.predicate.proofs.BlankLaws.{asked, blank-is}
-use Rattle.input.specs.Input.{Input}
+use Rattle.task.specs.Input.{Input}
 use Rattle.answers.specs.Answers.{outcomeNumber}
 use Rattle.demands.specs.Demands.{conditionOf, BlankField, MayAnswerBlank, BlankAt}
 

@@ -14,7 +14,7 @@ use Rattle.catalogue.proofs.Exactly.{accepted-exactly as catalogue-exactly}
 use Rattle.query.specs.Query.{Query}
 use Rattle.query.specs.Decode.{decodeQuery}
 use Rattle.query.proofs.Exactly.{decode-encoded, accepted-exactly as question-exactly}
-use Rattle.input.specs.Input.{Input, decodeInput}
+use Rattle.task.specs.Input.{Input, decodeInput}
 use Rattle.answers.specs.declared.word.Answer.{Answer}
 use Rattle.answers.specs.declared.word.Answer.the-variants.{Refused, Accepted}
 use Rattle.answers.specs.Word.{packed, numberOf, firstOf as firstResult, secondOf, thirdOf, FitsWord}

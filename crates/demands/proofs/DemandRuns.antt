@@ -11,8 +11,8 @@ use Rattle.bools.specs.Bools.{not-true, both, and-parts, clash, eqb-eq, eqb-sel
 use Rattle.catalogue.specs.Sound.{IsRefusal}
 use Rattle.strategy.specs.Order.{isOrder}
 use Rattle.bitmaps.specs.Bitmap.{bytesFor}
-use Rattle.rows.specs.Task.{isSelected}
-use Rattle.input.specs.Input.{Input}
+use Rattle.task.specs.Task.{isSelected}
+use Rattle.task.specs.Input.{Input}
 use Rattle.answers.specs.declared.word.Answer.the-variants.{Refused, Accepted}
 use Rattle.answers.specs.Refusals.{notOrder, tableTooShort, noSuchReader, tallyRefused}
 use Rattle.answers.specs.Checks.{checked}

@@ -25,9 +25,9 @@ use Rattle.bitmaps.specs.Bitmap.{bytesFor, bitmap}
 use Rattle.bitmaps.specs.Bit.{bit}
 use Rattle.bitmaps.specs.BitmapLaws.{bitmap-length, bitmap-bytes, bitmap-bit, bitmap-ones, bitmaps-length, bitmaps-line, bitmaps-ones}
 use Rattle.catalogue.specs.Catalogue.{isWithdrawn}
-use Rattle.rows.specs.Task.{isSelected, dueAt, traceAt, isProbed}
-use Rattle.rows.proofs.Withdrawn.{probed-is}
-use Rattle.input.specs.Input.{Input}
+use Rattle.task.specs.Task.{isSelected, dueAt, traceAt, isProbed}
+use Rattle.task.proofs.Withdrawn.{probed-is}
+use Rattle.task.specs.Input.{Input}
 use Rattle.demands.specs.Run.{rowCount, predicateCount, taskOf, selection, probeBitmaps, foundCount, lookCount}
 use Rattle.demands.specs.Demands.{RunningOrder, Present, ifPresent, pattern, treeValue, LookDue, LookMade, LineOf, listedLine, looksLine}
 

@@ -3,7 +3,7 @@ use Prim.Native.Nat.{ℕ, suc, _+_, _*_, _/_, _%_, _^_, _≤_, _<_}
 use native.Mathlib.Nat.{mul-comm}
 use native.Mathlib.Omega.{arith}
 use mathlib.Core.Path.{_≡_, refl, sym, ap, _∙_, subst}
-use mathlib.Core.Bool.{Bool, true, false, not, _&&_, cond}
+use mathlib.Core.Bool.{Bool, true, false, _&&_, cond}
 use mathlib.Core.Logic.{_↔_, _⊎_, inl, inr}
 use mathlib.Core.List.{List, [], _∷_}
 use lib.ListN.{length, take}
@@ -35,7 +35,7 @@ use Rattle.query.proofs.Refusals.{query-refusal}
 use Rattle.predicate.specs.Meaning.{Predicate, outcomeOf, outcome}
 use Rattle.predicate.specs.Outcome.{isBlank}
 use Rattle.predicate.specs.Payload.{tagsOf, validPayload, predicateOf}
-use Rattle.bools.specs.Bools.{which, not-true, not-of-true, both, and-parts, ltb-yes, ltb-lt, ltb-le}
+use Rattle.bools.specs.Bools.{which, not-true, and-parts, ltb-yes, ltb-lt, ltb-le}
 use Rattle.strategy.specs.Assignment.{Assignment, Among}
 use Rattle.strategy.specs.Tree.{eval, size}
 use Rattle.strategy.specs.TreeLaws.{all-none, all-more, any-none, any-more}
@@ -48,8 +48,9 @@ use Rattle.strategy.specs.QueryLaws.{query-ours, query-right}
 use Rattle.bitmaps.specs.Sums.{sumOf, countOf}
 use Rattle.bitmaps.specs.SumLaws.{sum-same}
 use Rattle.bitmaps.specs.Bit.{bit}
-use Rattle.rows.specs.Task.{predicateAt, isSelected, isProbed}
-use Rattle.input.specs.Input.{Input, withQuery, decodeInput}
+use Rattle.task.specs.Task.{predicateAt, isSelected, isProbed}
+use Rattle.task.specs.Input.{Input, withQuery, decodeInput}
+use Rattle.task.proofs.Withdrawn.{selected-is}
 use Rattle.answers.specs.declared.word.Answer.the-variants.{Refused, Accepted}
 use Rattle.answers.specs.Refusals.{noSuchRowOrPredicate}
 use Rattle.answers.specs.Word.{packed}
@@ -227,16 +228,10 @@ unfolding eval
 demand-2-tree a = (λ c. refl, all-none a, all-more a, any-none a, any-more a)
 
 pub demand-2-listed : Demand2Listed
-unfolding isSelected
 demand-2-listed l i k =
     rw (kept-run l i k, listed-line i (l .request .order) (l .listed))
-    (line-of (λ e. Present i e × (treeValue i (pattern i e) ≡ true)) (isSelected (taskOf i (l .request .order))) (rowCount i) holds)
-  where
-    holds : (e : ℕ) → (isSelected (taskOf i (l .request .order)) e ≡ true) ↔ (Present i e × (treeValue i (pattern i e) ≡ true))
-    holds e = (
-      λ x. let p = and-parts (not (isWithdrawn (i .catalogue) e)) (treeValue i (pattern i e)) x in (not-of-true (isWithdrawn (i .catalogue) e) (p .0), p .1),
-      λ (h, t). both (ap not h) t,
-    )
+    (line-of (λ e. Present i e × (treeValue i (pattern i e) ≡ true)) (isSelected (taskOf i (l .request .order))) (rowCount i)
+    (selected-is (taskOf i (l .request .order))))
 
 pub demand-2-looks : Demand2Looks
 demand-2-looks l i k c m =

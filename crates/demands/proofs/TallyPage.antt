@@ -11,7 +11,7 @@ use Rattle.fields.specs.Numbers.{numberAt, Bytes}
 use Rattle.fields.proofs.PlaceLaws.{number-of-part}
 use Rattle.bools.specs.Bools.{eqb-self, eqb-ne, same?}
 use Rattle.bitmaps.specs.TableLaws.{zeros}
-use Rattle.input.specs.Input.{Input}
+use Rattle.task.specs.Input.{Input}
 use Rattle.demands.specs.Run.{Lent, counterAt}
 use Rattle.demands.specs.Demands.{InBytes, after, counterBytes, Kept, FirstBroken}
 use Rattle.demands.specs.TallyPage.{Through, looksBy, TallySums, TallyGrows}

@@ -21,7 +21,7 @@ use Rattle.strategy.specs.Tree.{Tree, EachLeaf}
 use Rattle.syntax.specs.Spelling.{spelling, PayloadTypable, Typable}
 use Rattle.syntax.proofs.ConditionLaws.{valid-typable, condition-fits}
 use Rattle.syntax.proofs.Lengths.{bytes-within, ShortCondition, question-fits}
-use Rattle.input.specs.Input.{Input}
+use Rattle.task.specs.Input.{Input}
 use Rattle.answers.specs.Written.{Written}
 use Rattle.demands.specs.Demands.{Reads}
 use Rattle.demands.specs.TypedPage.{afterTyping, TypedKept, TypedBroken}

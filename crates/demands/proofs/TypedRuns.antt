@@ -23,7 +23,7 @@ use Rattle.query.proofs.Leaves.{each-leaf}
 use Rattle.query.proofs.Refusals.{query-refusal}
 use Rattle.syntax.specs.Machine.{typedLimit, Typed, misspelled, typed, questionOf}
 use Rattle.syntax.proofs.Spelled.{typed-exactly}
-use Rattle.input.specs.Input.{Input}
+use Rattle.task.specs.Input.{Input}
 use Rattle.answers.specs.declared.word.Answer.the-variants.{Refused, Accepted}
 use Rattle.answers.specs.Written.{Written, refuseWriting}
 use Rattle.answers.specs.Refusals.{textMisspelled, typedOutputTooShort}

@@ -12,7 +12,7 @@ use Rattle.predicate.specs.declared.outcome.Outcome.{Outcome}
 use Rattle.predicate.specs.declared.outcome.Outcome.the-variants.{No, Yes, Blank}
 use Rattle.predicate.specs.Meaning.{fold, contains, outcomeOf}
 use Rattle.strategy.specs.Order.{isOrder}
-use Rattle.input.specs.Input.{Input, decodeInput}
+use Rattle.task.specs.Input.{Input, decodeInput}
 use Rattle.answers.specs.declared.word.Answer.{Answer}
 use Rattle.answers.specs.declared.word.Answer.the-variants.{Refused, Accepted}
 use Rattle.answers.specs.Word.{packed}

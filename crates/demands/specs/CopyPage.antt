@@ -9,7 +9,7 @@ use lib.ListN.{length, take, drop}
 use Rattle.predicate.specs.Meaning.{outcome}
 use Rattle.strategy.specs.Order.{occurrences}
 use Rattle.bitmaps.specs.Bit.{bit}
-use Rattle.input.specs.Input.{Input}
+use Rattle.task.specs.Input.{Input}
 use Rattle.answers.specs.Answers.{outcomeNumber}
 use Rattle.demands.specs.Run.{Request, Lent, rowCount, predicateCount, taskOf, lookCount}
 use Rattle.demands.specs.Demands.{Gives, InBytes, after, Reads, FormBroken, RunningOrder, Kept, conditionOf, BlankAt, LookMade, looksLine}

@@ -30,8 +30,8 @@ use Rattle.strategy.specs.Ours.{ours}
 use Rattle.bitmaps.specs.Sums.{sumOf, countOf}
 use Rattle.bitmaps.specs.Bitmap.{bytesFor}
 use Rattle.bitmaps.specs.Bit.{bit}
-use Rattle.rows.specs.Task.{predicateAt, assignmentAt}
-use Rattle.input.specs.Input.{Input, decodeInput}
+use Rattle.task.specs.Task.{predicateAt, assignmentAt}
+use Rattle.task.specs.Input.{Input, decodeInput}
 use Rattle.answers.specs.Word.{packed}
 use Rattle.answers.specs.Answers.{catalogueAnswer, questionAnswer, outcomeNumber, outcomeAnswer}
 use Rattle.demands.specs.Run.{Request, Lent, Ran, rowCount, predicateCount, taskOf, lookCount, counterAt, runOf}

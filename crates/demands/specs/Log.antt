@@ -11,8 +11,8 @@ use Rattle.predicate.specs.Meaning.{outcome}
 use Rattle.strategy.specs.Order.{occurrences, isOrder}
 use Rattle.bitmaps.specs.Sums.{digit}
 use Rattle.log.specs.Log.{probeFieldSize, logFields}
-use Rattle.rows.specs.Task.{Task, predicateAt, isProbed}
-use Rattle.input.specs.Input.{Input, decodeInput}
+use Rattle.task.specs.Task.{Task, predicateAt, isProbed}
+use Rattle.task.specs.Input.{Input, decodeInput}
 use Rattle.answers.specs.declared.word.Answer.the-variants.{Accepted}
 use Rattle.answers.specs.Word.{packed}
 use Rattle.answers.specs.Written.{Written, written, refuseWriting}

@@ -9,8 +9,8 @@ use Rattle.fields.specs.Numbers.{numberAt, bytesOf}
 use Rattle.strategy.specs.Order.{isOrder}
 use Rattle.fields.specs.Output.{putFront, putAt}
 use Rattle.bitmaps.specs.Bitmap.{bytesFor, bitmap, bitmaps, onesIn}
-use Rattle.rows.specs.Task.{Task, isSelected, isProbed}
-use Rattle.input.specs.Input.{Input, decodeInput}
+use Rattle.task.specs.Task.{Task, isSelected, isProbed}
+use Rattle.task.specs.Input.{Input, decodeInput}
 use Rattle.answers.specs.declared.word.Answer.the-variants.{Refused, Accepted}
 use Rattle.answers.specs.Word.{packed}
 use Rattle.answers.specs.Refusals.{notOrder, tableTooShort, noSuchReader, tallyRefused}

@@ -16,7 +16,7 @@ use Rattle.query.specs.Encode.{encode, payloads}
 use Rattle.strategy.specs.Tree.{Tree}
 use Rattle.syntax.specs.Spelling.{spelling, Typable}
 use Rattle.answers.specs.Written.{Written}
-use Rattle.input.specs.Input.{Input}
+use Rattle.task.specs.Input.{Input}
 use Rattle.demands.specs.Demands.{Gives, IsCatalogue, Reads}
 use Rattle.demands.specs.Typed.{typedOf}
 

@@ -13,7 +13,7 @@ use Rattle.bitmaps.specs.Table.{lineSize, linesOf}
 use Rattle.query.specs.Format.{predicateLimit}
 use Rattle.log.specs.Log.{probeFieldSize}
 use Rattle.log_rows.specs.Written.{taskLog, LogReady, HasLogRoom, LogWritten}
-use Rattle.input.specs.Input.{Input}
+use Rattle.task.specs.Input.{Input}
 use Rattle.answers.specs.declared.word.Answer.the-variants.{Refused, Accepted}
 use Rattle.answers.specs.Word.{packed}
 use Rattle.answers.specs.Refusals.{outputTooShort}

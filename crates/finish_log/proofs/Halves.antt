@@ -24,13 +24,13 @@ use Rattle.gather.specs.Turns.{HasLines}
 use Rattle.log.specs.Log.{logFields}
 use Rattle.log.specs.MarkedLog.{markedNumber}
 use Rattle.log.proofs.LogLaws.{marked-log}
-use Rattle.rows.specs.Task.{told, madeAt, isProbed, isMet}
+use Rattle.task.specs.Task.{told, madeAt, isProbed}
 use Rattle.marks.specs.Marks.{metLine}
-use Rattle.rows.specs.Worked.{marking}
+use Rattle.rows.specs.Worked.{isMet, marking}
 use Rattle.rows.proofs.MarkLines.{probe-line, met-line}
 use Rattle.blanks.specs.Blanks.{outcomeOn, ProbesOf, blankTurn}
 use Rattle.log_rows.specs.Written.{taskLog}
-use Rattle.input.specs.Input.{Input}
+use Rattle.task.specs.Input.{Input}
 use Rattle.answers.specs.Answers.{outcomeNumber}
 use Rattle.demands.specs.Run.{predicateCount, taskOf, probeBitmaps, lookCount}
 use Rattle.demands.specs.Log.{outcomeNumberAt, taskFields, logSize}

@@ -16,9 +16,9 @@ use Rattle.strategy.specs.Tree.{eval}
 use Rattle.bitmaps.specs.Sums.{digit}
 use Rattle.bitmaps.specs.Table.{lineBit}
 use Rattle.log.specs.MarkedLog.{markedAt}
-use Rattle.rows.specs.Task.{told, dueAt, madeAt, isProbed}
-use Rattle.rows.proofs.Withdrawn.{trace-holds}
-use Rattle.input.specs.Input.{Input}
+use Rattle.task.specs.Task.{told, dueAt, madeAt, isProbed}
+use Rattle.task.proofs.Withdrawn.{trace-holds}
+use Rattle.task.specs.Input.{Input}
 use Rattle.demands.specs.Run.{predicateCount, taskOf}
 use Rattle.demands.specs.Log.{EachProbeOnce}
 

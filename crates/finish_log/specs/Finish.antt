@@ -10,9 +10,9 @@ use Rattle.catalogue.specs.Format.{rowLimit}
 use Rattle.query.specs.Format.{predicateLimit}
 use Rattle.plan.specs.Plan.{planSize, accessAt}
 use Rattle.access.specs.Access.{Accessed}
-use Rattle.rows.specs.Task.{predicateAt, madeAt}
+use Rattle.task.specs.Task.{predicateAt, madeAt}
 use Rattle.rows.specs.Worked.{Worked}
-use Rattle.input.specs.Input.{Input}
+use Rattle.task.specs.Input.{Input}
 use Rattle.answers.specs.declared.word.Answer.{Answer}
 use Rattle.answers.specs.Word.{packed, FitsWord}
 use Rattle.answers.specs.Checks.{checked}

@@ -8,7 +8,7 @@ use Rattle.records.specs.Table.{recordAt}
 use Rattle.reading.specs.Tables.{Tables}
 use Rattle.plan.specs.Plan.{accessAt, accessOf, HasColumns}
 use Rattle.access.specs.Access.{Accessed}
-use Rattle.rows.specs.Task.{predicateAt}
+use Rattle.task.specs.Task.{predicateAt}
 use Rattle.rows.proofs.Prepared.{have-columns, planned-accessed}
 use Rattle.input.specs.declared.begin.Beginning.{Beginning}
 use Rattle.input.specs.Beginning.{HasInput}

@@ -19,7 +19,7 @@ use Rattle.query.specs.Query.{Query}
 use Rattle.reading.specs.Tables.{Tables}
 use Rattle.query.specs.Decode.{decodeTagged, decodeQuery}
 use Rattle.reading.specs.QueryRead.{QueryRead}
-use Rattle.input.specs.Input.{withQuery, decodeInput}
+use Rattle.task.specs.Input.{withQuery, decodeInput}
 use Rattle.input.specs.Beginning.{HasInput}
 
 -- the first tags of the layout are those of the catalogue's columns

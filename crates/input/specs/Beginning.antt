@@ -9,7 +9,7 @@ use Rattle.predicate.specs.Payload.{tagsOf}
 use Rattle.reading.specs.Tables.{Tables, tables}
 use Rattle.reading.specs.QueryRead.{Tabled}
 use Rattle.input.specs.declared.begin.Beginning.{Beginning}
-use Rattle.input.specs.Input.{Input, decodeInput}
+use Rattle.task.specs.Input.{Input, decodeInput}
 
 -- the decoded input, and all that the layout and the reading's tables show of it
 pub record HasInput (b q : List ℕ) (r : Beginning) (T : Tables) : Type 0 where

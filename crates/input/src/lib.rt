@@ -1,2 +1,2 @@
-// What every call but the check of a catalogue begins with: the catalogue laid out, the question read against it.
+// What every call on a question begins with: the catalogue laid out, the question read against it.
 pub mod begin;

@@ -13,7 +13,7 @@ use Rattle.bitmaps.specs.SumLaws.{joined-split, joined-grows, joined-same}
 use Rattle.bitmaps.specs.Table.{lineBit}
 use Rattle.bitmaps.specs.Word.{blockRows}
 use Rattle.log.specs.MarkedLog.{markedNumber, fieldIf, markedField, markedRow, markedLog, markedFrom, blanksIn}
-use Rattle.rows.specs.Task.{Task}
+use Rattle.task.specs.Task.{Task}
 use Rattle.blanks.specs.Blanks.{blankTurn, BlankTurns}
 use Rattle.log_rows.specs.Written.{taskLog, LogReady}
 

@@ -5,7 +5,7 @@ use lib.ListN.{length}
 use Rattle.fields.specs.Output.{Wrote}
 use Rattle.bitmaps.specs.Table.{lineBits}
 use Rattle.log.specs.MarkedLog.{markedLog}
-use Rattle.rows.specs.Task.{Task}
+use Rattle.task.specs.Task.{Task}
 use Rattle.blanks.specs.Blanks.{ProbesOf, blankTurn}
 
 -- the log that the tables and the blanks of a task stand for

@@ -11,9 +11,9 @@ use Rattle.fields.specs.Decoded.{Decoded, refused}
 use Rattle.predicate.specs.declared.outcome.Outcome.{Outcome}
 use Rattle.predicate.specs.Meaning.{outcome}
 use Rattle.reading.specs.Tables.{Tables}
-use Rattle.rows.specs.Task.{predicateAt}
+use Rattle.task.specs.Task.{predicateAt}
 use Rattle.input.specs.declared.begin.Beginning.{Beginning}
-use Rattle.input.specs.Input.{Input, decodeInput}
+use Rattle.task.specs.Input.{Input, decodeInput}
 use Rattle.input.specs.Beginning.{HasInput}
 use Rattle.answers.specs.declared.word.Answer.the-variants.{Refused, Accepted}
 use Rattle.answers.specs.Refusals.{noSuchRowOrPredicate}

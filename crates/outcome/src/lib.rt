@@ -6,7 +6,7 @@ use input::begin::Beginning;
 use plan::table::Plan;
 use query::format::Predicate;
 ghost use mathlib.Core.Path.{_≡_};
-ghost use Rattle.input.specs.Input.{decodeInput};
+ghost use Rattle.task.specs.Input.{decodeInput};
 ghost use Rattle.input.specs.Beginning.{HasInputOffsets};
 ghost use Rattle.answers.specs.Answers.{outcomeNumber, outcomeAnswer, Answered};
 

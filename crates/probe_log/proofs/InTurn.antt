@@ -2,7 +2,7 @@
 use mathlib.Core.List.{List}
 use Prim.Native.Nat.{ℕ}
 use Rattle.fields.specs.Decoded.{Decoded, refused, accepted}
-use Rattle.input.specs.Input.{Input}
+use Rattle.task.specs.Input.{Input}
 use Rattle.demands.specs.Log.{Sequenced}
 use Rattle.finish_log.proofs.InTurn.{made-once}
 use Rattle.probe_log.specs.Sequence.{inTurn}

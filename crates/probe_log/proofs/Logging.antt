@@ -11,7 +11,7 @@ use Rattle.bitmaps.specs.Table.{lineSize}
 use Rattle.query.specs.Format.{predicateLimit}
 use Rattle.reading.specs.Tables.{Tables, tables}
 use Rattle.input.specs.declared.begin.Beginning.{Beginning}
-use Rattle.input.specs.Input.{decodeInput}
+use Rattle.task.specs.Input.{decodeInput}
 use Rattle.input.specs.Beginning.{HasInput}
 use Rattle.input.proofs.InHand.{input-short, input-accessed}
 use Rattle.answers.specs.declared.word.Answer.{Answer}

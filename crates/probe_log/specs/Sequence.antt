@@ -2,8 +2,8 @@
 use Prim.Native.Nat.{ℕ}
 use mathlib.Core.List.{List, []}
 use Rattle.fields.specs.Decoded.{Decoded, refused, accepted}
-use Rattle.rows.specs.Task.{madeAt}
-use Rattle.input.specs.Input.{Input, decodeInput}
+use Rattle.task.specs.Task.{madeAt}
+use Rattle.task.specs.Input.{Input, decodeInput}
 use Rattle.demands.specs.Run.{request, taskOf}
 use Rattle.answers.specs.Written.{Written}
 use Rattle.demands.specs.Log.{logOf}

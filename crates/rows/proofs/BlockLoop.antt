@@ -24,7 +24,7 @@ use Rattle.blocks.specs.Block.{rowLive, rowStep, Propagated, HasAncestors}
 use Rattle.plan.specs.Plan.{accessAt}
 use Rattle.access.specs.Access.{HasOutcomes, MetIs}
 use Rattle.rows.specs.declared.block.Block.{Block}
-use Rattle.rows.specs.Task.{Task, predicateAt, turnsOf, told}
+use Rattle.task.specs.Task.{Task, predicateAt, turnsOf, told}
 use Rattle.rows.specs.Ready.{Slices, Ready}
 use Rattle.marks.specs.Marks.{MarkReady, Marked}
 use Rattle.rows.specs.Worked.{Filled, BlockIn, HasNoMarks, BlockReady, BlockWorked}

@@ -25,7 +25,7 @@ use Rattle.bitmaps.specs.Word.{blockRows}
 use Rattle.query.specs.Format.{predicateLimit}
 use Rattle.blocks.specs.Block.{rowLive, rowStep, Propagated}
 use Rattle.rows.specs.declared.block.Block.{Block}
-use Rattle.rows.specs.Task.{Task, turnsOf, told}
+use Rattle.task.specs.Task.{Task, turnsOf, told}
 use Rattle.marks.specs.Marks.{metLine, HasMetLine, Marked}
 use Rattle.rows.specs.Worked.{Filled, rowOf, BlockIn, HasNoMarks, SameBeside, BlockDone}
 

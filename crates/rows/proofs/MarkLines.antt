@@ -6,8 +6,8 @@ use Rattle.bools.specs.Bools.{ltb-yes, ltb-no}
 use Rattle.bitmaps.specs.Table.{within}
 use Rattle.query.specs.Format.{predicateLimit}
 use Rattle.marks.specs.Marks.{metLine}
-use Rattle.rows.specs.Task.{Task, isProbed, isMet}
-use Rattle.rows.specs.Worked.{marking}
+use Rattle.task.specs.Task.{Task, isProbed}
+use Rattle.rows.specs.Worked.{isMet, marking}
 
 module _ (T : Task) (n : ℕ) where
   pub probe-line : (c e : ℕ) → c < predicateLimit → marking T n c e ≡ within (isProbed T) n (T .catalogue .rows) c e

@@ -24,7 +24,7 @@ use Rattle.reading.specs.QueryRead.{Tabled}
 use Rattle.records.proofs.Records.{predicates-at}
 use Rattle.plan.specs.Plan.{planSize, accessAt, accessOf, HasColumns, Planned}
 use Rattle.access.specs.Access.{Accessed}
-use Rattle.rows.specs.Task.{predicateAt}
+use Rattle.task.specs.Task.{predicateAt}
 use Rattle.rows.specs.Ready.{slices, Ready}
 
 -- a catalogue that is laid out, and a query that was read against its columns

@@ -28,13 +28,13 @@ use Rattle.catalogue.specs.Catalogue.{isWithdrawn}
 use Rattle.query.specs.Format.{predicateLimit}
 use Rattle.rows.specs.declared.block.Block.{Block}
 use Rattle.rows.specs.declared.all.Extent.{Extent}
-use Rattle.rows.specs.Task.{Task, turnsOf, told, isSelected, dueAt, isProbed, isMet}
+use Rattle.task.specs.Task.{Task, turnsOf, told, isSelected, dueAt, isProbed}
 use Rattle.present.specs.Present.{WithdrawnFor, presentSet}
 use Rattle.rows.specs.Ready.{Slices, Ready}
 use Rattle.marks.specs.Marks.{HasMarkLines, metLine, HasNoBits, HasEmptyMarks}
-use Rattle.rows.specs.Worked.{rowOf, BlockIn, HasNoMarks, BlockDone, BlockReady, BlockWorked, marking, ExtentOf, RowsReady, RowsWorked}
+use Rattle.rows.specs.Worked.{rowOf, BlockIn, HasNoMarks, BlockDone, BlockReady, BlockWorked, isMet, marking, ExtentOf, RowsReady, RowsWorked}
 use Rattle.rows.proofs.MarkLines.{probe-line, met-line}
-use Rattle.rows.proofs.Withdrawn.{probed-is}
+use Rattle.task.proofs.Withdrawn.{probed-is}
 use Rattle.present.proofs.PresentLaws.{present-there, present-has}
 
 -- f at the rows before `base`

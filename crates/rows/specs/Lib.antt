@@ -1,3 +1,2 @@
-pub mod Task
 pub mod Ready
 pub mod Worked

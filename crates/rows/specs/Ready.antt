@@ -12,7 +12,7 @@ use Rattle.query.specs.Format.{predicateLimit}
 use Rattle.ancestors.specs.Ancestors.{ancestorsSize, ancestorsOf, Low, Spans}
 use Rattle.plan.specs.Plan.{accessAt, planSize}
 use Rattle.access.specs.Access.{Accessed}
-use Rattle.rows.specs.Task.{Task, predicateAt, turnsOf}
+use Rattle.task.specs.Task.{Task, predicateAt, turnsOf}
 
 -- the slices that a run reads
 pub record Slices : Type 0 where

@@ -18,7 +18,7 @@ use Rattle.query.specs.Format.{predicateLimit}
 use Rattle.access.specs.Access.{RowsIn}
 use Rattle.rows.specs.declared.block.Block.{Block}
 use Rattle.rows.specs.declared.all.Extent.{Extent}
-use Rattle.rows.specs.Task.{Task, turnsOf, told, isSelected, isProbed, isMet}
+use Rattle.task.specs.Task.{Task, turnsOf, told, isSelected, isProbed}
 use Rattle.rows.specs.Ready.{Slices, Ready}
 use Rattle.marks.specs.Marks.{HasMarkLines, metLine, HasMetLine}
 
@@ -59,6 +59,10 @@ BlockReady G B = (n : ℕ) × (T : Task) × Ready G n T × BlockIn B (T .catalog
 
 abbrev pub BlockWorked : Slices → Block → (selected : ℕ) → (before after : List ℕ) → Type 0
 BlockWorked G B selected P P′ = (n : ℕ) (T : Task) → Ready G n T → BlockIn B (T .catalogue .rows) → BlockDone T B selected P P′
+
+-- probed at a row, with outcome yes
+abbrev pub isMet : Task → (c row : ℕ) → Bool
+isMet T c row = isProbed T c row && told T row c
 
 -- what a table of marks is to hold: in line c the rows at which predicate c is probed, in the line for its yes those with that outcome
 abbrev pub marking : Task → (n : ℕ) → (line row : ℕ) → Bool

@@ -10,7 +10,7 @@ use Rattle.bitmaps.specs.Table.{lineSize}
 use Rattle.reading.specs.Tables.{Tables}
 use Rattle.rows.specs.Worked.{Worked}
 use Rattle.input.specs.declared.begin.Beginning.{Beginning}
-use Rattle.input.specs.Input.{decodeInput}
+use Rattle.task.specs.Input.{decodeInput}
 use Rattle.input.specs.Beginning.{HasInput}
 use Rattle.input.proofs.InHand.{input-short}
 use Rattle.answers.specs.declared.word.Answer.the-variants.{Refused}

@@ -1,6 +1,6 @@
 // Working out one condition at one entry.
 ghost use mathlib.Core.Path.{_≡_};
-ghost use Rattle.input.specs.Input.{decodeInput};
+ghost use Rattle.task.specs.Input.{decodeInput};
 ghost use Rattle.answers.specs.Word.{packed};
 ghost use Rattle.answers.specs.Answers.{outcomeAnswer};
 

@@ -10,7 +10,7 @@ use Rattle.plan.specs.Plan.{planSize, Planned}
 use Rattle.rows.specs.Worked.{Worked}
 use Rattle.input.specs.declared.begin.Beginning.{Beginning}
 use Rattle.input.specs.Beginning.{HasInput, HasInputOffsets}
-use Rattle.input.specs.Input.{Input, decodeInput}
+use Rattle.task.specs.Input.{Input, decodeInput}
 use Rattle.demands.specs.Run.{taskOf}
 
 -- what was read of a request, and the plan of its predicates

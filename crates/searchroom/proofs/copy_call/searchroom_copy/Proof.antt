@@ -1,5 +1,5 @@
 -- `searchroom_copy` meets its contract: the answer of the copy, packed; the sequence that order 1 leaves open is that of the turns.
-use Rattle.input.specs.Input.{decodeInput}
+use Rattle.task.specs.Input.{decodeInput}
 use Rattle.probe_log.specs.Sequence.{inTurn}
 use Rattle.probe_log.proofs.InTurn.{in-turn-sequenced}
 use borrow.Author.Needs.{needs}

@@ -1,4 +1,4 @@
--- A catalogue and a question decoded together: what every call but the catalogue's check begins with.
+-- A catalogue and a question decoded together: what every call on a question begins with.
 use Prim.Native.Nat.{ℕ}
 use mathlib.Core.List.{List}
 use Rattle.fields.specs.Decoded.{Decoded, mapped, andThen}

@@ -51,7 +51,3 @@ madeAt T row = predicates (traceAt T row)
 
 abbrev pub isProbed : Task → (c row : ℕ) → Bool
 isProbed T c row = elem c (madeAt T row)
-
--- probed at a row, with outcome yes
-abbrev pub isMet : Task → (c row : ℕ) → Bool
-isMet T c row = isProbed T c row && told T row c

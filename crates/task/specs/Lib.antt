@@ -1,0 +1,2 @@
+pub mod Task
+pub mod Input
