@@ -42,7 +42,8 @@ use Rattle.strategy.specs.TreeLaws.{all-none, all-more, any-none, any-more}
 use Rattle.strategy.specs.Order.{isOrder}
 use Rattle.strategy.specs.Strategy.{Strategy, State, Right, finalState, predicates, probes}
 use Rattle.strategy.specs.Trace.{trace}
-use Rattle.strategy.specs.Ours.{ours}
+use Rattle.strategy.specs.Ours.{passedAsNo, laterThan, ours}
+use Rattle.strategy.specs.DueLaws.{due-law}
 use Rattle.strategy.specs.Optimality.{optimal, optimal-count}
 use Rattle.strategy.specs.QueryLaws.{query-ours, query-right}
 use Rattle.bitmaps.specs.Sums.{sumOf, countOf}
@@ -58,8 +59,8 @@ use Rattle.answers.specs.Answers.{questionAnswer, outcomeNumber, outcomeAnswer}
 use Rattle.answers.proofs.Outcomes.{outcome-small}
 use Rattle.demands.specs.Run.{Lent, rowCount, predicateCount, taskOf, selection, probeBitmaps, foundCount, lookCount, counterAt, tallyAfter}
 use Rattle.demands.specs.Demands.{after, Reads, RunningOrder, lineBytes, counterBytes, Kept, FirstBroken, Present, ifPresent, pattern, treeValue, LineOf, listedLine, looksLine}
-use Rattle.demands.specs.Demands.{Demand1CatalogueForm, Demand1QuestionForm, Demand1Payload, Demand1FormsWritten, Demand1WrittenOnce, Demand1Mark, Demand1AfterColumns, Demand1FrontToBack, Demand1Number, Demand1Refused, Demand1Accepted, Demand1Limits, Demand1Catalogue, Demand1Question, Demand1Outcome}
-use Rattle.demands.specs.Demands.{Gives, outcomeWord, Reads, conditionOf, Demand2Blank, Demand2AsNo, Demand2Opposite, Demand2AsBefore, Demand2Tree, Demand2Listed, Demand2Looks, Demand2Withdrawn, Demand2Further, Demand2Counts, Demand2Tally, Demand2OtherReaders, Demand3, Demand3Ours, Demand3Count, Demand3Run}
+use Rattle.demands.specs.Demands.{Demand1CatalogueForm, Demand1QuestionForm, Demand1Payload, Demand1FormsWritten, Demand1WrittenOnce, Demand1Mark, Demand1AfterColumns, Demand1FrontToBack, Demand1AfterQuestion, Demand1Number, Demand1Refused, Demand1Accepted, Demand1Limits, Demand1Catalogue, Demand1Question, Demand1Outcome}
+use Rattle.demands.specs.Demands.{Gives, outcomeWord, Reads, conditionOf, Demand2Blank, Demand2AsNo, Demand2Opposite, Demand2AsBefore, Demand2Tree, Demand2Listed, Demand2Looks, Demand2Withdrawn, Demand2Further, Demand2Counts, Demand2Tally, Demand2OtherReaders, Demand3, Demand3Ours, Demand3OursRule, Demand3Count, Demand3Run}
 use Rattle.demands.proofs.AfterColumns.{after-other, after-cut, after-bad, after-more, after-mark}
 use Rattle.demands.proofs.DemandLaws.{catalogue-range, is-catalogue, is-question, reads-input, broken-input, broken-range, unpacked}
 use Rattle.demands.proofs.DemandTables.{sum-le, line-of, line-count, front-old, order-plain, held, traced-due, probed-made, found-count, look-count, look-count-le, look-count-rows, selection-length, listed-line, probeBitmaps-length, looks-line}
@@ -118,6 +119,9 @@ demand-1-after-columns C formed plain tail bytes = (
 
 pub demand-1-front-to-back : Demand1FrontToBack
 demand-1-front-to-back b tail e uncut = decode-front b tail e uncut
+
+pub demand-1-after-question : Demand1AfterQuestion
+demand-1-after-question = question.encoded-followed
 
 -- DEMAND 1: THE CALLS
 
@@ -341,6 +345,10 @@ demand-3-ours b q i r order o a = (
   λ c. rw (ours-final b q i r order o a) (traced-due i order o a c),
   query-right (i .query .tree) (r .1 .0 .numbered) order (of-tree b q i r order o) a,
 )
+
+pub demand-3-ours-rule : Demand3OursRule
+unfolding ours
+demand-3-ours-rule i order s = (λ c. due-law (treeValue i) c (laterThan c order) (passedAsNo s), refl)
 
 pub demand-3-count : Demand3Count
 demand-3-count b q i r order o =

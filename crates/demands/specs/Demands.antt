@@ -25,8 +25,8 @@ use Rattle.query.specs.WellFormed.{ValidPredicate, WellFormed}
 use Rattle.strategy.specs.Tree.{Tree, leaf, Forest, none, more, all, any, eval}
 use Rattle.strategy.specs.Assignment.{Assignment, Among}
 use Rattle.strategy.specs.Order.{occurrences}
-use Rattle.strategy.specs.Strategy.{Formula, Due, Strategy, Right, probes, answerOf}
-use Rattle.strategy.specs.Ours.{ours}
+use Rattle.strategy.specs.Strategy.{Formula, Due, State, Strategy, Right, probes, answerOf}
+use Rattle.strategy.specs.Ours.{passedAsNo, laterThan, ours}
 use Rattle.bitmaps.specs.Sums.{sumOf, countOf}
 use Rattle.bitmaps.specs.Bitmap.{bytesFor}
 use Rattle.bitmaps.specs.Bit.{bit}
@@ -247,6 +247,11 @@ Demand1AfterColumns =
 abbrev pub Demand1FrontToBack : Type 0
 Demand1FrontToBack = (b tail : List ℕ) (e : ℕ) → (e ≡ 1 → ⊥) → decodeCatalogue b ≡ refused e → decodeCatalogue (b ++ tail) ≡ refused e
 
+-- "The question is one field of these."; "At the end: 14, bytes left over.": whatever follows a question
+abbrev pub Demand1AfterQuestion : Type 0
+Demand1AfterQuestion =
+    (C : Catalogue) (Q : Query) → WellFormed C Q → (tail : List ℕ) → 0 < length tail → decodeQuery C (encode (payloads Q) ++ tail) ≡ refused 14
+
 -- DEMAND 1: THE CALLS
 
 -- "Where a catalogue, question, order, number or lent table breaks a form or limit of document 01, the call gives the refusal number due there,"
@@ -402,6 +407,14 @@ Demand3Ours =
     (b q : List ℕ) (i : Input) → Reads b q i → (order : List ℕ) → RunningOrder i order → (a : Assignment)
     → ((c : ℕ) → Among c (probes (ours (treeValue i) order) a order) ↔ LookDue i order a c)
     × (answerOf (ours (treeValue i) order) a order ≡ treeValue i a)
+
+-- "Ours as a way takes each condition it has passed as no. It looks where the condition then alone decides the tree for some outcomes of the later ones; its
+-- answer is the tree's value.": whatever it has seen
+abbrev pub Demand3OursRule : Type 0
+Demand3OursRule =
+    (i : Input) (order : List ℕ) (seen : State)
+    → ((c : ℕ) → (ours (treeValue i) order .probe c seen ≡ true) ↔ Due (treeValue i) c (laterThan c order) (passedAsNo seen))
+    × (ours (treeValue i) order .answer seen ≡ treeValue i (passedAsNo seen))
 
 -- "A way's looks over all the entries are the sum of the numbers of its looks on each.": those of ours are the look count; order 6: "the comparison with
 -- other ways of working [is] about the entries still in the house"
