@@ -43,7 +43,7 @@ pub extern "C" fn searchroom_count_bytes(table: &[u8]) -> u64
     counts::bytes::count_bytes(front(table))
 }
 
-// The ones of the first bytes of each of a table's first lines, as a run counts its looks.
+// The ones of the first bytes of each of a table's first lines; a run counts its looks so, up to the end of a word.
 #[no_mangle]
 pub extern "C" fn searchroom_count_lines(table: &[u8], lines: usize, size: usize) -> u64
     ensures { λ r. ⌜ r ≡ onesIn (countedLines (now (table .entry)) lines size) ⌝ }

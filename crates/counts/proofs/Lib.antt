@@ -1,3 +1,4 @@
 pub mod WordOnes
 pub mod FullAdder
 pub mod LineOnes
+pub mod Whole

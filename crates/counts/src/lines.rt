@@ -10,6 +10,7 @@ ghost use lib.ListN.{length, drop};
 ghost use Rattle.bitmaps.specs.Bitmap.{onesIn};
 ghost use Rattle.bitmaps.specs.Table.{lineSize, linesOf};
 ghost use Rattle.bitmaps.specs.Word.{wordSize};
+ghost use Rattle.counts.specs.Whole.{wholeWords, NoneBehind};
 
 // The ones of the words at one place of seven lines.
 fn ones_across(table: &[u8], at: usize) -> u64
@@ -63,10 +64,6 @@ pub fn count_lines(table: &[u8], n: usize, size: usize) -> u64
     requires { ⌜ (size ≤ lineSize) × (n * lineSize ≤ length (now table)) × (length (now table) < 2 ^ 61) ⌝ }
     ensures { λ r. ⌜ (r ≡ onesIn (linesOf size (now (table .entry)) n)) × (r ≤ 8 * (n * size)) ⌝ }
 {
-    // short lines have no word to add side by side
-    if size < Word::SIZE {
-        return count_each_line(table, n, size);
-    }
     let mut sum: u64 = 0;
     let mut c: usize = 0;
     let mut line: usize = 0;
@@ -76,4 +73,19 @@ pub fn count_lines(table: &[u8], n: usize, size: usize) -> u64
         line += 7 * Line::SIZE;
     }
     sum + count_each_line(&table[line..], n - c, size)
+}
+
+fn whole_words(size: usize) -> usize
+    requires { ⌜ size ≤ lineSize ⌝ }
+    ensures { λ r. ⌜ r ≡ wholeWords size ⌝ }
+{
+    (size + 7) / Word::SIZE * Word::SIZE
+}
+
+// The same where no one stands behind those bytes: counted to the end of a word, so that no byte is counted by itself.
+pub fn count_whole_lines(table: &[u8], n: usize, size: usize) -> u64
+    requires { ⌜ (size ≤ lineSize) × (n * lineSize ≤ length (now table)) × (length (now table) < 2 ^ 61) × NoneBehind size n (now table) ⌝ }
+    ensures { λ r. ⌜ (r ≡ onesIn (linesOf size (now (table .entry)) n)) × (r ≤ 8 * (n * lineSize)) ⌝ }
+{
+    count_lines(table, n, whole_words(size))
 }

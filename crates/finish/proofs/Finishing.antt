@@ -1,6 +1,5 @@
 -- The cases of a run's end.
-use Prim.Native.Nat.{ℕ, _+_, _-_, _*_, _^_, _≤_, _<_}
-use native.Mathlib.Nat.{mul-le-mul-left, mul-le-mul-right}
+use Prim.Native.Nat.{ℕ, _+_, _-_, _^_, _≤_, _<_}
 use native.Mathlib.Omega.{arith}
 use mathlib.Core.Path.{_≡_}
 use mathlib.Core.List.{List}
@@ -9,18 +8,13 @@ use borrow.Author.Tests.{eq-eqb, ne-eqb, lt-ltb, le-ltb}
 use Rattle.fields.specs.Numbers.{bytesOf}
 use Rattle.fields.specs.Output.{putFront, putAt}
 use Rattle.bitmaps.specs.Bitmap.{onesIn}
-use Rattle.bitmaps.specs.Table.{lineSize, linesOf}
-use Rattle.query.specs.Format.{predicateLimit}
+use Rattle.bitmaps.specs.Table.{linesOf}
 use Rattle.answers.specs.declared.word.Answer.the-variants.{Accepted}
 use Rattle.answers.specs.Word.{packed}
 use Rattle.answers.specs.Refusals.{tallyRefused}
 use Rattle.answers.specs.Checks.{checked}
 use Rattle.demands.specs.Run.{ran, refuse, counterSize, tallySize, counterPlace, counterAt}
 use Rattle.finish.specs.Finish.{finished}
-
--- both counts have room in the word
-pub lines-few : (n size : ℕ) → n ≤ predicateLimit → size ≤ lineSize → n * size ≤ predicateLimit * lineSize
-lines-few n size h k = omega (arith, mul-le-mul-right size h, mul-le-mul-left predicateLimit k)
 
 module _ (S P : List ℕ) (n size reader : ℕ) (listed looks tally : List ℕ) where
   pub tally-size-wrong : (length tally ≡ tallySize → ⊥) → refuse tallyRefused listed looks tally ≡ finished S P n size reader listed looks tally

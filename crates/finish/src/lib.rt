@@ -8,6 +8,7 @@ ghost use Prim.Native.Nat.{_*_, _≤_, _<_};
 ghost use lib.ListN.{length};
 ghost use Rattle.query.specs.Format.{predicateLimit};
 ghost use Rattle.bitmaps.specs.Table.{lineSize};
+ghost use Rattle.counts.specs.Whole.{NoneBehind};
 ghost use Rattle.answers.specs.Word.{packed, FitsWord};
 ghost use Rattle.demands.specs.Run.{ran, readerLimit};
 ghost use Rattle.finish.specs.Finish.{finished, HasRoom};
@@ -25,13 +26,14 @@ pub fn finish(
 ) -> Answer
     requires { ⌜ (length (now selected) ≡ lineSize) × (length (now probed) ≡ predicateLimit * lineSize) × (n ≤ predicateLimit) × (size ≤ lineSize) ⌝ }
     requires { ⌜ HasRoom n size (now listed) (now looks) × (reader < readerLimit) ⌝ }
+    requires { ⌜ NoneBehind size 1 (now selected) × NoneBehind size n (now probed) ⌝ }
     ensures { λ r. ⌜ (ran (packed r) (now (listed .exit)) (now (looks .exit)) (now (tally .exit)) ≡ finished (now (selected .entry)) (now (probed .entry)) n size reader (now (listed .entry)) (now (looks .entry)) (now (tally .entry))) × FitsWord r ⌝ }
 {
     if tally.len() != Tally::SIZE {
         return Answer::Refused(Refusal::TALLY_REFUSED);
     }
-    let found = counts::lines::count_lines(selected, 1, size);
-    let looked = counts::lines::count_lines(probed, n, size);
+    let found = counts::lines::count_whole_lines(selected, 1, size);
+    let looked = counts::lines::count_whole_lines(probed, n, size);
     let at = reader * Counter::SIZE;
     let before = fields::counter::eight_bytes(tally, at);
     if Counter::LIMIT - before < looked {

@@ -1,8 +1,7 @@
 -- The cases of a copy's end: too little room, or the fields written.
 use Prim.Native.Nat.{ℕ, _*_, _≤_, _<_}
-use native.Mathlib.Nat.{mul-le-mul-left, mul-le-mul-right}
 use native.Mathlib.Omega.{arith}
-use mathlib.Core.Path.{_≡_, sym, ap, _∙_}
+use mathlib.Core.Path.{_≡_, sym, ap, _∙_, subst}
 use mathlib.Core.List.{List}
 use lib.ListN.{length, take, drop}
 use borrow.Author.Tests.{le-leb, lt-leb}
@@ -10,6 +9,7 @@ use Rattle.fields.specs.Output.{putFront}
 use Rattle.fields.proofs.OutputLaws.{put-front}
 use Rattle.bitmaps.specs.Bitmap.{bytesFor, onesIn}
 use Rattle.bitmaps.specs.Table.{lineSize, linesOf}
+use Rattle.counts.specs.Whole.{NoneBehind}
 use Rattle.query.specs.Format.{predicateLimit}
 use Rattle.log.specs.Log.{probeFieldSize}
 use Rattle.log_rows.specs.Written.{taskLog, LogReady, HasLogRoom, LogWritten}
@@ -28,9 +28,15 @@ use Rattle.finish_log.proofs.Halves.{half, probes-of, marked-fields, fi
 pub size-short : {i : Input} {b q plan order marks : List ℕ} {n rows size : ℕ} → MarksOf i b q plan order marks n rows → size ≡ bytesFor rows → size ≤ lineSize
 size-short M e = let s = M .short in omega arith
 
+-- nothing is marked behind the rows that there are
+pub marks-whole : {i : Input} {b q plan order marks : List ℕ} {n rows size : ℕ} → MarksOf i b q plan order marks n rows → size ≡ bytesFor rows → NoneBehind size n marks
+marks-whole {marks = marks} {n = n} M e =
+    let z = ap bytesFor (M .rows-are) ∙ sym e in
+    subst (λ (k : ℕ). NoneBehind k n marks) z (M .worked .probed-whole)
+
 -- so many looks have room in the word
-pub looks-few : (n size looked : ℕ) → n ≤ predicateLimit → size ≤ lineSize → looked ≤ 8 * (n * size) → looked ≤ 131072
-looks-few n size looked f s l = omega (arith, mul-le-mul-right size f, mul-le-mul-left predicateLimit s)
+pub looks-few : (n looked : ℕ) → n ≤ predicateLimit → looked ≤ 8 * (n * lineSize) → looked ≤ 131072
+looks-few n looked f l = omega arith
 
 module _ {b plan order marks : List ℕ} {n rows size looked : ℕ} (s : size ≡ bytesFor rows) (l : looked ≡ onesIn (linesOf size marks n)) (old : List ℕ) where
   log-size : {i : Input} {q : List ℕ} → MarksOf i b q plan order marks n rows → logSize (taskOf i order) ≡ probeFieldSize * looked

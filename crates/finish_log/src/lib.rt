@@ -18,7 +18,7 @@ pub fn finish_log(
     requires { ⌜ HasMarks (now catalogue) (now plan) (now order) (now marks) n rows ⌝ }
     ensures { λ r. ⌜ LogFinished (now (catalogue .entry)) (now (plan .entry)) (now (order .entry)) (now (marks .entry)) n rows (now (output .entry)) r (now (output .exit)) ⌝ }
 {
-    let looked = counts::lines::count_lines(marks, n, bitmaps::size::bytes_for(rows));
+    let looked = counts::lines::count_whole_lines(marks, n, bitmaps::size::bytes_for(rows));
     let size = ProbeField::SIZE as u64 * looked;
     if (output.len() as u64) < size {
         return Answer::Refused(Refusal::OUTPUT_TOO_SHORT);

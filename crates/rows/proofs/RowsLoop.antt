@@ -24,6 +24,7 @@ use Rattle.bitmaps.specs.BitLaws.{bit-past}
 use Rattle.bitmaps.specs.Table.{lineSize, lineBits, lineBit, HoldsBits, within}
 use Rattle.bitmaps.specs.TableLaws.{holds-same, holds-bitmap, holds-bitmaps}
 use Rattle.bitmaps.specs.Word.{blockRows, wordSize, WordPut}
+use Rattle.counts.proofs.Whole.{none-behind}
 use Rattle.catalogue.specs.Catalogue.{isWithdrawn}
 use Rattle.query.specs.Format.{predicateLimit}
 use Rattle.rows.specs.declared.block.Block.{Block}
@@ -281,10 +282,18 @@ blocking-end {G} {E} {W} {base} {S} {P₀} {P} h B n T R X =
       selected-size = B .selected-size;
       selected-bitmap = holds-bitmap (isSelected T) (T .catalogue .rows) S (omega arith) all-selected;
       probed-bitmaps = holds-bitmaps (isProbed T) n (T .catalogue .rows) P (omega (arith, t .enough)) (omega arith) all-marks
-          (λ c e l. probe-line T n c e (omega arith) ∙ ap (λ (b : Bool). b && (ltb e (T .catalogue .rows) && isProbed T c e)) (ltb-yes c n l));
+          all-probed;
       marked = λ lines e. let q : t .lines ≡ lines = omega (arith, t .size) in subst (λ (x : ℕ). HoldsBits (marking T n) x P) q all-marks;
+      selected-whole = none-behind (λ c. isSelected T) 1 (T .catalogue .rows) S (omega arith) (omega arith) all-selected
+          (λ c e l. ap (λ (b : Bool). b && (ltb e (T .catalogue .rows) && isSelected T e)) (ltb-yes c 1 l));
+      probed-whole = none-behind (isProbed T) n (T .catalogue .rows) P (omega (arith, t .enough)) (omega arith) all-marks all-probed;
     }
   where
+    all-probed : (c e : ℕ) → c < n → marking T n c e ≡ (ltb e (T .catalogue .rows) && isProbed T c e)
+    all-probed c e l =
+        let few = R .few in
+        probe-line T n c e (omega arith) ∙ ap (λ (b : Bool). b && (ltb e (T .catalogue .rows) && isProbed T c e)) (ltb-yes c n l)
+
     all-selected : HoldsBits (selection T) 1 S
     all-selected =
         let r = X .rows in

@@ -18,6 +18,7 @@ use Rattle.query.specs.Format.{predicateLimit}
 use Rattle.access.specs.Access.{RowsIn}
 use Rattle.rows.specs.declared.block.Block.{Block}
 use Rattle.rows.specs.declared.all.Extent.{Extent}
+use Rattle.counts.specs.Whole.{NoneBehind}
 use Rattle.task.specs.Task.{Task, turnsOf, told, isSelected, isProbed}
 use Rattle.rows.specs.Ready.{Slices, Ready}
 use Rattle.marks.specs.Marks.{HasMarkLines, metLine, HasMetLine}
@@ -69,12 +70,14 @@ abbrev pub marking : Task → (n : ℕ) → (line row : ℕ) → Bool
 marking T n line row =
     cond (ltb line predicateLimit) (within (isProbed T) n (T .catalogue .rows) line row) (within (isMet T) n (T .catalogue .rows) (line - predicateLimit) row)
 
--- a run's own tables: the bitmaps of document 01 at the front of their lines, and the marks in as many lines as there are
+-- a run's own tables: the bitmaps of document 01 at the front of their lines, with no one behind them, and the marks in as many lines as there are
 pub record Worked (T : Task) (n : ℕ) (selected marks : List ℕ) : Type 0 where
   pub selected-size : length selected ≡ lineSize
   pub selected-bitmap : linesOf (bytesFor (T .catalogue .rows)) selected 1 ≡ bitmap (isSelected T) (T .catalogue .rows)
   pub probed-bitmaps : linesOf (bytesFor (T .catalogue .rows)) marks n ≡ bitmaps (isProbed T) n (T .catalogue .rows)
   pub marked : (lines : ℕ) → length marks ≡ lines * lineSize → HoldsBits (marking T n) lines marks
+  pub selected-whole : NoneBehind (bytesFor (T .catalogue .rows)) 1 selected
+  pub probed-whole : NoneBehind (bytesFor (T .catalogue .rows)) n marks
 
 -- all rows of the task, but for those that the mark withdraws, with all its predicates live at first
 pub record ExtentOf (G : Slices) (E : Extent) (n : ℕ) (T : Task) : Type 0 where

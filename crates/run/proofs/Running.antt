@@ -1,12 +1,13 @@
 -- The cases of a run: the input refused, a check of the request failing, or the rows worked and the end of the run.
 use Prim.Native.Nat.{ℕ, _+_, _^_, _≤_, _<_}
 use native.Mathlib.Omega.{arith}
-use mathlib.Core.Path.{_≡_, sym, ap, _∙_}
+use mathlib.Core.Path.{_≡_, sym, ap, _∙_, subst}
 use mathlib.Core.List.{List}
 use lib.ListN.{length}
 use Rattle.fields.specs.Decoded.{refused}
 use Rattle.bitmaps.specs.Bitmap.{bytesFor}
 use Rattle.bitmaps.specs.Table.{lineSize}
+use Rattle.counts.specs.Whole.{NoneBehind}
 use Rattle.reading.specs.Tables.{Tables}
 use Rattle.rows.specs.Worked.{Worked}
 use Rattle.input.specs.declared.begin.Beginning.{Beginning}
@@ -34,6 +35,10 @@ module _ {b q : List ℕ} {r : Beginning} {T : Tables} (G : HasInput b q r T) wh
 
   pub size-short : {size : ℕ} → size ≡ bytesFor (r .rows) → size ≤ lineSize
   size-short e = omega (arith, input-short G)
+
+  -- and so the ones behind, of which there is none
+  pub size-whole : (n : ℕ) (t : List ℕ) {size : ℕ} → size ≡ bytesFor (r .rows) → NoneBehind (bytesFor (G .input .catalogue .rows)) n t → NoneBehind size n t
+  size-whole n t e w = subst (λ (k : ℕ). NoneBehind k n t) (sym (e ∙ ap bytesFor (G .rows ∙ G .laid .rows))) w
 
 module _ {b q : List ℕ} {r : Beginning} {T : Tables} (G : HasInput b q r T) (order : List ℕ) (reader : ℕ) (listed looks tally : List ℕ) (size : ℕ) (s : size ≡ bytesFor (r .rows)) where
   abbrev asked : Lent

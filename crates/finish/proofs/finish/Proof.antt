@@ -1,6 +1,6 @@
 -- `finish` meets its contract: refused before anything is written, or every lent table as the end of a run says.
 use native.Mathlib.Omega.{arith}
-use Rattle.finish.proofs.Finishing.{lines-few, tally-size-wrong, counter-passed, counter-taken}
+use Rattle.finish.proofs.Finishing.{tally-size-wrong, counter-passed, counter-taken}
 use borrow.Author.Needs.{needs}
 use Rattle.finish.proofs.finish.Statement.{statement}
 use Rattle.finish.proofs.finish.Tie as tie
@@ -8,11 +8,11 @@ use Rattle.finish.proofs.finish.Tie as tie
 returns : tie.Need-returns
 returns c = (tally-size-wrong _ _ _ _ _ _ _ _ (c .if1 .taken), omega arith)
 
-count-lines-requires : tie.Need-count-lines-requires
-count-lines-requires c κs = search needs
+count-whole-lines-requires : tie.Need-count-whole-lines-requires
+count-whole-lines-requires c κs = search needs
 
-count-lines-requires-2 : tie.Need-count-lines-requires-2
-count-lines-requires-2 c κs = search needs
+count-whole-lines-requires-2 : tie.Need-count-whole-lines-requires-2
+count-whole-lines-requires-2 c κs = search needs
 
 mul-at : tie.Need-mul-at
 mul-at c = search needs
@@ -29,13 +29,13 @@ same-length c = search needs
 returns-2 : tie.Need-returns-2
 returns-2 c =
     let a = c .before in
-    (counter-passed _ _ _ _ _ _ _ _ _ _ (c .before .before .before .before .before .if1 .left) (a .eight-bytes .ensures) (c .before .before .before .count-lines2 .ensures .0) (c .if2 .taken), omega arith)
+    (counter-passed _ _ _ _ _ _ _ _ _ _ (c .before .before .before .before .before .if1 .left) (a .eight-bytes .ensures) (c .before .before .before .count-whole-lines2 .ensures .0) (c .if2 .taken), omega arith)
 
 copy-lines-requires : tie.Need-copy-lines-requires
 copy-lines-requires c κs = search needs
 
 copy-lines-requires-2 : tie.Need-copy-lines-requires-2
-copy-lines-requires-2 c κs = (omega arith, omega arith, c .before .before .before .before .before .before .before .before .before .before .before .before .before .before .before .before .pre .1 .0 .1)
+copy-lines-requires-2 c κs = (omega arith, omega arith, c .before .before .before .before .before .before .before .before .before .before .before .before .before .before .before .before .pre .1 .0 .0 .1)
 
 add-put-eight-bytes : tie.Need-add-put-eight-bytes
 add-put-eight-bytes c = search needs
@@ -55,11 +55,11 @@ same-length-4 c = search needs
 returns-3 : tie.Need-returns-3
 returns-3 c =
     let a = c .before .before .before .before .before .before .before .before .before .before .before .before .before in
-    let found = a .before .before .before .count-lines .ensures in
-    let looked = a .before .before .count-lines2 .ensures in (
+    let found = a .before .before .before .count-whole-lines .ensures in
+    let looked = a .before .before .count-whole-lines2 .ensures in (
       counter-taken _ _ _ _ _ _ _ _ _ _ (a .before .before .before .before .if1 .left) (a .eight-bytes .ensures) (looked .0) (omega arith) (omega arith) _ _ _ _ (found .0)
           (c .before .before .before .before .before .before .before .before .before .before .copy-lines .ensures) (c .before .before .before .before .before .before .copy-lines2 .ensures) (c .before .before .put-eight-bytes .ensures),
-      omega (arith, found .1, looked .1, lines-few (a .before .before .before .before .before .before .before .before .before .before .args .n) (a .before .before .before .before .before .before .before .before .before .before .args .size) (omega arith) (omega arith)),
+      omega (arith, found .1, looked .1),
     )
 
 pub finish-spec : {M : Type 1} → statement M
@@ -67,8 +67,8 @@ finish-spec =
     tie.close
     (tie.spec
     returns
-    count-lines-requires
-    count-lines-requires-2
+    count-whole-lines-requires
+    count-whole-lines-requires-2
     mul-at
     eight-bytes-requires
     sub-if2

@@ -5,7 +5,7 @@ use lib.ListN.{length}
 use Rattle.bitmaps.specs.TableLaws.{holds-none}
 use Rattle.marks.proofs.Marking.{empty-marks}
 use Rattle.request.proofs.Request.{request-order, request-fits}
-use Rattle.run.proofs.Running.{run-refused, rows-room, size-short, run-declined, run-finished}
+use Rattle.run.proofs.Running.{run-refused, rows-room, size-short, size-whole, run-declined, run-finished}
 use borrow.Author.Needs.{needs}
 use Rattle.run.proofs.run_question.Statement.{statement}
 use Rattle.run.proofs.run_question.Tie as tie
@@ -68,7 +68,10 @@ finish-requires c κs =
     let G = a .before .before .before .before .before .before .begin .ensures .accepts (a .before .before .before .if1 .left) in
     let W = c .before .before .before .before .before .before .before .work-run .ensures (G .input) (G .decoded) in (
       (W .selected-size, c .before .before .before .before .before .before .before .work-run .kept .1 .1 .1 .1 .1 .1 .1 .0, G .tabled .few, size-short G (a .before .before .bytes-for .ensures)),
-      request-fits _ _ (x .order .now) (x .reader) _ _ _ (a .before .check-request .ensures) (a .if2 .left),
+      (
+        request-fits _ _ (x .order .now) (x .reader) _ _ _ (a .before .check-request .ensures) (a .if2 .left),
+        (size-whole G _ _ (a .before .before .bytes-for .ensures) (W .selected-whole), size-whole G _ _ (a .before .before .bytes-for .ensures) (W .probed-whole)),
+      ),
     )
 
 same-length : tie.Need-same-length

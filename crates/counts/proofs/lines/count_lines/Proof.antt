@@ -19,14 +19,8 @@ Inv-loop table n size sum₀ c₀ line₀ sum c line = LinesPassed table n size 
 abbrev μ-loop : tie.MeasureT-loop
 μ-loop table n size sum₀ c₀ line₀ sum c line = n - c
 
-count-each-line-requires : tie.Need-count-each-line-requires Inv-loop μ-loop
-count-each-line-requires c κs = search needs
-
-returns : tie.Need-returns Inv-loop μ-loop
-returns c = search needs
-
 loop-holds : tie.Need-loop-holds Inv-loop μ-loop
-loop-holds c = let a = c .before .before .args in none-passed (a .table .now) (a .n) (a .size)
+loop-holds c = let a = c .before .args in none-passed (a .table .now) (a .n) (a .size)
 
 sub-loop : tie.Need-sub-loop Inv-loop μ-loop
 sub-loop c = search needs
@@ -36,7 +30,7 @@ count-seven-lines-requires c κs = search needs
 
 add-sum : tie.Need-add-sum Inv-loop μ-loop
 add-sum c =
-    let b = c .before .before .before .before .before in
+    let b = c .before .before .before .before in
     let size = b .args .size in
     let l = c .before .before .loop in
     let m : l .c + 7 ≤ b .args .n = omega arith in
@@ -56,7 +50,7 @@ loop-less c = search needs
 
 loop-again : tie.Need-loop-again Inv-loop μ-loop
 loop-again c =
-    let a = c .before .before .before .before .before .args in
+    let a = c .before .before .before .before .args in
     let l = c .before .before .loop in
     (omega arith, omega arith, lines-counted (a .table .now) (a .size) (l .c) 7 (l .inv .1) (l .inv .2) (c .count-seven-lines .ensures .0), omega (arith, add-mul (l .c) 7 (a .size)))
 
@@ -72,28 +66,28 @@ part-count-each-line-end c = search needs
 sub-count-each-line-2 : tie.Need-sub-count-each-line-2 Inv-loop μ-loop
 sub-count-each-line-2 c = search needs
 
-count-each-line-requires-2 : tie.Need-count-each-line-requires-2 Inv-loop μ-loop
-count-each-line-requires-2 c κs =
-    let t = c .before .before .before .before .before .args .table .now in
+count-each-line-requires : tie.Need-count-each-line-requires Inv-loop μ-loop
+count-each-line-requires c κs =
+    let t = c .before .before .before .before .args .table .now in
     let l = c .before .before .loop in
     let p = ap length (part-rest t (l .line)) in
     (omega arith, omega (arith, p, length-drop (l .line) t), omega (arith, p, length-drop (l .line) t))
 
 add-result : tie.Need-add-result Inv-loop μ-loop
 add-result c =
-    let b = c .before .before .before .before .before .before in
+    let b = c .before .before .before .before .before in
     let size = b .args .size in
     let l = c .before .before .before .loop in
     let z : l .c + (b .args .n - l .c) ≡ b .args .n = omega arith in
     omega (arith, add-mul (l .c) (b .args .n - l .c) size, ap (λ (k : ℕ). k * size) z, lines-small size (b .args .n) (b .pre .0))
 
-returns-2 : tie.Need-returns-2 Inv-loop μ-loop
-returns-2 c =
-    let a = c .before .before .before .before .before .before .args in
+returns : tie.Need-returns Inv-loop μ-loop
+returns c =
+    let a = c .before .before .before .before .before .args in
     let l = c .before .before .before .loop in
     let z : l .c + (a .n - l .c) ≡ a .n = omega arith in
     let p = ap (λ (u : List ℕ). onesIn (linesOf (a .size) u (a .n - l .c))) (part-rest (a .table .now) (l .line)) in (
-      lines-counted (a .table .now) (a .size) (l .c) (a .n - l .c) (l .inv .1) (l .inv .2) (c .count-each-line2 .ensures .0 ∙ p) ∙ ap (λ (k : ℕ). onesIn (linesOf (a .size) (a .table .now) k)) z,
+      lines-counted (a .table .now) (a .size) (l .c) (a .n - l .c) (l .inv .1) (l .inv .2) (c .count-each-line .ensures .0 ∙ p) ∙ ap (λ (k : ℕ). onesIn (linesOf (a .size) (a .table .now) k)) z,
       omega (arith, add-mul (l .c) (a .n - l .c) (a .size), ap (λ (k : ℕ). k * a .size) z),
     )
 
@@ -103,8 +97,6 @@ count-lines-spec =
     (tie.spec
     Inv-loop
     μ-loop
-    count-each-line-requires
-    returns
     loop-holds
     sub-loop
     count-seven-lines-requires
@@ -118,6 +110,6 @@ count-lines-spec =
     part-count-each-line-start
     part-count-each-line-end
     sub-count-each-line-2
-    count-each-line-requires-2
+    count-each-line-requires
     add-result
-    returns-2)
+    returns)
