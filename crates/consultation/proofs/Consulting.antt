@@ -21,7 +21,7 @@ use Rattle.answers.specs.Word.{numberIn, firstIn, thirdIn}
 use Rattle.answers.specs.Refusals.{notOrder}
 use Rattle.answers.specs.Checks.{checked}
 use Rattle.demands.specs.Run.{Lent, Ran, ran, rowCount, predicateCount, taskOf, foundCount, lookCount, runOn, runOf}
-use Rattle.demands.specs.Demands.{Reads, FormBroken, Kept, FirstBroken, badForm, badOrder, badTables, badReader, badTally}
+use Rattle.demands.specs.Demands.{Reads, FormBroken, badForm, badCheck, Kept, FirstBroken}
 use Rattle.demands.proofs.DemandLaws.{Decodes, decoded-input, reads-input, broken-input, decoded-cases}
 use Rattle.demands.proofs.DemandTables.{order-plain}
 use Rattle.demands.proofs.DemandRuns.{kept-gives, broken-gives, broken-number}
@@ -82,10 +82,7 @@ module _ (b q order : List ℕ) where
 
       go : FirstBroken lent e → consultationOf b q order ≡ register.refused e
       go (badForm f) = ap (λ (d : Decoded Input). registerAfter d after) (broken-input b q e f)
-      go (badOrder i s n z) = read i s
-      go (badTables i s o n z) = read i s
-      go (badReader i s o t n z) = read i s
-      go (badTally i s o t k n z) = read i s
+      go (badCheck i s f) = read i s
 
   not-order : (i : Input) → decodeInput b q ≡ accepted i → isOrder (predicateCount i) order ≡ false → numberIn (after .word) ≡ notOrder
   unfolding runOf runOn checked

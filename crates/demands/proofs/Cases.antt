@@ -40,7 +40,7 @@ use Rattle.demands.specs.Run.{lent, ran, rowCount, predicateCount, taskO
 use Rattle.demands.specs.Parish.{parish, yearBlank, both as bothMembers, question, nested}
 use Rattle.demands.specs.Demands.{IsReader}
 use Rattle.demands.specs.Cases.{Holds, questionCheck, findsNothing, noRows, oneRow, cases, AllHold}
-use Rattle.demands.proofs.DemandRuns.{reader-yes}
+use Rattle.demands.proofs.DemandRuns.{reader-test}
 use Rattle.demands.proofs.CaseInputs.{parish-input, both-input, one-input, run-on}
 
 -- a catalogue without rows has empty bitmaps, whatever is asked
@@ -87,7 +87,7 @@ module _ (i : Input) (b q order : List ℕ) (reader : ℕ) (listed looks tally :
   unfolding runOn checked onesIn
   no-rows-run o l bytes n =
       let t = same-tally tally reader bytes n l in
-      rw (o, tables-fit, no-selection, no-probes, reader-yes reader l, t .0, t .1)
+      rw (o, tables-fit, no-selection, no-probes, reader-test reader .1 l, t .0, t .1)
 
 finds-nothing : Holds (findsNothing noRows)
 unfolding numberAt headerAt numbersAt countsAt firstFieldOf columnOf columnsAt markFieldAt decodeCatalogue decodeInput runOf

@@ -23,7 +23,7 @@ use Rattle.demands.proofs.DemandTables.{front-old, front-line, probed-m
 use Rattle.demands.proofs.Demands.{demand-2-looks}
 use Rattle.demands.proofs.CopyTables.{sequence-count, sequence-length}
 use Rattle.demands.proofs.CopyBytes.{field-plain, field-parts, fieldsBefore, FieldAt, field-before, field-ascends, field-of, log-cut, place-made, made-place, place-alone}
-use Rattle.demands.proofs.CopyRuns.{Cases, copy-cases, broken-number, kept-output, kept-sequence, kept-gives, broken-output, broken-gives}
+use Rattle.demands.proofs.CopyRuns.{Cases, copy-cases, broken-number, kept-order, kept-room, kept-output, kept-sequence, kept-gives, broken-output, broken-gives}
 
 pub copy-number : CopyNumber
 copy-number r old new w L bytes e p = (λ h. go h (copy-cases r old bytes), λ x. broken-gives L e x .1)
@@ -58,12 +58,12 @@ copy-most r i f = omega (arith, look-count-le i (r .order) 2048 (f .0 .0 .rows-f
 -- the fields written take the bytes that the word says
 written : {r : Request} {old new : List ℕ} {w : ℕ} (L : LogGives r old w new) (i : Input) → CopyKept r old i
     → length (taskFields (taskOf i (r .order)) (L .sequence)) ≡ copyBytes i r
-written {r} L i k = sequence-length i (r .order) (k .order) (L .sequence) (kept-sequence L i k)
+written {r} {old} L i k = sequence-length i (r .order) (kept-order r old i k) (L .sequence) (kept-sequence L i k)
 
 pub copy-further : CopyFurther
 copy-further r old new w L i k =
     let fields : List ℕ = taskFields (taskOf i (r .order)) (L .sequence) in
-    let room = k .room in
+    let room = kept-room r old i k in
     rw (kept-output L i k) (
       length-append fields (drop (length fields) old) ∙ omega (arith, length-drop (length fields) old, written L i k),
       front-old fields old (copyBytes i r) (written L i k),
@@ -77,7 +77,7 @@ module _ {r : Request} {old new : List ℕ} {w : ℕ} (L : LogGives r old w new)
   At j e p = FieldAt (L .sequence) (rowCount i) j e p
 
   field-count : fieldsBefore (L .sequence) (rowCount i) ≡ looksOf i r
-  field-count = sequence-count i (r .order) (k .order) (L .sequence) (kept-sequence L i k)
+  field-count = sequence-count i (r .order) (kept-order r old i k) (L .sequence) (kept-sequence L i k)
 
   field-place : (j : ℕ) → j < looksOf i r → (e : ℕ) × (p : ℕ) × At j e p
   field-place j l = field-of (rowCount i) j (omega (arith, field-count))
@@ -98,12 +98,12 @@ copy-field-there r old new w L i k e c o = (to, from)
     to (j, l, h) =
         let (e′, p, F) = field-place L i k j l in
         let same = field-parts e e′ (sym h ∙ field-bytes L i k F) in
-        rw (same .0, same .1) (F .inside, place-made i (r .order) (k .order) (L .sequence) (kept-sequence L i k) (F .inside) (F .within), same .2)
+        rw (same .0, same .1) (F .inside, place-made i (r .order) (kept-order r old i k) (L .sequence) (kept-sequence L i k) (F .inside) (F .within), same .2)
 
     from : (e < rowCount i) × LookMade i (r .order) e c × (o ≡ outcomeNumber (outcome (i .catalogue) (predicateAt (i .query) c) e))
         → (j : ℕ) × (j < looksOf i r) × (fieldBytes new j ≡ lookField e c o)
     from (m, D, h) =
-        let (p, l, q) = made-place i (r .order) (k .order) (L .sequence) (kept-sequence L i k) m D in
+        let (p, l, q) = made-place i (r .order) (kept-order r old i k) (L .sequence) (kept-sequence L i k) m D in
         let F : At L i k (fieldsBefore (L .sequence) e + p) e p = record { inside = m; within = l; place = refl } in
         (fieldsBefore (L .sequence) e + p, omega (arith, field-count L i k, field-before F), field-bytes L i k F ∙ rw (q, h))
 
@@ -127,7 +127,7 @@ copy-field-once r old new w L i k = (some, alone)
         let (e′, p′, G) = field-place L i k j′ l′ in
         let same = field-parts e e′ (sym (field-bytes L i k F) ∙ h ∙ field-bytes L i k G) in
         let q : p ≡ p′ =
-        place-alone i (r .order) (k .order) (L .sequence) (kept-sequence L i k) (F .inside) (F .within) (rw (same .0) (G .within)) (same .1 ∙ rw (same .0)) in
+        place-alone i (r .order) (kept-order r old i k) (L .sequence) (kept-sequence L i k) (F .inside) (F .within) (rw (same .0) (G .within)) (same .1 ∙ rw (same .0)) in
         omega (arith, F .place, G .place, ap (fieldsBefore (L .sequence)) (same .0))
 
 pub copy-ascends : CopyAscends

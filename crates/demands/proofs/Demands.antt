@@ -4,7 +4,7 @@ use native.Mathlib.Nat.{mul-comm}
 use native.Mathlib.Omega.{arith}
 use mathlib.Core.Path.{_≡_, refl, sym, ap, _∙_, subst}
 use mathlib.Core.Bool.{Bool, true, false, _&&_, cond}
-use mathlib.Core.Logic.{_↔_, _⊎_, inl, inr}
+use mathlib.Core.Logic.{_⊎_, inl, inr}
 use mathlib.Core.List.{List, [], _∷_}
 use lib.ListN.{length, take}
 use lib.Seq.{take-at}
@@ -65,7 +65,7 @@ use Rattle.demands.proofs.AfterColumns.{after-other, after-cut, after-b
 use Rattle.demands.proofs.DemandLaws.{catalogue-range, is-catalogue, is-question, reads-input, broken-input, broken-range, unpacked}
 use Rattle.demands.proofs.DemandTables.{sum-le, line-of, line-count, front-old, order-plain, held, traced-due, probed-made, found-count, look-count, look-count-le, look-count-rows, selection-length, listed-line, probeBitmaps-length, looks-line}
 use Rattle.demands.proofs.DemandBlanks.{yes-number, blank-answer, blank-at, opposite-of, blank-false, other-opposite}
-use Rattle.demands.proofs.DemandRuns.{Cases, kept-run, broken-run, broken-number, run-cases, broken-gives, kept-gives}
+use Rattle.demands.proofs.DemandRuns.{Cases, kept-order, kept-reader, kept-tally, kept-run, broken-run, broken-number, run-cases, broken-gives, kept-gives}
 
 -- DEMAND 1: WHAT IS ACCEPTED
 
@@ -240,7 +240,7 @@ demand-2-listed l i k =
 pub demand-2-looks : Demand2Looks
 demand-2-looks l i k c m =
     rw (kept-run l i k, looks-line i (l .request .order) (l .looks) c m)
-    (line-of _ (isProbed (taskOf i (l .request .order)) c) (rowCount i) (λ e. probed-made i (l .request .order) (k .order) c e))
+    (line-of _ (isProbed (taskOf i (l .request .order)) c) (rowCount i) (λ e. probed-made i (l .request .order) (kept-order l i k) c e))
 
 pub demand-2-withdrawn : Demand2Withdrawn
 demand-2-withdrawn l i k e m n = (
@@ -269,7 +269,7 @@ module _ (l : Lent) (i : Input) (k : Kept l i) where
   sum = counterAt (l .tally) (l .reader) + lookCount (taskOf i (l .request .order))
 
   fits : place + 8 ≤ length (l .tally)
-  fits = omega (arith, k .reader, k .tally .0)
+  fits = omega (arith, kept-reader l i k, kept-tally l i k .0)
 
   inside : place ≤ length (l .tally)
   inside = omega (arith, fits)
@@ -278,7 +278,7 @@ module _ (l : Lent) (i : Input) (k : Kept l i) where
   its-tally = ap (λ (s : _). s .tally) (kept-run l i k)
 
   grown : counterAt (after l .tally) (l .reader) ≡ sum
-  grown = rw its-tally (number-put place 8 sum (l .tally) fits (omega (arith, k .tally .1)))
+  grown = rw its-tally (number-put place 8 sum (l .tally) fits (omega (arith, kept-tally l i k .1)))
 
   its-bytes : counterBytes (after l .tally) (l .reader) ≡ bytesOf 8 sum
   its-bytes = rw its-tally (ap (take 8) (put-there place (bytesOf 8 sum) (l .tally) inside) ∙ take-at (bytesOf 8 sum) _ 8 (length-bytes 8 sum))
@@ -305,7 +305,7 @@ demand-2-tally l i k = (
 
 pub demand-2-other-readers : Demand2OtherReaders
 demand-2-other-readers l i k = (
-  as-long l i k ∙ k .tally .0,
+  as-long l i k ∙ kept-tally l i k .0,
   λ r ne. others l i k r ne (which (ltb r (l .reader))),
 )
 
@@ -361,8 +361,8 @@ demand-3-run l i k way R = (looks, count)
   where
     looks : (e c : ℕ) → e < rowCount i → c < predicateCount i → bit (looksLine i (after l .looks) c) e ≡ true → Among c (probes way (pattern i e) (l .request .order))
     looks e c m n h =
-        optimal (treeValue i) (l .request .order) (held i (l .request .order) (k .order) .once) way R (pattern i e) c
-        (traced-due i (l .request .order) (k .order) (pattern i e) c .1 (demand-2-looks l i k c n .bits e m .0 h .1))
+        optimal (treeValue i) (l .request .order) (held i (l .request .order) (kept-order l i k) .once) way R (pattern i e) c
+        (traced-due i (l .request .order) (kept-order l i k) (pattern i e) c .1 (demand-2-looks l i k c n .bits e m .0 h .1))
 
     present-le : (w : Bool) {x y : ℕ} → x ≤ y → cond w 0 x ≤ cond w 0 y
     present-le true h = omega arith
@@ -371,6 +371,6 @@ demand-3-run l i k way R = (looks, count)
     count : after l .word / 2 ^ 40 ≤ sumOf (λ e. ifPresent i e (length (probes way (pattern i e) (l .request .order)))) (rowCount i)
     count =
         subst (λ (x : ℕ). x ≤ sumOf (λ e. ifPresent i e (length (probes way (pattern i e) (l .request .order)))) (rowCount i))
-        (sym (kept-gives l i k .4 ∙ look-count-rows i (l .request .order) (k .order)))
+        (sym (kept-gives l i k .4 ∙ look-count-rows i (l .request .order) (kept-order l i k)))
         (sum-le (λ e. ifPresent i e (length (predicates (trace (treeValue i) (pattern i e) (l .request .order))))) (λ e. ifPresent i e (length (probes way (pattern i e) (l .request .order)))) (rowCount i)
-        (λ e m. present-le (isWithdrawn (i .catalogue) e) (counted i (l .request .order) (k .order) way R (pattern i e))))
+        (λ e m. present-le (isWithdrawn (i .catalogue) e) (counted i (l .request .order) (kept-order l i k) way R (pattern i e))))

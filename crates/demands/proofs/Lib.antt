@@ -4,6 +4,8 @@ pub mod AfterColumns
 pub mod DemandLaws
 pub mod DemandBlanks
 pub mod DemandTables
+pub mod SentenceLaws
+pub mod CallLaws
 pub mod DemandRuns
 pub mod Demands
 pub mod TallyPage

@@ -57,7 +57,7 @@ typed-writes b text old q i k = (kept-gives b text old q i k, rw (kept-output b 
 
 pub typed-further : TypedFurther
 typed-further b text old q i k =
-    let room = k .room in
+    let room = k .kept .checks .0 in
     rw (kept-output b text old q i k) (
       length-append q (drop (length q) old) ∙ omega (arith, length-drop (length q) old),
       front-old q old (length q) refl,
@@ -94,7 +94,7 @@ module _ (b q : List ℕ) (i : Input) (r : Reads b q i) where
 pub typed-back : TypedBack
 typed-back b q i r = (
   back-short b q i r,
-  λ old l. record { short = back-short b q i r; spelled = (payloads (i .query), back-typable b q i r, refl, r .1 .1); forms = r; room = l },
+  λ old l. record { taken = (back-short b q i r, (payloads (i .query), back-typable b q i r, refl, r .1 .1)); kept = record { forms = r; checks = (l, tt) } },
 )
 
 -- a text that is taken spells under 65,536 bytes

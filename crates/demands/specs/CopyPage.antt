@@ -11,8 +11,9 @@ use Rattle.strategy.specs.Order.{occurrences}
 use Rattle.bitmaps.specs.Bit.{bit}
 use Rattle.task.specs.Input.{Input}
 use Rattle.answers.specs.Answers.{outcomeNumber}
+use Rattle.demands.specs.Sentences.{Sentences, says}
 use Rattle.demands.specs.Run.{Request, Lent, rowCount, predicateCount, taskOf, lookCount}
-use Rattle.demands.specs.Demands.{Gives, InBytes, after, Reads, FormBroken, RunningOrder, Kept, conditionOf, BlankAt, LookMade, looksLine}
+use Rattle.demands.specs.Demands.{Gives, InBytes, after, Reads, Keeps, Breaks, RunningOrder, Kept, conditionOf, BlankAt, LookMade, looksLine}
 use Rattle.demands.specs.Log.{taskFields, LogGives}
 
 -- WORDS OF THIS PAGE
@@ -24,18 +25,16 @@ looksOf i r = lookCount (taskOf i (r .order))
 abbrev pub copyBytes : Input → Request → ℕ
 copyBytes i r = 7 * looksOf i r
 
--- a copy that breaks nothing: "Inputs are those of a run without tables and tally.", and until order 8 without its reader
-pub record CopyKept (r : Request) (output : List ℕ) (i : Input) : Type 0 where
-  pub forms : Reads (r .catalogue) (r .question) i
-  pub order : RunningOrder i (r .order)
-  pub room : copyBytes i r ≤ length output
+-- "Inputs are those of a run without tables and tally.", and until order 8 without its reader: 15, then "20, the lent output is too short, after 15"
+abbrev pub copySentences : Request → (output : List ℕ) → Input → Sentences
+copySentences r output i = says 15 (RunningOrder i (r .order)) ∷ says 20 (copyBytes i r ≤ length output) ∷ []
 
--- the first check that fails: 1 to 14 and 23, 15, then "20, the lent output is too short, after 15"
-pub data CopyBroken (r : Request) (output : List ℕ) (e : ℕ) : Type 0 where
-  copyForm : FormBroken (r .catalogue) (r .question) e → CopyBroken r output e
-  copyOrder : (i : Input) → Reads (r .catalogue) (r .question) i → (RunningOrder i (r .order) → ⊥) → e ≡ 15 → CopyBroken r output e
-  copyShort : (i : Input) → Reads (r .catalogue) (r .question) i → RunningOrder i (r .order) → (copyBytes i r ≤ length output → ⊥) → e ≡ 20
-      → CopyBroken r output e
+-- a copy that breaks nothing, and the first that it breaks
+abbrev pub CopyKept : Request → (output : List ℕ) → Input → Type 0
+CopyKept r output i = Keeps (r .catalogue) (r .question) (copySentences r output) i
+
+abbrev pub CopyBroken : Request → (output : List ℕ) → (e : ℕ) → Type 0
+CopyBroken r output e = Breaks (r .catalogue) (r .question) (copySentences r output) e
 
 -- a sequence for each entry that has the conditions looked at there, each once, and no other
 abbrev pub EachLookOnce : Input → Request → (sequence : (entry : ℕ) → List ℕ) → Type 0

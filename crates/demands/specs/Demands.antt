@@ -34,6 +34,7 @@ use Rattle.task.specs.Task.{predicateAt, assignmentAt}
 use Rattle.task.specs.Input.{Input, decodeInput}
 use Rattle.answers.specs.Word.{packed}
 use Rattle.answers.specs.Answers.{catalogueAnswer, questionAnswer, outcomeNumber, outcomeAnswer}
+use Rattle.demands.specs.Sentences.{Sentences, says, NoneFails, FirstFails}
 use Rattle.demands.specs.Run.{Request, Lent, Ran, rowCount, predicateCount, taskOf, lookCount, counterAt, runOf}
 
 -- WORDS OF THIS PAGE
@@ -78,6 +79,16 @@ Reads b q i = IsCatalogue b (i .catalogue) × IsQuestion (i .catalogue) q (i .qu
 abbrev pub FormBroken : (catalogue question : List ℕ) → ℕ → Type 0
 FormBroken b q e = (decodeCatalogue b ≡ refused e) ⊎ ((C : Catalogue) × (decodeCatalogue b ≡ accepted C) × (decodeQuery C q ≡ refused e))
 
+-- a call on a catalogue and a question, with checks of its own on what they read as: it breaks nothing
+pub record Keeps (catalogue question : List ℕ) (own : Input → Sentences) (i : Input) : Type 0 where
+  pub forms : Reads catalogue question i
+  pub checks : NoneFails (own i)
+
+-- or this is the first check that fails: "The first failing check in the stated order decides.", those of the bytes before its own
+pub data Breaks (catalogue question : List ℕ) (own : Input → Sentences) (e : ℕ) : Type 0 where
+  badForm : FormBroken catalogue question e → Breaks catalogue question own e
+  badCheck : (i : Input) → Reads catalogue question i → FirstFails (own i) e → Breaks catalogue question own e
+
 -- "A running order is n bytes holding each condition number once."
 abbrev pub RunningOrder : Input → (order : List ℕ) → Type 0
 RunningOrder i order = (length order ≡ predicateCount i) × ((c : ℕ) → c < predicateCount i → occurrences c order ≡ 1)
@@ -102,25 +113,21 @@ TallyFits i order reader tally = (length tally ≡ 128) × (counterAt tally read
 abbrev pub counterBytes : (tally : List ℕ) → (reader : ℕ) → List ℕ
 counterBytes tally reader = take 8 (drop (reader * 8) tally)
 
--- a run that breaks nothing
-pub record Kept (l : Lent) (i : Input) : Type 0 where
-  pub forms : Reads (l .request .catalogue) (l .request .question) i
-  pub order : RunningOrder i (l .request .order)
-  pub tables : TablesFit i (l .listed) (l .looks)
-  pub reader : IsReader (l .reader)
-  pub tally : TallyFits i (l .request .order) (l .reader) (l .tally)
+-- "Running: 1 to 14; 15, ..; 16, ..; 17, ..", with order 6's 23 before 15 and order 7's "24, reader over 15, after 16"
+abbrev pub runSentences : Lent → Input → Sentences
+runSentences l i =
+    says 15 (RunningOrder i (l .request .order))
+    ∷ says 16 (TablesFit i (l .listed) (l .looks))
+    ∷ says 24 (IsReader (l .reader))
+    ∷ says 17 (TallyFits i (l .request .order) (l .reader) (l .tally))
+    ∷ []
 
--- "The first failing check in the stated order decides." "Running: 1 to 14; 15, ..; 16, ..; 17, ..", with order 6's 23 and order 7's "24, reader over 15,
--- after 16"
-pub data FirstBroken (l : Lent) (e : ℕ) : Type 0 where
-  badForm : FormBroken (l .request .catalogue) (l .request .question) e → FirstBroken l e
-  badOrder : (i : Input) → Reads (l .request .catalogue) (l .request .question) i → (RunningOrder i (l .request .order) → ⊥) → e ≡ 15 → FirstBroken l e
-  badTables : (i : Input) → Reads (l .request .catalogue) (l .request .question) i → RunningOrder i (l .request .order) → (TablesFit i (l .listed) (l .looks) → ⊥)
-      → e ≡ 16 → FirstBroken l e
-  badReader : (i : Input) → Reads (l .request .catalogue) (l .request .question) i → RunningOrder i (l .request .order) → TablesFit i (l .listed) (l .looks)
-      → (IsReader (l .reader) → ⊥) → e ≡ 24 → FirstBroken l e
-  badTally : (i : Input) → Reads (l .request .catalogue) (l .request .question) i → RunningOrder i (l .request .order) → TablesFit i (l .listed) (l .looks)
-      → IsReader (l .reader) → (TallyFits i (l .request .order) (l .reader) (l .tally) → ⊥) → e ≡ 17 → FirstBroken l e
+-- a run that breaks nothing, and the first that it breaks
+abbrev pub Kept : Lent → Input → Type 0
+Kept l i = Keeps (l .request .catalogue) (l .request .question) (runSentences l) i
+
+abbrev pub FirstBroken : Lent → (e : ℕ) → Type 0
+FirstBroken l e = Breaks (l .request .catalogue) (l .request .question) (runSentences l) e
 
 -- a condition of the question
 abbrev pub conditionOf : Input → (c : ℕ) → Predicate

@@ -1,3 +1,4 @@
+pub mod Sentences
 pub mod Run
 pub mod Log
 pub mod Demands

@@ -4,7 +4,7 @@
 use Prim.Native.Nat.{ℕ, _%_, _^_, _≤_, _<_}
 use mathlib.Core.Path.{_≡_}
 use mathlib.Core.Logic.{_↔_}
-use mathlib.Core.List.{List}
+use mathlib.Core.List.{List, [], _∷_}
 use lib.ListN.{length, take, drop}
 use Rattle.fields.specs.Decoded.{refused}
 use Rattle.fields.specs.Numbers.{Bytes}
@@ -17,7 +17,8 @@ use Rattle.strategy.specs.Tree.{Tree}
 use Rattle.syntax.specs.Spelling.{spelling, Typable}
 use Rattle.answers.specs.Written.{Written}
 use Rattle.task.specs.Input.{Input}
-use Rattle.demands.specs.Demands.{Gives, IsCatalogue, Reads}
+use Rattle.demands.specs.Sentences.{Sentences, says}
+use Rattle.demands.specs.Demands.{Gives, IsCatalogue, Reads, Keeps, Breaks}
 use Rattle.demands.specs.Typed.{typedOf}
 
 -- WORDS OF THIS PAGE
@@ -30,22 +31,24 @@ Spells C text q = (t : Tree (List ℕ)) × Typable (tagsOf C) t × (text ≡ spe
 abbrev pub afterTyping : (catalogue text output : List ℕ) → Written
 afterTyping b text output = typedOf b text output
 
+-- such a text is taken: "21, the text is over 16,384 bytes or isn't so spelled"
+abbrev pub Taken : Catalogue → (text question : List ℕ) → Type 0
+Taken C text q = (length text ≤ 16384) × Spells C text q
+
+-- "22, the output is too short, last"
+abbrev pub typedSentences : (question output : List ℕ) → Input → Sentences
+typedSentences q output i = says 22 (length q ≤ length output) ∷ []
+
 -- a typed question that breaks nothing, and its bytes
 pub record TypedKept (catalogue text output question : List ℕ) (i : Input) : Type 0 where
-  pub short : length text ≤ 16384
-  pub spelled : Spells (i .catalogue) text question
-  pub forms : Reads catalogue question i
-  pub room : length question ≤ length output
+  pub taken : Taken (i .catalogue) text question
+  pub kept : Keeps catalogue question (typedSentences question output) i
 
--- the first check that fails: 1 to 6 and 23 for the catalogue, "21, the text is over 16,384 bytes or isn't so spelled, after 1 to 6 and before 7
--- to 14 for those bytes; 22, the output is too short, last"
+-- the first check that fails: 1 to 6 and 23 for the catalogue, 21 "after 1 to 6 and before 7 to 14 for those bytes", 22 last
 pub data TypedBroken (catalogue text output : List ℕ) (e : ℕ) : Type 0 where
   typedCatalogue : decodeCatalogue catalogue ≡ refused e → TypedBroken catalogue text output e
-  typedText : (C : Catalogue) → IsCatalogue catalogue C → ((length text ≤ 16384) × ((q : List ℕ) × Spells C text q) → ⊥) → e ≡ 21
-      → TypedBroken catalogue text output e
-  typedForm : (C : Catalogue) (q : List ℕ) → IsCatalogue catalogue C → length text ≤ 16384 → Spells C text q → decodeQuery C q ≡ refused e
-      → TypedBroken catalogue text output e
-  typedNoRoom : (i : Input) (q : List ℕ) → length text ≤ 16384 → Spells (i .catalogue) text q → Reads catalogue q i → (length q ≤ length output → ⊥) → e ≡ 22
+  typedText : (C : Catalogue) → IsCatalogue catalogue C → ((q : List ℕ) → Taken C text q → ⊥) → e ≡ 21 → TypedBroken catalogue text output e
+  typedQuestion : (C : Catalogue) (q : List ℕ) → IsCatalogue catalogue C → Taken C text q → Breaks catalogue q (typedSentences q output) e
       → TypedBroken catalogue text output e
 
 -- THE CALL
