@@ -14,8 +14,8 @@ use Rattle.fields.specs.Header.{fieldOf}
 use Rattle.strategy.specs.Order.{occurrences}
 use Rattle.bitmaps.specs.Sums.{sumOf, joined, digit}
 use Rattle.bitmaps.specs.SumLaws.{sum-split}
-use Rattle.log.specs.Log.{probeField, rowFields, logFields}
-use Rattle.log.proofs.LogLaws.{log-length}
+use Rattle.task.specs.Log.{probeField, rowFields, logFields}
+use Rattle.task.proofs.LogLength.{log-length}
 use Rattle.task.specs.Task.{isProbed}
 use Rattle.task.specs.Input.{Input}
 use Rattle.demands.specs.Run.{rowCount, taskOf}

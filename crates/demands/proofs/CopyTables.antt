@@ -12,8 +12,8 @@ use Rattle.strategy.specs.Order.{occurrences}
 use Rattle.strategy.specs.OrderLaws.{occurs-none, occurs-some, once-of}
 use Rattle.bitmaps.specs.Sums.{sumOf, digit, countOf}
 use Rattle.bitmaps.specs.SumLaws.{sum-same, count-same}
-use Rattle.log.specs.Log.{probeFieldSize}
-use Rattle.log.proofs.LogLaws.{log-length}
+use Rattle.task.specs.Log.{probeFieldSize}
+use Rattle.task.proofs.LogLength.{log-length}
 use Rattle.task.specs.Task.{isProbed}
 use Rattle.task.specs.Input.{Input}
 use Rattle.demands.specs.Run.{rowCount, predicateCount, taskOf, lookCount}

@@ -10,7 +10,7 @@ use Rattle.fields.specs.Output.{putFront}
 use Rattle.predicate.specs.Meaning.{outcome}
 use Rattle.strategy.specs.Order.{occurrences, isOrder}
 use Rattle.bitmaps.specs.Sums.{digit}
-use Rattle.log.specs.Log.{probeFieldSize, logFields}
+use Rattle.task.specs.Log.{probeFieldSize, logFields}
 use Rattle.task.specs.Task.{Task, predicateAt, isProbed}
 use Rattle.task.specs.Input.{Input, decodeInput}
 use Rattle.answers.specs.declared.word.Answer.the-variants.{Accepted}

@@ -11,7 +11,7 @@ use Rattle.bitmaps.specs.Bitmap.{bytesFor, onesIn}
 use Rattle.bitmaps.specs.Table.{lineSize, linesOf}
 use Rattle.counts.specs.Whole.{NoneBehind}
 use Rattle.query.specs.Format.{predicateLimit}
-use Rattle.log.specs.Log.{probeFieldSize}
+use Rattle.task.specs.Log.{probeFieldSize}
 use Rattle.log_rows.specs.Written.{taskLog, LogReady, HasLogRoom, LogWritten}
 use Rattle.task.specs.Input.{Input}
 use Rattle.answers.specs.declared.word.Answer.the-variants.{Refused, Accepted}

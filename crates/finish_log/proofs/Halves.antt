@@ -21,7 +21,7 @@ use Rattle.bitmaps.specs.Table.{lineSize, lineBits, lineBit, linesOf, HoldsBits
 use Rattle.bitmaps.specs.TableLaws.{lines-front, lines-behind}
 use Rattle.query.specs.Format.{predicateLimit}
 use Rattle.gather.specs.Turns.{HasLines}
-use Rattle.log.specs.Log.{logFields}
+use Rattle.task.specs.Log.{logFields}
 use Rattle.log.specs.MarkedLog.{markedNumber}
 use Rattle.log.proofs.LogLaws.{marked-log}
 use Rattle.task.specs.Task.{told, madeAt, isProbed}

@@ -1,4 +1,3 @@
-pub mod Fields
 pub mod RowLoop
 pub mod BlockLoop
 pub mod LogLaws

@@ -1,17 +1,16 @@
--- The marked log is the log of the probes that the marks stand for, and seven bytes for each of them.
-use Prim.Native.Nat.{ℕ, zero, suc, _*_, _<_}
+-- The marked log is the log of the probes that the marks stand for.
+use Prim.Native.Nat.{ℕ, suc, _<_}
 use native.Mathlib.Omega.{arith}
 use mathlib.Core.Path.{_≡_, refl, sym, ap, _∙_}
 use mathlib.Core.Bool.{Bool, true, false}
 use mathlib.Core.List.{List, [], _∷_, _++_}
-use lib.ListN.{length, getD, length-append}
+use lib.ListN.{length, getD}
 use Rattle.strategy.specs.Assignment.{keepIf}
-use Rattle.bitmaps.specs.Sums.{sumOf, joined}
+use Rattle.bitmaps.specs.Sums.{joined}
 use Rattle.bitmaps.specs.SumLaws.{joined-same, joined-first}
 use Rattle.bitmaps.specs.Table.{lineBit}
-use Rattle.log.specs.Log.{probeFieldSize, probeField, rowFields, logFields}
+use Rattle.task.specs.Log.{probeField, rowFields, logFields}
 use Rattle.log.specs.MarkedLog.{markedNumber, fieldIf, markedField, markedRow, markedLog, markedAt}
-use Rattle.log.proofs.Fields.{probe-length}
 
 module _ (P M : List ℕ) (row : ℕ) (o : ℕ → ℕ) where
   -- marks say what the outcomes are where the row was probed
@@ -37,13 +36,3 @@ unfolding markedLog logFields
 marked-log turns P M blank rows o s marked same =
     joined-same (λ e. markedRow turns P M (blank e) e) (λ e. rowFields (o e) e (s e)) rows
     (λ e l. row-logged P M e (o e) turns (blank e) (λ i. same e i l) ∙ ap (rowFields (o e) e) (sym (marked e l)))
-
-row-length : (o : ℕ → ℕ) (row : ℕ) (cs : List ℕ) → length (rowFields o row cs) ≡ probeFieldSize * length cs
-unfolding rowFields
-row-length o row [] = refl
-row-length o row (c ∷ cs) = omega (arith, length-append (probeField row c (o c)) (rowFields o row cs), probe-length row c (o c), row-length o row cs)
-
-pub log-length : (o : (row c : ℕ) → ℕ) (s : ℕ → List ℕ) (rows : ℕ) → length (logFields o s rows) ≡ probeFieldSize * sumOf (λ e. length (s e)) rows
-unfolding logFields joined sumOf
-log-length o s zero = refl
-log-length o s (suc n) = omega (arith, length-append (logFields o s n) (rowFields (o n) n (s n)), log-length o s n, row-length (o n) n (s n))

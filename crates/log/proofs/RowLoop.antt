@@ -17,9 +17,9 @@ use Rattle.sets.specs.Kept.{FirstIs, RestIs}
 use Rattle.sets.specs.KeptLaws.{first-least, rest-has}
 use Rattle.bitmaps.specs.Sums.{joined, digit}
 use Rattle.bitmaps.specs.SumLaws.{joined-below, joined-grows}
-use Rattle.log.specs.Log.{probeFieldSize, probeField}
+use Rattle.task.specs.Log.{probeFieldSize, probeField}
 use Rattle.log.specs.MarkedLog.{markedNumber, turnField, turnFields, HasTurns}
-use Rattle.log.proofs.Fields.{probe-length}
+use Rattle.task.proofs.Fields.{probe-length}
 
 -- a mark as a byte
 pub mark-small : (b : Bool) → boolByte b ≤ 1

@@ -8,7 +8,7 @@ use Rattle.strategy.specs.Assignment.{keepIf}
 use Rattle.sets.specs.Set.{has}
 use Rattle.bitmaps.specs.Sums.{joined, digit}
 use Rattle.bitmaps.specs.Table.{lineBit}
-use Rattle.log.specs.Log.{probeField}
+use Rattle.task.specs.Log.{probeField}
 
 -- an outcome's number from its marks: 1 where it is yes, 2 where it is blank
 abbrev pub markedNumber : (met blank : Bool) → ℕ

@@ -2,7 +2,7 @@
 ghost use Prim.Native.Nat.{_+_, _≤_};
 ghost use lib.ListN.{length};
 ghost use Rattle.fields.specs.Output.{Wrote};
-ghost use Rattle.log.specs.Log.{probeFieldSize, probeField};
+ghost use Rattle.task.specs.Log.{probeFieldSize, probeField};
 ghost use Rattle.log.specs.MarkedLog.{turnFields, HasTurns};
 
 pub struct ProbeField;

@@ -1,1 +1,3 @@
 pub mod Withdrawn
+pub mod Fields
+pub mod LogLength

@@ -1,7 +1,7 @@
 -- `put_probe` meets its contract: the piece that is written is the field.
 use borrow.Author.Needs.{needs}
 use Rattle.fields.proofs.OutputLaws.{wrote-same}
-use Rattle.log.proofs.Fields.{probe-bytes}
+use Rattle.task.proofs.Fields.{probe-bytes}
 use Rattle.log.proofs.field.put_probe.Statement.{statement}
 use Rattle.log.proofs.field.put_probe.Tie as tie
 

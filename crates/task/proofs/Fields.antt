@@ -6,7 +6,7 @@ use mathlib.Core.List.{[], _∷_}
 use lib.ListN.{length}
 use Rattle.fields.specs.Numbers.{bytesOf}
 use Rattle.fields.specs.Header.{fieldOf}
-use Rattle.log.specs.Log.{probeTag, probeFieldSize, probeField}
+use Rattle.task.specs.Log.{probeTag, probeFieldSize, probeField}
 
 pub probe-bytes : (row c o : ℕ) → probeTag ∷ 0 ∷ 4 ∷ row / 256 % 256 ∷ row % 256 ∷ c ∷ o ∷ [] ≡ probeField row c o
 unfolding probeField fieldOf bytesOf
