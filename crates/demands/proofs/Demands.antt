@@ -58,7 +58,7 @@ use Rattle.answers.specs.Word.{packed}
 use Rattle.answers.specs.Answers.{questionAnswer, outcomeNumber, outcomeAnswer}
 use Rattle.answers.proofs.Outcomes.{outcome-small}
 use Rattle.demands.specs.Run.{Lent, rowCount, predicateCount, taskOf, selection, probeBitmaps, foundCount, lookCount, counterAt, tallyAfter}
-use Rattle.demands.specs.Demands.{after, Reads, RunningOrder, lineBytes, counterBytes, Kept, FirstBroken, Present, ifPresent, pattern, treeValue, LineOf, listedLine, looksLine}
+use Rattle.demands.specs.Demands.{after, Reads, Keeps, Breaks, badForm, badCheck, outcomeSentences, RunningOrder, lineBytes, counterBytes, Kept, FirstBroken, Present, ifPresent, pattern, treeValue, LineOf, listedLine, looksLine}
 use Rattle.demands.specs.Demands.{Demand1CatalogueForm, Demand1QuestionForm, Demand1Payload, Demand1FormsWritten, Demand1WrittenOnce, Demand1Mark, Demand1AfterColumns, Demand1FrontToBack, Demand1AfterQuestion, Demand1Number, Demand1Refused, Demand1Accepted, Demand1Limits, Demand1Catalogue, Demand1Question, Demand1Outcome}
 use Rattle.demands.specs.Demands.{Gives, outcomeWord, Reads, conditionOf, Demand2Blank, Demand2AsNo, Demand2Opposite, Demand2AsBefore, Demand2Tree, Demand2Listed, Demand2Looks, Demand2Withdrawn, Demand2Further, Demand2Counts, Demand2Tally, Demand2OtherReaders, Demand3, Demand3Ours, Demand3OursRule, Demand3Count, Demand3Run}
 use Rattle.demands.proofs.AfterColumns.{after-other, after-cut, after-bad, after-more, after-mark}
@@ -161,20 +161,26 @@ demand-1-question b q = (
 )
 
 pub demand-1-outcome : Demand1Outcome
-demand-1-outcome b q entry c = (
-  λ e x. let s = broken-range b q e x in
-      rw (broken-input b q e x) (unpacked (Refused e) (omega arith)),
-  λ i r n. rw (reads-input b q i r, not-true (ltb entry (rowCount i) && ltb c (predicateCount i)) (λ h. n (inside i h)))
-      (unpacked (Refused noSuchRowOrPredicate) (omega arith)),
-  λ i r x y. let z = outcome-small (outcome (i .catalogue) (predicateAt (i .query) c) entry) in
-      rw (reads-input b q i r, ltb-yes entry (rowCount i) x, ltb-yes c (predicateCount i) y)
-      (unpacked (Accepted (outcomeNumber (outcome (i .catalogue) (predicateAt (i .query) c) entry)) 0 0) (omega arith)),
-)
+demand-1-outcome b q entry c = (broken, kept)
   where
     inside : (i : Input) → (ltb entry (rowCount i) && ltb c (predicateCount i)) ≡ true → (entry < rowCount i) × (c < predicateCount i)
     inside i h =
         let p = and-parts (ltb entry (rowCount i)) (ltb c (predicateCount i)) h in
         (ltb-lt entry (rowCount i) (p .0), ltb-lt c (predicateCount i) (p .1))
+
+    broken : (e : ℕ) → Breaks b q (outcomeSentences entry c) e → Gives (outcomeWord b q entry c) e 0 0 0
+    broken e (badForm x) = let s = broken-range b q e x in rw (broken-input b q e x) (unpacked (Refused e) (omega arith))
+    broken e (badCheck i r (inl (n, z))) =
+        rw (z, reads-input b q i r, not-true (ltb entry (rowCount i) && ltb c (predicateCount i)) (λ h. n (inside i h)))
+        (unpacked (Refused noSuchRowOrPredicate) (omega arith))
+    broken e (badCheck i r (inr (y, x))) = absurd x
+
+    kept : (i : Input) → Keeps b q (outcomeSentences entry c) i
+        → Gives (outcomeWord b q entry c) 0 (outcomeNumber (outcome (i .catalogue) (conditionOf i c) entry)) 0 0
+    kept i k =
+        let z = outcome-small (outcome (i .catalogue) (predicateAt (i .query) c) entry) in
+        rw (reads-input b q i (k .forms), ltb-yes entry (rowCount i) (k .checks .0 .0), ltb-yes c (predicateCount i) (k .checks .0 .1))
+        (unpacked (Accepted (outcomeNumber (outcome (i .catalogue) (predicateAt (i .query) c) entry)) 0 0) (omega arith))
 
 pub demand-1-limits : Demand1Limits
 demand-1-limits = (
@@ -188,7 +194,7 @@ demand-1-limits = (
 -- what working out a condition gives
 told-outcome : (b q : List ℕ) (i : Input) → Reads b q i → (entry c : ℕ) → entry < rowCount i → c < predicateCount i
     → Gives (outcomeWord b q entry c) 0 (outcomeNumber (outcome (i .catalogue) (conditionOf i c) entry)) 0 0
-told-outcome b q i r entry c x y = demand-1-outcome b q entry c .2 i r x y
+told-outcome b q i r entry c x y = demand-1-outcome b q entry c .1 i (record { forms = r; checks = ((x, y), tt) })
 
 pub demand-2-blank : Demand2Blank
 demand-2-blank b q i r entry c x y =

@@ -89,6 +89,10 @@ pub data Breaks (catalogue question : List ℕ) (own : Input → Sentences) (e :
   badForm : FormBroken catalogue question e → Breaks catalogue question own e
   badCheck : (i : Input) → Reads catalogue question i → FirstFails (own i) e → Breaks catalogue question own e
 
+-- "Working out one condition: 1 to 14, then 18, no such entry or condition.", order 6's 23 with 1 to 14
+abbrev pub outcomeSentences : (entry c : ℕ) → Input → Sentences
+outcomeSentences entry c i = says 18 ((entry < rowCount i) × (c < predicateCount i)) ∷ []
+
 -- "A running order is n bytes holding each condition number once."
 abbrev pub RunningOrder : Input → (order : List ℕ) → Type 0
 RunningOrder i order = (length order ≡ predicateCount i) × ((c : ℕ) → c < predicateCount i → occurrences c order ≡ 1)
@@ -290,13 +294,12 @@ Demand1Question =
     → ((e : ℕ) → FormBroken b q e → Gives (questionWord b q) e 0 0 0)
     × ((i : Input) → Reads b q i → Gives (questionWord b q) 0 (predicateCount i) 0 0)
 
--- "one condition 1 (yes) or 0", order 2's "2 for blank"; "1 to 14, then 18, no such entry or condition", order 6's 23 with 1 to 14
+-- "one condition 1 (yes) or 0", order 2's "2 for blank"
 abbrev pub Demand1Outcome : Type 0
 Demand1Outcome =
     (b q : List ℕ) (entry c : ℕ)
-    → ((e : ℕ) → FormBroken b q e → Gives (outcomeWord b q entry c) e 0 0 0)
-    × ((i : Input) → Reads b q i → ((entry < rowCount i) × (c < predicateCount i) → ⊥) → Gives (outcomeWord b q entry c) 18 0 0 0)
-    × ((i : Input) → Reads b q i → entry < rowCount i → c < predicateCount i
+    → ((e : ℕ) → Breaks b q (outcomeSentences entry c) e → Gives (outcomeWord b q entry c) e 0 0 0)
+    × ((i : Input) → Keeps b q (outcomeSentences entry c) i
     → Gives (outcomeWord b q entry c) 0 (outcomeNumber (outcome (i .catalogue) (conditionOf i c) entry)) 0 0)
 
 -- the numbers of a catalogue are 1 to 6 and order 6's 23, those of a question 7 to 14, and what is accepted keeps the limits: entries, columns,

@@ -5,6 +5,7 @@ pub mod Demands
 pub mod CopyPage
 pub mod Typed
 pub mod TypedPage
+pub mod Calls
 pub mod TallyPage
 pub mod Parish
 pub mod Cases

@@ -4,9 +4,9 @@ use answers::word::Answer;
 use bitmaps::copy::Line;
 use marks::MarkTable;
 use query::format::Predicate;
-ghost use mathlib.Core.Path.{_≡_};
 ghost use Rattle.answers.specs.Word.{packed, FitsWord};
-ghost use Rattle.demands.specs.Run.{lent, ran, runOf};
+ghost use Rattle.demands.specs.Run.{lent};
+ghost use Rattle.demands.specs.Calls.{RunGives};
 
 // The checks, the work, the end.
 pub fn run_question(
@@ -18,7 +18,10 @@ pub fn run_question(
     looks: &mut [u8],
     tally: &mut [u8],
 ) -> Answer
-    ensures { λ r. ⌜ (ran (packed r) (now (listed .exit)) (now (looks .exit)) (now (tally .exit)) ≡ runOf (lent (now (catalogue .entry)) (now (question .entry)) (now (order .entry)) reader (now (listed .entry)) (now (looks .entry)) (now (tally .entry)))) × FitsWord r ⌝ }
+    ensures { λ r. ⌜ (RunGives (lent (now (catalogue .entry)) (now (question .entry)) (now (order .entry)) reader
+        (now (listed .entry)) (now (looks .entry)) (now (tally .entry)))
+        (packed r) (now (listed .exit)) (now (looks .exit)) (now (tally .exit)))
+        × FitsWord r ⌝ }
 {
     let mut offsets = [0usize; Predicate::LIMIT];
     let mut ancestors = [0u8; Ancestors::TABLE_SIZE];

@@ -9,7 +9,8 @@ pub extern "C" fn searchroom_copy(
     order: &[u8],
     output: &mut [u8],
 ) -> u64
-    ensures { λ r. ⌜ LogGives (request (now (catalogue .entry)) (now (question .entry)) (now (order .entry))) (now (output .entry)) r (now (output .exit)) ⌝ }
+    ensures { λ r. ⌜ LogGives (request (now (catalogue .entry)) (now (question .entry)) (now (order .entry)))
+        (now (output .entry)) r (now (output .exit)) ⌝ }
 {
     answers::word::pack(probe_log::log_question(catalogue, question, order, output))
 }

@@ -1,8 +1,5 @@
 // Working out one condition at one entry.
-ghost use mathlib.Core.Path.{_≡_};
-ghost use Rattle.task.specs.Input.{decodeInput};
-ghost use Rattle.answers.specs.Word.{packed};
-ghost use Rattle.answers.specs.Answers.{outcomeAnswer};
+ghost use Rattle.demands.specs.Calls.{OutcomeGives};
 
 #[no_mangle]
 pub extern "C" fn searchroom_outcome(
@@ -11,7 +8,7 @@ pub extern "C" fn searchroom_outcome(
     entry: u64,
     condition: u64,
 ) -> u64
-    ensures { λ r. ⌜ r ≡ packed (outcomeAnswer (decodeInput (now (catalogue .entry)) (now (question .entry))) entry condition) ⌝ }
+    ensures { λ r. ⌜ OutcomeGives (now (catalogue .entry)) (now (question .entry)) entry condition r ⌝ }
 {
     answers::word::pack(outcome::outcome_at(catalogue, question, entry, condition))
 }

@@ -1,6 +1,6 @@
 // Running a question in a given order, for a reader.
-ghost use mathlib.Core.Path.{_≡_};
-ghost use Rattle.demands.specs.Run.{lent, ran, runOf};
+ghost use Rattle.demands.specs.Run.{lent};
+ghost use Rattle.demands.specs.Calls.{RunGives};
 
 #[no_mangle]
 pub extern "C" fn searchroom_run(
@@ -12,7 +12,9 @@ pub extern "C" fn searchroom_run(
     looks: &mut [u8],
     tally: &mut [u8],
 ) -> u64
-    ensures { λ r. ⌜ ran r (now (listed .exit)) (now (looks .exit)) (now (tally .exit)) ≡ runOf (lent (now (catalogue .entry)) (now (question .entry)) (now (order .entry)) reader (now (listed .entry)) (now (looks .entry)) (now (tally .entry))) ⌝ }
+    ensures { λ r. ⌜ RunGives (lent (now (catalogue .entry)) (now (question .entry)) (now (order .entry)) reader
+        (now (listed .entry)) (now (looks .entry)) (now (tally .entry)))
+        r (now (listed .exit)) (now (looks .exit)) (now (tally .exit)) ⌝ }
 {
     answers::word::pack(run::run_question(catalogue, question, order, reader, listed, looks, tally))
 }

@@ -12,7 +12,8 @@ ghost use mathlib.Core.Path.{_≡_};
 ghost use Rattle.query.specs.Decode.{decodeTagged};
 ghost use Rattle.answers.specs.Word.{packed, FitsWord};
 ghost use Rattle.answers.specs.Written.{written};
-ghost use Rattle.demands.specs.Typed.{questionTyped, typedOf};
+ghost use Rattle.demands.specs.Typed.{questionTyped};
+ghost use Rattle.demands.specs.Calls.{TypedGives};
 
 // The checks of the question's own bytes, then the output's; the bytes written.
 fn give_question(tags: &[u8], question: &[u8], output: &mut [u8]) -> Answer
@@ -39,7 +40,7 @@ fn give_question(tags: &[u8], question: &[u8], output: &mut [u8]) -> Answer
 
 // The catalogue's checks, the text's, and those of the question that it spells.
 pub fn type_question(catalogue: &[u8], text: &[u8], output: &mut [u8]) -> Answer
-    ensures { λ r. ⌜ (written (packed r) (now (output .exit)) ≡ typedOf (now (catalogue .entry)) (now (text .entry)) (now (output .entry))) × FitsWord r ⌝ }
+    ensures { λ r. ⌜ TypedGives (now (catalogue .entry)) (now (text .entry)) (now (output .entry)) (packed r) (now (output .exit)) × FitsWord r ⌝ }
 {
     let layout = layout::lay_out(catalogue);
     let refusal = layout.refusal;
