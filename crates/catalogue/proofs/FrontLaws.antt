@@ -56,7 +56,7 @@ module _ (b tail : List ℕ) where
   slots-front at (suc n) l = ap₂ _&&_ (slot-front at (omega arith)) (slots-front (at + slotSize) n (omega arith))
 
   -- a field that is whole without the tail is the same with it
-  header-front : {at tag start stop : ℕ} → FieldAt b at (length b) tag start stop → headerAt longer at (length longer) ≡ Field tag start stop
+  pub header-front : {at tag start stop : ℕ} → FieldAt b at (length b) tag start stop → headerAt longer at (length longer) ≡ Field tag start stop
   header-front {at} {tag} {start} {stop} f =
       let g = f .begins in
       let s = f .sized in

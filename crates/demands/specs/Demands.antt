@@ -263,6 +263,11 @@ abbrev pub Demand1AfterQuestion : Type 0
 Demand1AfterQuestion =
     (C : Catalogue) (Q : Query) → WellFormed C Q → (tail : List ℕ) → 0 < length tail → decodeQuery C (encode (payloads Q) ++ tail) ≡ refused 14
 
+-- "then walks the question", front to back: every refusal but 7, a field that is cut, is the same whatever bytes follow
+abbrev pub Demand1QuestionFrontToBack : Type 0
+Demand1QuestionFrontToBack =
+    (C : Catalogue) (q tail : List ℕ) (e : ℕ) → (e ≡ 7 → ⊥) → decodeQuery C q ≡ refused e → decodeQuery C (q ++ tail) ≡ refused e
+
 -- DEMAND 1: THE CALLS
 
 -- "Where a catalogue, question, order, number or lent table breaks a form or limit of document 01, the call gives the refusal number due there,"
