@@ -40,7 +40,8 @@ pub fn met_of(
     base: usize,
     due: u64,
 ) -> u64
-    requires { ⌜ Folds (now fold) × (c < predicateLimit) × (length (now plan) ≡ planSize) × HasOutcomes (now catalogue) (now q) (accessAt (now plan) c) base due ⌝ }
+    requires { ⌜ Folds (now fold) × (c < predicateLimit) × (length (now plan) ≡ planSize)
+        × HasOutcomes (now catalogue) (now q) (accessAt (now plan) c) base due ⌝ }
     ensures { λ r. ⌜ MetIs (now (catalogue .entry)) (now (q .entry)) (accessAt (now (plan .entry)) c) base due r ⌝ }
 {
     let i = Plan::WIDTH * c;

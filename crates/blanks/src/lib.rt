@@ -27,7 +27,8 @@ pub fn gather_blanks(
 )
     requires { ⌜ HasProbes (now catalogue) (now plan) (now turns) (now probed) (now met) × BlockAt base ⌝ }
     requires { ⌜ (length (now gathered) ≡ blockRows) × ((d : _) → getD (now gathered) d 0 ≡ 0) ⌝ }
-    ensures { λ _. ⌜ BlankTurns (now (catalogue .entry)) (now (plan .entry)) (now (turns .entry)) (now (probed .entry)) (now (met .entry)) base (now (gathered .exit)) ⌝ }
+    ensures { λ _. ⌜ BlankTurns (now (catalogue .entry)) (now (plan .entry)) (now (turns .entry)) (now (probed .entry)) (now (met .entry))
+        base (now (gathered .exit)) ⌝ }
 {
     let mut i: usize = 0;
     while i < turns.len() {

@@ -48,7 +48,8 @@ fn read_plain(
 ) -> Condition
     requires { ⌜ HasRoom (now text) at (now out) (end + fieldHeadSize) ⌝ }
     requires { ⌜ raised ≤ oppositeFrom ⌝ }
-    ensures { λ r. ⌜ ConditionRead (now (text .entry)) at (plainAhead (now (tags .entry)) raised (drop at (now (text .entry)))) end (now (out .entry)) r (now (out .exit)) ⌝ }
+    ensures { λ r. ⌜ ConditionRead (now (text .entry)) at (plainAhead (now (tags .entry)) raised (drop at (now (text .entry)))) end
+        (now (out .entry)) r (now (out .exit)) ⌝ }
 {
     if !lexer::word::starts(text, at, b"c") {
         return Condition::Wrong;
@@ -81,7 +82,8 @@ fn read_plain(
 // The condition at a place of the text, its field written to the output from a place on.
 pub fn read_condition(tags: &[u8], text: &[u8], at: usize, out: &mut [u8], end: usize) -> Condition
     requires { ⌜ HasRoom (now text) at (now out) (end + fieldHeadSize) ⌝ }
-    ensures { λ r. ⌜ ConditionRead (now (text .entry)) at (conditionAhead (now (tags .entry)) (drop at (now (text .entry)))) end (now (out .entry)) r (now (out .exit)) ⌝ }
+    ensures { λ r. ⌜ ConditionRead (now (text .entry)) at (conditionAhead (now (tags .entry)) (drop at (now (text .entry)))) end
+        (now (out .entry)) r (now (out .exit)) ⌝ }
 {
     if lexer::word::starts(text, at, b"not ") {
         return read_plain(tags, Kind::OPPOSITE_FROM, text, at + 4, out, end);

@@ -20,7 +20,8 @@ pub fn sift(
     operand: &[u8],
     due: u64,
 ) -> u64
-    requires { ⌜ Folds (now table) × HasDueRows (now b) textTag start base due × (equalsKind ≤ kind) × (kind ≤ containsKind) × (0 < length (now operand)) × (length (now operand) ≤ textLimit) ⌝ }
+    requires { ⌜ Folds (now table) × HasDueRows (now b) textTag start base due × (equalsKind ≤ kind) × (kind ≤ containsKind)
+        × (0 < length (now operand)) × (length (now operand) ≤ textLimit) ⌝ }
     ensures { λ r. ⌜ Sifted (λ d. textTest kind (now (operand .entry)) (textOf (now (b .entry)) start (base + d))) due r ⌝ }
 {
     if kind == Kind::CONTAINS {

@@ -27,7 +27,9 @@ pub fn finish(
     requires { ⌜ (length (now selected) ≡ lineSize) × (length (now probed) ≡ predicateLimit * lineSize) × (n ≤ predicateLimit) × (size ≤ lineSize) ⌝ }
     requires { ⌜ HasRoom n size (now listed) (now looks) × (reader < readerLimit) ⌝ }
     requires { ⌜ NoneBehind size 1 (now selected) × NoneBehind size n (now probed) ⌝ }
-    ensures { λ r. ⌜ (ran (packed r) (now (listed .exit)) (now (looks .exit)) (now (tally .exit)) ≡ finished (now (selected .entry)) (now (probed .entry)) n size reader (now (listed .entry)) (now (looks .entry)) (now (tally .entry))) × FitsWord r ⌝ }
+    ensures { λ r. ⌜ (ran (packed r) (now (listed .exit)) (now (looks .exit)) (now (tally .exit))
+        ≡ finished (now (selected .entry)) (now (probed .entry)) n size reader
+        (now (listed .entry)) (now (looks .entry)) (now (tally .entry))) × FitsWord r ⌝ }
 {
     if tally.len() != Tally::SIZE {
         return Answer::Refused(Refusal::TALLY_REFUSED);

@@ -16,7 +16,8 @@ pub fn finish_log(
     output: &mut [u8],
 ) -> Answer
     requires { ⌜ HasMarks (now catalogue) (now plan) (now order) (now marks) n rows ⌝ }
-    ensures { λ r. ⌜ LogFinished (now (catalogue .entry)) (now (plan .entry)) (now (order .entry)) (now (marks .entry)) n rows (now (output .entry)) r (now (output .exit)) ⌝ }
+    ensures { λ r. ⌜ LogFinished (now (catalogue .entry)) (now (plan .entry)) (now (order .entry)) (now (marks .entry)) n rows
+        (now (output .entry)) r (now (output .exit)) ⌝ }
 {
     let looked = counts::lines::count_whole_lines(marks, n, bitmaps::size::bytes_for(rows));
     let size = ProbeField::SIZE as u64 * looked;

@@ -21,7 +21,9 @@ pub fn put_block(
 ) -> usize
     requires { ⌜ HasLines (now turns) (now probed) × HasLines (now turns) (now met) × BlockAt base × (count ≤ blockRows) × (length (now blanks) ≡ blockRows) ⌝ }
     requires { ⌜ at + length (markedFrom (now turns) (now probed) (now met) (blanksIn (now blanks)) base count) ≤ length (now out) ⌝ }
-    ensures { λ r. ⌜ Wrote at (markedFrom (now (turns .entry)) (now (probed .entry)) (now (met .entry)) (blanksIn (now (blanks .entry))) base count) (now (out .entry)) r (now (out .exit)) ⌝ }
+    ensures { λ r. ⌜ Wrote at
+        (markedFrom (now (turns .entry)) (now (probed .entry)) (now (met .entry)) (blanksIn (now (blanks .entry))) base count)
+        (now (out .entry)) r (now (out .exit)) ⌝ }
 {
     let mut dues = [0u64; Word::ROWS];
     let mut mets = [0u64; Word::ROWS];

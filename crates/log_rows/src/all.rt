@@ -13,7 +13,8 @@ pub fn put_rows(
     out: &mut [u8],
 ) -> usize
     requires { ⌜ HasLogRoom (now catalogue) (now plan) (now turns) (now probed) (now met) rows (now out) ⌝ }
-    ensures { λ r. ⌜ LogWritten (now (catalogue .entry)) (now (plan .entry)) (now (turns .entry)) (now (probed .entry)) (now (met .entry)) rows (now (out .entry)) r (now (out .exit)) ⌝ }
+    ensures { λ r. ⌜ LogWritten (now (catalogue .entry)) (now (plan .entry)) (now (turns .entry)) (now (probed .entry)) (now (met .entry))
+        rows (now (out .entry)) r (now (out .exit)) ⌝ }
 {
     let mut at: usize = 0;
     let mut base: usize = 0;

@@ -61,7 +61,9 @@ pub fn read_field(
     offsets: &[usize],
 ) -> MemberField
     requires { ⌜ (at ≤ end) × (end ≤ length (now q)) × HasFields (now q) (now offsets) n ⌝ }
-    ensures { λ r. ⌜ (r ≡ memberField (now (tags .entry)) (now (q .entry)) (depthOf allowed) (predicatesAt (now (q .entry)) (now (offsets .entry)) n) (headerAt (now (q .entry)) at end)) × SoundField (now (tags .entry)) (now (q .entry)) at end (depthOf allowed) n r ⌝ }
+    ensures { λ r. ⌜ (r ≡ memberField (now (tags .entry)) (now (q .entry)) (depthOf allowed)
+        (predicatesAt (now (q .entry)) (now (offsets .entry)) n) (headerAt (now (q .entry)) at end))
+        × SoundField (now (tags .entry)) (now (q .entry)) at end (depthOf allowed) n r ⌝ }
 {
     match fields::header::read_header(q, at, end) {
         Header::Cut => MemberField::Refused(Refusal::MEMBER_CUT),

@@ -96,7 +96,8 @@ pub fn read_test(
     end: usize,
 ) -> Test
     requires { ⌜ HasRoom (now text) at (now out) end ⌝ }
-    ensures { λ r. ⌜ TestRead (now (text .entry)) at (testAhead (now (tags .entry)) column (drop at (now (text .entry)))) end (now (out .entry)) r (now (out .exit)) ⌝ }
+    ensures { λ r. ⌜ TestRead (now (text .entry)) at (testAhead (now (tags .entry)) column (drop at (now (text .entry)))) end
+        (now (out .entry)) r (now (out .exit)) ⌝ }
 {
     if lexer::word::starts(text, at, b"in ") {
         return read_range(text, at + 3, out, end);

@@ -56,7 +56,8 @@ fn plan_records(
     n: usize,
     plan: &mut [usize],
 )
-    requires { ⌜ (n ≤ predicateLimit) × (n ≤ length (now table)) × (length (now plan) ≡ planSize) × HasColumns (now tags) (now starts) (recordIn (now table)) n ⌝ }
+    requires { ⌜ (n ≤ predicateLimit) × (n ≤ length (now table)) × (length (now plan) ≡ planSize)
+        × HasColumns (now tags) (now starts) (recordIn (now table)) n ⌝ }
     ensures { λ _. ⌜ Planned (now (tags .entry)) (now (starts .entry)) (recordIn (now (table .entry))) (now (plan .exit)) n ⌝ }
 {
     let mut c: usize = 0;

@@ -13,7 +13,8 @@ ghost use Rattle.probe_log.specs.Sequence.{logInTurn};
 
 // The checks, the work, the end.
 pub fn log_question(catalogue: &[u8], question: &[u8], order: &[u8], output: &mut [u8]) -> Answer
-    ensures { λ r. ⌜ (written (packed r) (now (output .exit)) ≡ logInTurn (now (catalogue .entry)) (now (question .entry)) (now (order .entry)) (now (output .entry))) × FitsWord r ⌝ }
+    ensures { λ r. ⌜ (written (packed r) (now (output .exit))
+        ≡ logInTurn (now (catalogue .entry)) (now (question .entry)) (now (order .entry)) (now (output .entry))) × FitsWord r ⌝ }
 {
     let mut offsets = [0usize; Predicate::LIMIT];
     let mut ancestors = [0u8; Ancestors::TABLE_SIZE];

@@ -24,7 +24,8 @@ pub fn read_member(
     ancestors: &mut [u8],
 ) -> Progress
     requires { ⌜ Readable at end allowed n (now q) (tables (now offsets) (now ancestors)) ⌝ }
-    ensures { λ r. ⌜ MemberRead (now (tags .entry)) (now (q .entry)) at end (depthOf allowed) n r (tables (now (offsets .entry)) (now (ancestors .entry))) (tables (now (offsets .exit)) (now (ancestors .exit))) ⌝ }
+    ensures { λ r. ⌜ MemberRead (now (tags .entry)) (now (q .entry)) at end (depthOf allowed) n r
+        (tables (now (offsets .entry)) (now (ancestors .entry))) (tables (now (offsets .exit)) (now (ancestors .exit))) ⌝ }
 {
     match members::field::read_field(tags, q, at, end, allowed, n, offsets) {
         MemberField::Refused(e) => Progress::Refused(e),
@@ -64,7 +65,8 @@ fn read_group(
     ancestors: &mut [u8],
 ) -> Progress
     requires { ⌜ Readable at end allowed n (now q) (tables (now offsets) (now ancestors)) ⌝ }
-    ensures { λ r. ⌜ MembersRead (now (tags .entry)) (now (q .entry)) at end (depthOf allowed) n r (tables (now (offsets .entry)) (now (ancestors .entry))) (tables (now (offsets .exit)) (now (ancestors .exit))) ⌝ }
+    ensures { λ r. ⌜ MembersRead (now (tags .entry)) (now (q .entry)) at end (depthOf allowed) n r
+        (tables (now (offsets .entry)) (now (ancestors .entry))) (tables (now (offsets .exit)) (now (ancestors .exit))) ⌝ }
 {
     let mut p = at;
     let mut m = n;

@@ -15,7 +15,8 @@ pub enum Reading {
 // predicates begin and which groups are around each.
 pub fn read_query(tags: &[u8], q: &[u8], offsets: &mut [usize], ancestors: &mut [u8]) -> Reading
     requires { ⌜ HasTables (tables (now offsets) (now ancestors)) ⌝ }
-    ensures { λ r. ⌜ QueryRead (now (tags .entry)) (now (q .entry)) (decodeTagged (now (tags .entry)) (now (q .entry))) r (tables (now (offsets .exit)) (now (ancestors .exit))) ⌝ }
+    ensures { λ r. ⌜ QueryRead (now (tags .entry)) (now (q .entry)) (decodeTagged (now (tags .entry)) (now (q .entry))) r
+        (tables (now (offsets .exit)) (now (ancestors .exit))) ⌝ }
 {
     match crate::member::read_member(
         tags,

@@ -25,7 +25,9 @@ pub fn work_rows(
 )
     requires { ⌜ RowsReady (slices (now catalogue) (now question) (now turns) (now plan) (now ancestors)) extent ⌝ }
     requires { ⌜ HasNoBits 1 (now selected) × HasEmptyMarks (now marks) ⌝ }
-    ensures { λ _. ⌜ RowsWorked (slices (now (catalogue .entry)) (now (question .entry)) (now (turns .entry)) (now (plan .entry)) (now (ancestors .entry))) extent (now (selected .exit)) (now (marks .exit)) ⌝ }
+    ensures { λ _. ⌜ RowsWorked
+        (slices (now (catalogue .entry)) (now (question .entry)) (now (turns .entry)) (now (plan .entry)) (now (ancestors .entry)))
+        extent (now (selected .exit)) (now (marks .exit)) ⌝ }
 {
     let fold = predicate::fold::fold_table();
     let rows = extent.rows;

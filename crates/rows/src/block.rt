@@ -38,8 +38,11 @@ pub fn work_block(
     block: Block,
     marks: &mut [u8],
 ) -> u64
-    requires { ⌜ Folds (now fold) × BlockReady (slices (now catalogue) (now question) (now turns) (now plan) (now ancestors)) block × HasNoMarks block (now marks) ⌝ }
-    ensures { λ r. ⌜ BlockWorked (slices (now (catalogue .entry)) (now (question .entry)) (now (turns .entry)) (now (plan .entry)) (now (ancestors .entry))) block r (now (marks .entry)) (now (marks .exit)) ⌝ }
+    requires { ⌜ Folds (now fold) × BlockReady (slices (now catalogue) (now question) (now turns) (now plan) (now ancestors)) block
+        × HasNoMarks block (now marks) ⌝ }
+    ensures { λ r. ⌜ BlockWorked
+        (slices (now (catalogue .entry)) (now (question .entry)) (now (turns .entry)) (now (plan .entry)) (now (ancestors .entry)))
+        block r (now (marks .entry)) (now (marks .exit)) ⌝ }
 {
     let base = block.base;
     let rows = block.rows;

@@ -18,7 +18,9 @@ ghost use Rattle.demands.specs.Calls.{TypedGives};
 // The checks of the question's own bytes, then the output's; the bytes written.
 fn give_question(tags: &[u8], question: &[u8], output: &mut [u8]) -> Answer
     requires { ⌜ length (now question) < 2 ^ 24 ⌝ }
-    ensures { λ r. ⌜ (written (packed r) (now (output .exit)) ≡ questionTyped (decodeTagged (now (tags .entry)) (now (question .entry))) (now (question .entry)) (now (output .entry))) × FitsWord r ⌝ }
+    ensures { λ r. ⌜ (written (packed r) (now (output .exit))
+        ≡ questionTyped (decodeTagged (now (tags .entry)) (now (question .entry))) (now (question .entry)) (now (output .entry)))
+        × FitsWord r ⌝ }
 {
     let mut offsets = [0usize; Predicate::LIMIT];
     let mut ancestors = [0u8; Ancestors::TABLE_SIZE];
