@@ -5,10 +5,16 @@
  * 256 KiB of stack left: each takes less.
  *
  * What a caller gives: byte slices, each a pointer and the number of bytes behind it, and numbers. Any bytes may be
- * given: the engine trusts none of them, and there is nothing to check beforehand. Three things only are the caller's:
- * a slice has the length given; a slice that a call writes overlaps no other slice of the same call and none of a call
- * made at the same time (one tally is lent to one run at a time, even for different readers); and no pointer is NULL, even
- * where the length is 0.
+ * given: the engine checks them itself, and there is nothing to check beforehand. A slice of 0 bytes may be NULL. Of
+ * what is given, three things only are the caller's:
+ *     a slice has the length given;
+ *     a slice that a call writes overlaps no other slice of the same call and none of a call made at the same time (one
+ *     tally is lent to one run at a time, even for different readers);
+ *     nobody else writes to lent bytes while the call runs: no other thread, no other process through shared memory;
+ *     and a mapped file is neither written nor cut meanwhile. The engine checks first and trusts afterwards: a length
+ *     that changes in between can make it read past the slice's end.
+ * So read a file into memory of your own before you lend it. Bytes of a map may be lent only where the map is private
+ * and nobody writes or cuts the file until the call returns: a private map alone does not keep the file's changes out.
  *
  * What a caller gets: one 64-bit number, the packed word.
  *
@@ -33,8 +39,11 @@
 #include <stddef.h>
 #include <stdint.h>
 
-/* The release; the pkg-config file has the same. */
-#define SEARCHROOM_VERSION "0.7.0"
+/* The release, as text, which the pkg-config file repeats, and as a number for #if: major * 10000 + minor * 100 +
+   patch. (Before 0.7.1 there was no number; #if takes it as 0.) Link the archive of the same release. Each call says
+   below since which release it is there, and which of its parameters came later. */
+#define SEARCHROOM_VERSION "0.7.1"
+#define SEARCHROOM_VERSION_NUMBER 701
 
 #ifdef __cplusplus
 extern "C" {
@@ -180,6 +189,7 @@ static inline const char *searchroom_refusal_text(unsigned refusal)
  * each column 4, then 5; after the last column, where the catalogue goes on, 6 if the next byte is not 87; at the mark 1, then
  * 23; at the end 6.
  * Writes nothing.
+ * Since 0.1.0.
  */
 uint64_t searchroom_check_catalogue(const uint8_t *catalogue, size_t catalogue_len);
 
@@ -213,6 +223,7 @@ static inline unsigned searchroom_columns(uint64_t word) { return searchroom_sec
  * Refusals: 1 to 6 and 23 for the catalogue; then 7 to 14, met while walking the question from front to back: at each field 7,
  * then 8; at a group 10, then 9; at a condition 12, then 11, then 13; at the end 14.
  * Writes nothing.
+ * Since 0.1.0.
  */
 uint64_t searchroom_check_question(const uint8_t *catalogue, size_t catalogue_len,
                                    const uint8_t *question, size_t question_len);
@@ -227,6 +238,7 @@ static inline unsigned searchroom_conditions(uint64_t word) { return searchroom_
  * Refusals: 1 to 14 and 23 as for searchroom_check_question; then 18, the entry is not below the number of entries or the
  * condition not below the number of conditions. Any 64-bit numbers may be given.
  * Writes nothing.
+ * Since 0.1.0.
  */
 uint64_t searchroom_outcome(const uint8_t *catalogue, size_t catalogue_len,
                             const uint8_t *question, size_t question_len,
@@ -260,6 +272,7 @@ static inline unsigned searchroom_answer(uint64_t word) { return searchroom_firs
  * registered looks (searchroom_look_count).
  * Refusals: 1 to 14 and 23 as for searchroom_check_question; then 15, then 16, then 24, the reader is over 15 (any 64-bit
  * number may be given), then 17. Nothing is then written.
+ * Since 0.1.0; reader since 0.7.0.
  */
 uint64_t searchroom_run(const uint8_t *catalogue, size_t catalogue_len,
                         const uint8_t *question, size_t question_len,
@@ -308,6 +321,7 @@ static inline unsigned searchroom_bit(const uint8_t *row, unsigned entry) { retu
  *
  * Results: third the number of bytes written, SEARCHROOM_COPY_FIELD_BYTES times the look count (searchroom_written).
  * Refusals: 1 to 14 and 23 as for searchroom_check_question; then 15, then 20. Nothing is then written.
+ * Since 0.2.0.
  */
 uint64_t searchroom_copy(const uint8_t *catalogue, size_t catalogue_len,
                          const uint8_t *question, size_t question_len,
@@ -363,6 +377,7 @@ static inline unsigned searchroom_copied_outcome(const uint8_t *field) { return 
  * searchroom_check_question gives them for the bytes read, 11 for instance where there is no such column, it holds the other
  * sort of values, or between the quotes is nothing or over 23 bytes (7, 8, 9 and 14 cannot come); then 22. Nothing is then
  * written.
+ * Since 0.4.0.
  */
 uint64_t searchroom_typed(const uint8_t *catalogue, size_t catalogue_len,
                           const uint8_t *text, size_t text_len,

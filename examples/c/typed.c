@@ -89,8 +89,7 @@ static void check_order(const char *folder, const uint8_t *catalogue, size_t cat
     static uint8_t order[1 << 20];
     size_t len = read_stream(stream, path, order, sizeof order);
     /* The engine is the judge: a copy without room for a byte checks the order and writes nothing. */
-    uint8_t none[1] = {0};
-    uint64_t word = searchroom_copy(catalogue, catalogue_len, question, question_len, order, len, none, 0);
+    uint64_t word = searchroom_copy(catalogue, catalogue_len, question, question_len, order, len, NULL, 0);
     if (searchroom_refusal(word) != SEARCHROOM_BAD_ORDER)
         return;
     if (len != conditions)

@@ -37,7 +37,8 @@ int are_all(uint8_t one, const uint8_t *bytes, size_t len);
 /* Expects the fields that a copy of the parish in the order 0, 1, 2 has for these entries, given as a row of bits (copy.c). */
 void expect_parish_fields(uint8_t entries, const uint8_t *fields);
 
-/* The cases of each call, and those of the readers and of the mark. */
+/* The cases of the release, of each call, and those of the readers, of the mark and of empty slices. */
+void version_cases(void);
 void catalogue_cases(void);
 void question_cases(void);
 void run_cases(void);
@@ -46,5 +47,6 @@ void blocks_cases(void);
 void copy_cases(void);
 void typed_cases(void);
 void withdrawn_cases(void);
+void empty_cases(void);
 
 #endif

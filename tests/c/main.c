@@ -71,6 +71,7 @@ uint8_t *read_file(const char *path, size_t *len)
 
 int main(void)
 {
+    version_cases();
     catalogue_cases();
     question_cases();
     run_cases();
@@ -79,6 +80,7 @@ int main(void)
     copy_cases();
     typed_cases();
     withdrawn_cases();
+    empty_cases();
     printf("%u passed, %u failed\n", passed, failed);
     return failed == 0 ? 0 : 1;
 }
