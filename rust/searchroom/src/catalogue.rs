@@ -48,6 +48,7 @@ pub fn check_catalogue(catalogue: &[u8]) -> Result<Size, Refusal> {
 
 /// Checks a catalogue. The first result is the number of entries, the second the number of columns.
 pub fn check_catalogue_word(catalogue: &[u8]) -> Word {
-    // SAFETY: the call only reads the `len` bytes behind the pointer, which a slice has, and the pointer is not null.
+    // SAFETY: the call only reads the `len` bytes behind the pointer, which a slice has, and nobody writes to borrowed
+    // bytes.
     Word(unsafe { sys::searchroom_check_catalogue(catalogue.as_ptr(), catalogue.len()) })
 }

@@ -40,7 +40,7 @@ pub fn copy(catalogue: &[u8], question: &[u8], order: &[u8], output: &mut [u8]) 
 /// Writes a copy. The third result is the number of bytes written.
 pub fn copy_word(catalogue: &[u8], question: &[u8], order: &[u8], output: &mut [u8]) -> Word {
     // SAFETY: the call reads the bytes of the first three slices and writes none but those of the last, which overlaps no
-    // other, for it is borrowed alone. No pointer of a slice is null.
+    // other, for it is borrowed alone. Nobody else writes to borrowed bytes.
     Word(unsafe {
         sys::searchroom_copy(
             catalogue.as_ptr(),

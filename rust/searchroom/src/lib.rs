@@ -1,7 +1,12 @@
 //! The searchroom engine from Rust: safe calls over `libsearchroom.a`.
 //!
-//! The engine takes byte slices and numbers and trusts none of them: every call may be made with any bytes, and answers
+//! The engine takes byte slices and numbers and checks them itself: every call may be made with any bytes, and answers
 //! either with its result or with the [`Refusal`] that is due. Nothing has to be checked beforehand.
+//!
+//! Nobody else may write to lent bytes while a call runs: the engine checks first and trusts afterwards. Rust's borrows
+//! see to it, except for bytes of a memory map or of shared memory, which another process can change, and which go away
+//! where the mapped file is cut. Read a file with [`std::fs::read`]. Bytes of a map may be lent only where the map is
+//! private and nobody writes or cuts the file until the call returns.
 //!
 //! ```
 //! // One entry and one column of numbers, holding the year 1701.

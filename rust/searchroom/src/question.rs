@@ -52,7 +52,7 @@ pub fn check_question(catalogue: &[u8], question: &[u8]) -> Result<u16, Refusal>
 
 /// Checks a question against a catalogue. The first result is the number of conditions.
 pub fn check_question_word(catalogue: &[u8], question: &[u8]) -> Word {
-    // SAFETY: the call only reads the bytes of the two slices, and no pointer of a slice is null.
+    // SAFETY: the call only reads the bytes of the two slices, and nobody writes to borrowed bytes.
     Word(unsafe {
         sys::searchroom_check_question(catalogue.as_ptr(), catalogue.len(), question.as_ptr(), question.len())
     })
@@ -85,7 +85,7 @@ pub fn outcome(catalogue: &[u8], question: &[u8], entry: u64, condition: u64) ->
 
 /// Works out one condition at one entry. The first result is the number of an [`Answer`].
 pub fn outcome_word(catalogue: &[u8], question: &[u8], entry: u64, condition: u64) -> Word {
-    // SAFETY: the call only reads the bytes of the two slices, and no pointer of a slice is null.
+    // SAFETY: the call only reads the bytes of the two slices, and nobody writes to borrowed bytes.
     Word(unsafe {
         sys::searchroom_outcome(
             catalogue.as_ptr(),

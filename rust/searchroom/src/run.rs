@@ -58,7 +58,7 @@ pub fn run_word(
     tally: &mut [u8],
 ) -> Word {
     // SAFETY: the call reads the bytes of the first three slices and writes none but those of the last three; these
-    // overlap no other, for they are borrowed alone. No pointer of a slice is null.
+    // overlap no other, for they are borrowed alone. Nobody else writes to borrowed bytes.
     Word(unsafe {
         sys::searchroom_run(
             catalogue.as_ptr(),

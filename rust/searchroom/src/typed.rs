@@ -50,7 +50,7 @@ pub fn typed(catalogue: &[u8], text: &[u8], output: &mut [u8]) -> Result<usize, 
 /// Reads a typed question. The third result is the number of bytes written.
 pub fn typed_word(catalogue: &[u8], text: &[u8], output: &mut [u8]) -> Word {
     // SAFETY: the call reads the bytes of the first two slices and writes none but those of the last, which overlaps no
-    // other, for it is borrowed alone. No pointer of a slice is null.
+    // other, for it is borrowed alone. Nobody else writes to borrowed bytes.
     Word(unsafe {
         sys::searchroom_typed(
             catalogue.as_ptr(),

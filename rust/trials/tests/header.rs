@@ -1,5 +1,6 @@
-//! The C header repeats numbers of the crates: each is the same in both, and the header's version is the workspace's. Its
-//! example of a typed question is read into the bytes that it shows.
+//! The C header repeats numbers of the crates: each is the same in both, and the header's version is the workspace's.
+//! At each call it says since which release the call is there. Its example of a typed question is read into the bytes
+//! that it shows.
 
 use std::collections::BTreeMap;
 use std::fs;
@@ -172,7 +173,32 @@ fn example_of_a_typed_question_is_read_into_its_bytes() {
     assert_eq!(typed_question(PARISH_CATALOGUE, text.as_bytes()), Ok(bytes), "{text}");
 }
 
+/// The release of the workspace.
+const RELEASE: &str = env!("CARGO_PKG_VERSION");
+
+/// The number that `#if` compares: of `0.7.1` it is 701.
+fn release_number(release: &str) -> u32 {
+    release.split('.').fold(0, |number, part| 100 * number + part.parse::<u32>().expect(release))
+}
+
 #[test]
 fn header_has_the_version_of_the_workspace() {
-    assert!(HEADER.contains(&format!("\n#define SEARCHROOM_VERSION \"{}\"\n", env!("CARGO_PKG_VERSION"))));
+    let number = release_number(RELEASE);
+    assert!(HEADER.contains(&format!("\n#define SEARCHROOM_VERSION \"{RELEASE}\"\n")));
+    assert!(HEADER.contains(&format!("\n#define SEARCHROOM_VERSION_NUMBER {number}\n")));
+}
+
+#[test]
+fn every_call_says_since_which_release_it_is_there() {
+    let texts: Vec<&str> = HEADER.split("\nuint64_t searchroom_").collect();
+    let (_, before_calls) = texts.split_last().expect("the header");
+    assert!(!before_calls.is_empty(), "the header declares no call");
+    for before in before_calls {
+        let comment = before.rsplit("/*").next().expect("a comment");
+        let since = comment.lines().find_map(|line| line.strip_prefix(" * Since "));
+        let since = since.unwrap_or_else(|| panic!("no release stands at the call:\n{comment}"));
+        let releases = since.split(' ').filter(|word| word.starts_with(|first: char| first.is_ascii_digit()));
+        let numbers: Vec<u32> = releases.map(|word| release_number(word.trim_end_matches(['.', ';']))).collect();
+        assert!(!numbers.is_empty() && numbers.iter().all(|&number| number <= release_number(RELEASE)), "{since}");
+    }
 }
