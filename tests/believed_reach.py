@@ -1,0 +1,113 @@
+"""Which definitions cite which: those of specs/*.antt, and of src/*.rt the enums and the contracts. A reading of text, not the checker's;
+where it errs it finds too much, since a variable with the name of a definition counts as a citation."""
+import functools
+import re
+
+NAME = r"[^\W\d_][\w′-]*"
+# a function, a field or a constructor is declared by `NAME :`, a type by `record NAME` or `data NAME`, one of the code by `enum NAME`
+DECLARED = re.compile(rf"(?:(?:abbrev|unfoldable|mutual|pub) )*(?:(?:record|data|enum) ({NAME})|({NAME}) :)")
+VARIANT = re.compile(rf"({NAME})(?:,| {{|\()")
+STATEMENT = re.compile(rf"abbrev pub ({NAME}) : Type 0")
+USE = re.compile(r"(?:ghost )?use Rattle·(\w+)(?:·specs)?\.((?:specs|proofs)\.[\w.-]+?)(?:\.\{([^}]*)\}| as (\w+));?")
+
+
+class Definition:
+    """A line at the margin with what is indented under it, and the clauses up to a blank line; comments left out."""
+
+    def __init__(self, path, lines):
+        self.path, self.lines, self.names = path, lines, []
+        for line in lines:
+            if found := DECLARED.match(line) or lines[0].startswith("pub enum ") and VARIANT.match(line):
+                self.names += filter(None, found.groups())
+        # what others cite it by: a field is written ` .field`, and its record stands in some type
+        self.cited_as = self.names[:1] if lines[0].startswith("pub record ") else self.names
+
+    def statement(self):
+        """Its name if it is a statement, which is proved or not: a type without arguments."""
+        found = STATEMENT.fullmatch(self.lines[0])
+        return found and found[1]
+
+
+class File:
+    """Its definitions, by the names that cite them too, and what it imports from the crates: names, and modules under an alias."""
+
+    def __init__(self, path):
+        self.path, self.imports, self.aliases = path, {}, {}
+        comment = "//" if path.suffix == ".rt" else "--"
+        parts, blank = [], True
+        for line in path.read_text().splitlines():
+            text = re.sub(rf"(^|\s){comment}.*", "", line).strip()
+            if not line.strip():
+                blank = True
+            elif re.match(r"(ghost )?use ", text):
+                self.add_import(text)
+            elif text:
+                if blank and not line.startswith(" "):
+                    parts.append([])
+                parts[-1].append(text)
+                blank = False
+        self.definitions = [Definition(path, lines) for lines in parts]
+        self.cited = {name: definition for definition in self.definitions for name in definition.cited_as}
+
+    def add_import(self, text):
+        """Names of a module, or the module under an alias. What is not of a crate is the kit's."""
+        found = USE.fullmatch(text)
+        if found is None:
+            if "Rattle·" in text:
+                raise SystemExit(f"{self.path}: an import that tests/believed_reach.py cannot read: {text}")
+            return
+        crate, module, names, alias = found.groups()
+        crates = next(folder for folder in self.path.parents if folder.name == "crates")
+        path, enum = module_file(crates / crate, module)
+        if alias:
+            self.aliases[alias] = path, enum
+        else:
+            self.imports |= {name: (path, enum or name) for name in re.findall(NAME, names)}
+
+
+def module_file(crate, module):
+    """The file of a module, and the enum if it is that of one: from `enum Outcome` of src/outcome.rt the kit makes
+    `specs.declared.outcome.Outcome`, and in it `the-variants`."""
+    parts = module.removesuffix(".the-variants").split(".")
+    if parts[1] == "declared":
+        *folders, enum = parts[2:]
+        return crate.joinpath("src", *folders or ["lib"]).with_suffix(".rt"), enum
+    return crate.joinpath(*parts).with_suffix(".antt"), None
+
+
+@functools.cache
+def read(path):
+    return File(path)
+
+
+def cited_in(path, name):
+    return read(path).cited.get(name) if path.is_file() else None
+
+
+@functools.cache
+def cites(definition):
+    """The definitions that this one names: those of its file, imported ones, and by an alias `alias.name`."""
+    file = read(definition.path)
+    text = re.sub(r"(?<![\w′])\.[\w-]+", "", "\n".join(definition.lines))
+    found = []
+    for alias, name in re.findall(rf"\b(\w+)\.({NAME})", text):
+        if alias in file.aliases:
+            path, enum = file.aliases[alias]
+            found.append(cited_in(path, enum or name))
+    for name in re.findall(NAME, text):
+        if name in file.cited:
+            found.append(file.cited[name])
+        elif name in file.imports:
+            found.append(cited_in(*file.imports[name]))
+    return [other for other in dict.fromkeys(found) if other and other is not definition]
+
+
+def reach(definitions):
+    """These definitions and all that they cite, each with one that cites it."""
+    reached, left = {}, [(definition, None) for definition in definitions]
+    while left:
+        definition, by = left.pop()
+        if definition not in reached:
+            reached[definition] = by
+            left += [(other, definition) for other in cites(definition)]
+    return reached
