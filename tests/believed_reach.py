@@ -27,6 +27,9 @@ class Definition:
         found = STATEMENT.fullmatch(self.lines[0])
         return found and found[1]
 
+    def is_exported(self):
+        return any('extern "C"' in line for line in self.lines)
+
 
 class File:
     """Its definitions, by the names that cite them too, and what it imports from the crates: names, and modules under an alias."""
