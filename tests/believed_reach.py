@@ -1,5 +1,5 @@
-"""Which definitions cite which: those of specs/*.antt, and of src/*.rt the enums and the contracts. A reading of text, not the checker's;
-where it errs it finds too much, since a variable with the name of a definition counts as a citation."""
+"""Which definitions cite which: those of specs/*.antt, and of src/*.rt the enums and the contracts. A reading of text, not the checker's.
+Where it errs it finds too much, since a variable with the name of a definition counts as a citation; at what it cannot read it stops."""
 import functools
 import re
 
@@ -53,19 +53,18 @@ class File:
         self.cited = {name: definition for definition in self.definitions for name in definition.cited_as}
 
     def add_import(self, text):
-        """Names of a module, or the module under an alias. What is not of a crate is the kit's."""
+        """Names of a module, or the module under an alias; what is no crate of ours is the kit's."""
         found = USE.fullmatch(text)
-        if found is None:
-            if "Rattle·" in text:
-                raise SystemExit(f"{self.path}: an import that tests/believed_reach.py cannot read: {text}")
-            return
-        crate, module, names, alias = found.groups()
+        if not found and "Rattle·" in text:
+            raise SystemExit(f"{self.path}: this import cannot be read: {text}")
         crates = next(folder for folder in self.path.parents if folder.name == "crates")
-        path, enum = module_file(crates / crate, module)
-        if alias:
-            self.aliases[alias] = path, enum
-        else:
-            self.imports |= {name: (path, enum or name) for name in re.findall(NAME, names)}
+        if found and (crates / found[1]).is_dir():
+            crate, module, names, alias = found.groups()
+            path, enum = module_file(crates / crate, module)
+            if alias:
+                self.aliases[alias] = path, enum
+            else:
+                self.imports |= {name: (path, enum or name) for name in re.findall(NAME, names)}
 
 
 def module_file(crate, module):
@@ -83,8 +82,10 @@ def read(path):
     return File(path)
 
 
-def cited_in(path, name):
-    return read(path).cited.get(name) if path.is_file() else None
+def defined(path, name):
+    if name not in read(path).cited:
+        raise SystemExit(f"{path} has no definition of {name}, which is imported from there")
+    return read(path).cited[name]
 
 
 @functools.cache
@@ -96,13 +97,13 @@ def cites(definition):
     for alias, name in re.findall(rf"\b(\w+)\.({NAME})", text):
         if alias in file.aliases:
             path, enum = file.aliases[alias]
-            found.append(cited_in(path, enum or name))
+            found.append(defined(path, enum or name))
     for name in re.findall(NAME, text):
         if name in file.cited:
             found.append(file.cited[name])
         elif name in file.imports:
-            found.append(cited_in(*file.imports[name]))
-    return [other for other in dict.fromkeys(found) if other and other is not definition]
+            found.append(defined(*file.imports[name]))
+    return [other for other in dict.fromkeys(found) if other is not definition]
 
 
 def reach(definitions):
