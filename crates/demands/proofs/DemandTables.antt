@@ -217,7 +217,7 @@ module _ (i : Input) (order : List ℕ) where
 module _ (i : Input) (order : List ℕ) where
   pub selection-length : length (selection (taskOf i order)) ≡ bytesFor (rowCount i)
   unfolding selection
-  selection-length = bitmap-length (isSelected (taskOf i order)) (rowCount i)
+  selection-length = bitmap-length _ (rowCount i)
 
   pub listed-line : (listed : List ℕ) → listedLine i (putFront (selection (taskOf i order)) listed) ≡ bitmap (isSelected (taskOf i order)) (rowCount i)
   unfolding selection
@@ -225,7 +225,7 @@ module _ (i : Input) (order : List ℕ) where
 
   pub probeBitmaps-length : length (probeBitmaps (taskOf i order)) ≡ predicateCount i * bytesFor (rowCount i)
   unfolding probeBitmaps
-  probeBitmaps-length = bitmaps-length (isProbed (taskOf i order)) (predicateCount i) (rowCount i)
+  probeBitmaps-length = bitmaps-length _ (predicateCount i) (rowCount i)
 
   pub looks-line : (looks : List ℕ) (c : ℕ) → c < predicateCount i
       → looksLine i (putFront (probeBitmaps (taskOf i order)) looks) c ≡ bitmap (isProbed (taskOf i order) c) (rowCount i)
