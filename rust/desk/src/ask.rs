@@ -12,7 +12,7 @@ use crate::folder::{Folder, output};
 use crate::found::{Found, run};
 use crate::replace::{Replacement, Target};
 use crate::request::Request;
-use crate::show::{Paint, shown};
+use crate::show::{Paint, shown, shown_path};
 use crate::words::Ask;
 
 pub fn ask(ask: &Ask, paint: Paint, out: &mut dyn Write) -> Result<(), Failure> {
@@ -116,11 +116,11 @@ impl<'a> Register<'a> {
         writeln!(out)?;
         self.print_looks(paint, out)?;
         if let (Some(Kept { number, is_new }), Some(file)) = (&self.tally, &ask.tally) {
-            let new = if *is_new { format!(" ({} is new)", file.display()) } else { String::new() };
+            let new = if *is_new { format!(" ({} is new)", shown_path(file)) } else { String::new() };
             writeln!(out, "tally of reader {}: {number}{new}", ask.reader)?;
         }
         if let (Some(bytes), Some(file)) = (self.copied, &ask.copy) {
-            writeln!(out, "copy of the register: {bytes} bytes in {}", file.display())?;
+            writeln!(out, "copy of the register: {bytes} bytes in {}", shown_path(file))?;
         }
         Ok(())
     }

@@ -11,7 +11,7 @@ use crate::notation::Condition;
 use crate::question::{Group, Question};
 use crate::replace::replace;
 use crate::request::Request;
-use crate::show::counted;
+use crate::show::{counted, shown_path};
 use crate::words::Draw;
 
 pub fn draw(draw: &Draw, out: &mut dyn Write) -> Result<(), Failure> {
@@ -24,7 +24,7 @@ pub fn draw(draw: &Draw, out: &mut dyn Write) -> Result<(), Failure> {
     replace(output(&draw.asked.folder, &draw.output)?, picture.as_bytes())?;
     let conditions = counted(request.question.conditions().len(), "condition", "conditions");
     let groups = counted(request.question.groups.len(), "group", "groups");
-    Ok(writeln!(out, "{}: {conditions}, {groups}", draw.output.display())?)
+    Ok(writeln!(out, "{}: {conditions}, {groups}", shown_path(&draw.output))?)
 }
 
 // All lengths are in pixels.

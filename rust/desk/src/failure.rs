@@ -6,6 +6,8 @@ use std::path::Path;
 
 use searchroom::Refusal;
 
+use crate::show::shown_path;
+
 /// All but the last end the program with status 1.
 pub enum Failure {
     /// The engine refuses. `help` says where, and what to do, in lines of its own.
@@ -19,7 +21,7 @@ pub enum Failure {
 impl Failure {
     /// What happened to a file.
     pub fn file(what: &str, path: &Path, error: &io::Error) -> Failure {
-        Failure::Desk(format!("cannot {what} {}: {error}", path.display()))
+        Failure::Desk(format!("cannot {what} {}: {error}", shown_path(path)))
     }
 }
 

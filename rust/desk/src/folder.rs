@@ -10,6 +10,7 @@ use crate::columns;
 use crate::failure::Failure;
 use crate::heading::Heading;
 use crate::replace::{Replacement, Target, if_there, left_over, patiently};
+use crate::show::shown_path;
 
 pub struct Folder {
     /// The catalogue's bytes, as the engine takes them.
@@ -32,13 +33,13 @@ impl Folder {
         refuse_a_file(folder)?;
         let (bytes, columns) = read_both(folder)?;
         let catalogue = Catalogue::read(&bytes).map_err(|refusal| {
-            let help = format!("\n  in {}: import the CSV file again", catalogue_file(folder).display());
+            let help = format!("\n  in {}: import the CSV file again", shown_path(&catalogue_file(folder)));
             Failure::Refused { refusal, help }
         })?;
         let headings = columns.map_or(Some(columns::unnamed(&catalogue)), |columns| columns::read(&columns));
         let headings = headings.map(|headings| columns::with_mark(headings, &catalogue));
         let headings = headings.filter(|headings| columns::fit(headings, &catalogue)).ok_or_else(|| {
-            let file = columns_file(folder).display().to_string();
+            let file = shown_path(&columns_file(folder));
             Failure::Desk(format!("{file} does not fit catalogue.bin: import the CSV file again, or remove {file}"))
         })?;
         Ok(Folder { bytes, catalogue, headings })
@@ -81,10 +82,10 @@ pub fn output(folder: &Path, path: &Path) -> Result<Target, Failure> {
     let file = Target::of(path)?;
     let own = [catalogue_file(folder), columns_file(folder)];
     if own.iter().any(|own| Target::of(own).is_ok_and(|own| own.is_same(&file))) {
-        return Err(Failure::Desk(format!("{} is the catalogue's own: name another file", path.display())));
+        return Err(Failure::Desk(format!("{} is the catalogue's own: name another file", shown_path(path))));
     }
     if file.is_beside() {
-        let path = path.display();
+        let path = shown_path(path);
         return Err(Failure::Desk(format!("{path}: names in .new are for files being written; name another file")));
     }
     Ok(file)
@@ -115,7 +116,7 @@ fn read_both(folder: &Path) -> Result<(Vec<u8>, Option<Vec<u8>>), Failure> {
 fn read_catalogue(folder: &Path, file: &Path) -> Result<Vec<u8>, Failure> {
     fs::read(file).map_err(|error| match error.kind() {
         io::ErrorKind::NotFound => {
-            let (file, folder) = (file.display(), folder.display());
+            let (file, folder) = (shown_path(file), shown_path(folder));
             Failure::Desk(format!("there is no {file}: make it with `searchroom import FILE.csv {folder}`"))
         }
         _ => Failure::file("read", file, &error),
@@ -124,12 +125,12 @@ fn read_catalogue(folder: &Path, file: &Path) -> Result<Vec<u8>, Failure> {
 
 fn refuse_a_file(folder: &Path) -> Result<(), Failure> {
     if folder.exists() && !folder.is_dir() {
-        return Err(Failure::Desk(format!("{} is not a folder: name the folder of a catalogue", folder.display())));
+        return Err(Failure::Desk(format!("{} is not a folder: name the folder of a catalogue", shown_path(folder))));
     }
     Ok(())
 }
 
 fn not_imported(file: &Path, why: &str) -> Failure {
-    let file = file.display();
+    let file = shown_path(file);
     Failure::Desk(format!("{file} {why}: no import made it, or one was cut off; name another folder, or remove {file}"))
 }

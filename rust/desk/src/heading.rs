@@ -1,5 +1,7 @@
 //! What stands at the head of a column: its name, and what it holds.
 
+use crate::show::is_of_no_width;
+
 /// The name of the column that is the mark.
 pub const WITHDRAWN: &str = "withdrawn";
 
@@ -77,11 +79,6 @@ pub fn says_withdrawn(word: &str) -> Option<bool> {
     is_among(&WITHDRAWN_WORDS).then_some(true).or_else(|| is_among(&PRESENT_WORDS).then_some(false))
 }
 
-/// Letters of no width, the byte order mark among them: two names that differ by one look the same.
-fn is_invisible(letter: char) -> bool {
-    matches!(letter, '\u{AD}' | '\u{200B}'..='\u{200F}' | '\u{202A}'..='\u{202E}' | '\u{2060}'..='\u{206F}' | '\u{FEFF}')
-}
-
 /// What is wrong with the names in a first line: the place of the cell, and the fault.
 pub fn name_faults(cells: &[String]) -> Vec<(usize, String)> {
     let mut faults = Vec::new();
@@ -94,7 +91,7 @@ pub fn name_faults(cells: &[String]) -> Vec<(usize, String)> {
             faults.push((place, format!("column {} has that name too; each column needs its own", earlier + 1)));
         } else if name.chars().count() > MAX_NAME {
             faults.push((place, format!("a name has at most {MAX_NAME} letters; shorten it")));
-        } else if let Some(letter) = name.chars().find(|&letter| is_invisible(letter)) {
+        } else if let Some(letter) = name.chars().find(|&letter| is_of_no_width(letter)) {
             faults.push((place, format!("nobody sees the letter U+{:04X} in this name; remove it", u32::from(letter))));
         } else if numbered(name).is_some_and(|number| number != column.to_string()) {
             faults.push((place, format!("in a question {name} is the column of that number; give it another name")));

@@ -10,34 +10,35 @@ use crate::catalogue::Column;
 use crate::failure::Failure;
 use crate::folder::{Folder, catalogue_file};
 use crate::sheet::Noticed;
-use crate::show::{counted, shown};
+use crate::show::{counted, shown, shown_path};
 
 /// Imports a CSV file into a folder. Everything that does not fit is told on standard error, and then nothing is written.
 pub fn import(file: &Path, folder: &Path, separator: u8, out: &mut dyn Write) -> Result<(), Failure> {
     let bytes = fs::read(file).map_err(|error| match error.kind() {
-        io::ErrorKind::NotFound => Failure::Desk(format!("there is no {}: name the CSV file", file.display())),
-        io::ErrorKind::IsADirectory => Failure::Desk(format!("{} is a folder: name the CSV file", file.display())),
+        io::ErrorKind::NotFound => Failure::Desk(format!("there is no {}: name the CSV file", shown_path(file))),
+        io::ErrorKind::IsADirectory => Failure::Desk(format!("{} is a folder: name the CSV file", shown_path(file))),
         _ => Failure::file("read", file, &error),
     })?;
     let mut noticed = Noticed::default();
     let imported = noticed.folder(&bytes, separator);
-    noticed.faults.sort_by_key(|fault| (fault.line, fault.cell.as_ref().map(|cell| cell.place)));
     let Some(imported) = imported else { return Err(faulty(&noticed, file)) };
     check_catalogue(&imported.bytes)?;
     imported.save(folder)?;
     report(&noticed, &imported, folder, out)
 }
 
-/// Tells every fault of a file, and what else was noticed; gives the failure, with their number.
+/// Tells what was noticed and the faults of a file; gives the failure, with their number.
 fn faulty(noticed: &Noticed, file: &Path) -> Failure {
+    let file = shown_path(file);
     let mut err = BufWriter::new(io::stderr().lock());
-    let faults = noticed.faults.iter().map(|fault| format!("{}, {fault}", file.display()));
-    for line in faults.chain(noticed.remarks.iter().cloned()) {
+    // What was noticed in the file as a whole, another separator above all, may be the cause of the faults.
+    let remarks = noticed.remarks.iter().map(|remark| format!("{file}: {remark}"));
+    for line in remarks.chain(noticed.faults.lines(&file)) {
         // Where nobody hears it the status still tells.
         let _ = writeln!(err, "{line}");
     }
-    let faults = counted(noticed.faults.len(), "fault", "faults");
-    Failure::Desk(format!("{faults} in {}: nothing was written", file.display()))
+    let faults = counted(noticed.faults.count(), "fault", "faults");
+    Failure::Desk(format!("{faults} in {file}: nothing was written"))
 }
 
 /// Tells what was imported.
@@ -49,7 +50,7 @@ fn report(noticed: &Noticed, imported: &Folder, folder: &Path, out: &mut dyn Wri
     };
     let entries = counted(catalogue.entries, "entry", "entries");
     let columns = counted(catalogue.columns.len(), "column", "columns");
-    writeln!(out, "{entries}{withdrawn} in {columns}: {}", catalogue_file(folder).display())?;
+    writeln!(out, "{entries}{withdrawn} in {columns}: {}", shown_path(&catalogue_file(folder)))?;
     let names: Vec<String> = imported.names().into_iter().map(shown).collect();
     let wide = names.iter().map(|name| name.chars().count()).max().unwrap_or(0);
     for (number, column) in catalogue.columns.iter().enumerate() {

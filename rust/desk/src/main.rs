@@ -10,6 +10,8 @@ mod draw;
 mod explain;
 mod export;
 mod failure;
+mod fault;
+mod faults;
 mod folder;
 mod found;
 mod heading;
@@ -23,6 +25,7 @@ mod sheet;
 mod show;
 mod table;
 mod typed;
+mod usage;
 mod words;
 
 use std::io::{self, BufWriter, Write};
@@ -35,7 +38,7 @@ use crate::show::Paint;
 use crate::words::{Desk, Word};
 
 fn main() -> ExitCode {
-    let desk = Desk::parse();
+    let desk = Desk::try_parse().unwrap_or_else(|error| usage::end(error));
     match carry_out(&desk.word) {
         Ok(()) | Err(Failure::Closed) => ExitCode::SUCCESS,
         Err(failure) => {

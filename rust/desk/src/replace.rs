@@ -8,6 +8,7 @@ use std::thread;
 use std::time::{Duration, Instant};
 
 use crate::failure::Failure;
+use crate::show::shown_path;
 
 /// How long to wait for another run that is replacing the same file.
 const PATIENCE: Duration = Duration::from_secs(5);
@@ -33,14 +34,14 @@ impl Target {
         }
         let folder = folder_of(&file);
         let folder = fs::canonicalize(folder).map_err(|error| match error.kind() {
-            io::ErrorKind::NotFound => Failure::Desk(format!("there is no folder {}: make it", folder.display())),
+            io::ErrorKind::NotFound => Failure::Desk(format!("there is no folder {}: make it", shown_path(folder))),
             _ => Failure::file("find", folder, &error),
         })?;
         let file = file.file_name().map_or(folder.clone(), |name| folder.join(name));
         let found = if_there(fs::metadata(path)).map_err(|error| Failure::file("write", path, &error))?;
         let is_named_a_folder = path.as_os_str().as_encoded_bytes().ends_with(b"/");
         if found.is_some_and(|found| !found.is_file()) || is_named_a_folder {
-            return Err(Failure::Desk(format!("{} is not a file: name one, or one to be made", path.display())));
+            return Err(Failure::Desk(format!("{} is not a file: name one, or one to be made", shown_path(path))));
         }
         Ok(Target { named: path.to_path_buf(), file })
     }
@@ -175,7 +176,7 @@ pub fn patiently<T>(mut attempt: impl FnMut(&mut Instant) -> Result<Option<T>, F
 
 /// Another run's file stands beside the one that is to be replaced.
 pub fn left_over(beside: &Path) -> Failure {
-    let beside = beside.display();
+    let beside = shown_path(beside);
     Failure::Desk(format!(
         "{beside} is already there: another run is writing it, or one was cut off; if none is running, remove it"
     ))

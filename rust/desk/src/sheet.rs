@@ -4,16 +4,18 @@ use std::str;
 
 use searchroom::{MAX_COLUMNS, MAX_ENTRIES, MAX_TEXT};
 
-use crate::catalogue::{Catalogue, Column, MAX_NUMBER, number_of};
+use crate::catalogue::{Catalogue, Column, number_of};
+use crate::fault::{Cell, Fault, What, a_number};
+use crate::faults::Faults;
 use crate::folder::Folder;
 use crate::heading::{Heading, Holds, marks, name_faults, name_of, says_withdrawn};
-use crate::show::{counted, grouped, quoted};
-use crate::table::{Cell, Fault, Line, read_lines};
+use crate::show::{counted, quoted};
+use crate::table::{Line, likely_separator, read_lines};
 
 /// What was noticed in a CSV file.
 #[derive(Default)]
 pub struct Noticed {
-    pub faults: Vec<Fault>,
+    pub faults: Faults,
     /// Of the catalogue's columns by number: what may surprise in it.
     pub notes: Vec<Option<String>>,
     /// What may surprise in the file as a whole.
@@ -30,21 +32,20 @@ struct Values<'a> {
 impl Noticed {
     /// The folder that the file's bytes make; none if there are faults.
     pub fn folder(&mut self, bytes: &[u8], separator: u8) -> Option<Folder> {
-        let (lines, faults) = read_lines(bytes, separator);
-        self.faults.extend(faults);
+        let lines = read_lines(bytes, separator, &mut self.faults);
         let Some((first, rest)) = lines.split_first() else {
-            self.fault(1, None, "the file has no line; the first one names the columns".to_owned());
+            self.fault(1, None, What::NoLine);
             return None;
         };
         let cells = self.first_line(first);
         let whole: Vec<&Line> = rest.iter().filter(|line| self.is_whole(line, cells.len())).collect();
         if let Some(line) = rest.get(MAX_ENTRIES) {
-            let entries = rest.len();
-            let most = grouped(MAX_ENTRIES);
-            let what = format!("{} entries; at most {most} fit, so split the file before this line", grouped(entries));
-            self.fault(line.number, None, what);
+            self.fault(line.number, None, What::Entries(rest.len()));
         }
-        self.remark_separator(first, rest, separator);
+        if let Some((option, values)) = likely_separator(bytes, first.cells.len()) {
+            let likely = format!("the first line has {values} values if separated by {option}");
+            self.remarks.push(format!("{likely}: try --separator {option}"));
+        }
         self.remark(&cells, &whole);
         let (mut headings, mut columns, mut mark) = (Vec::new(), Vec::new(), None);
         for (place, cell) in cells.into_iter().enumerate() {
@@ -62,20 +63,7 @@ impl Noticed {
             headings.push(Heading { cell, holds });
         }
         let catalogue = Catalogue { entries: whole.len(), columns, mark };
-        self.faults.is_empty().then(|| Folder { bytes: catalogue.bytes(), catalogue, headings })
-    }
-
-    /// A remark on another sign that may separate the values: the first line is one cell and has the sign; every other line is
-    /// such a cell too, or some line has more than one.
-    fn remark_separator(&mut self, first: &Line, rest: &[Line], separator: u8) {
-        let has = |line: &Line, sign: u8| line.cells.len() == 1 && line.cells[0].contains(&sign);
-        let is_likely = |sign: u8| {
-            let others = rest.iter().all(|line| has(line, sign)) || rest.iter().any(|line| line.cells.len() > 1);
-            sign != separator && has(first, sign) && others
-        };
-        if let Some((_, option)) = SEPARATORS.into_iter().find(|(sign, _)| is_likely(*sign)) {
-            self.remarks.push(format!("one column only: if {option} separates the values, say --separator {option}"));
-        }
+        (self.faults.count() == 0).then(|| Folder { bytes: catalogue.bytes(), catalogue, headings })
     }
 
     /// Remarks on a first line that looks like an entry, and on entries that look like none.
@@ -90,18 +78,18 @@ impl Noticed {
         }
     }
 
-    fn fault(&mut self, line: usize, cell: Option<Cell>, what: String) {
-        self.faults.push(Fault { line, cell, what });
+    fn fault(&mut self, line: usize, cell: Option<Cell>, what: What) {
+        self.faults.add(Fault { line, cell, what });
     }
 
     /// A fault of a column's value.
-    fn unfit(&mut self, column: &Values, line: usize, value: &str, what: String) {
+    fn unfit(&mut self, column: &Values, line: usize, value: &str, what: What) {
         let cell = Cell { place: column.place, name: column.name.to_owned(), value: value.to_owned() };
         self.fault(line, Some(cell), what);
     }
 
     /// A fault of a cell of the first line.
-    fn unfit_name(&mut self, first: &Line, place: usize, what: String) {
+    fn unfit_name(&mut self, first: &Line, place: usize, what: What) {
         let value = String::from_utf8_lossy(&first.cells[place]).into_owned();
         self.fault(first.number, Some(Cell { place, name: String::new(), value }), what);
     }
@@ -112,39 +100,28 @@ impl Noticed {
         let faulty: Vec<usize> =
             (0..cells.len()).filter(|&place| str::from_utf8(&first.cells[place]).is_err()).collect();
         for &place in &faulty {
-            self.unfit_name(first, place, NOT_UTF_8.to_owned());
+            self.unfit_name(first, place, What::Name(What::NotUtf8.to_string()));
         }
-        for (place, what) in name_faults(&cells).into_iter().filter(|(place, _)| !faulty.contains(place)) {
-            self.unfit_name(first, place, what);
+        for (place, why) in name_faults(&cells).into_iter().filter(|(place, _)| !faulty.contains(place)) {
+            self.unfit_name(first, place, What::Name(why));
         }
         let columns: Vec<usize> = (0..cells.len()).filter(|&place| !marks(&cells[place])).collect();
         for &place in columns.iter().skip(MAX_COLUMNS) {
-            let what = format!("a column too many; a catalogue has at most {MAX_COLUMNS} beside the mark");
-            self.unfit_name(first, place, what);
+            self.unfit_name(first, place, What::Column);
         }
         if columns.is_empty() {
-            self.unfit_name(
-                first,
-                0,
-                "no column beside the mark; add one, for a catalogue has at least one".to_owned(),
-            );
+            self.unfit_name(first, 0, What::NoColumn);
         }
         cells
     }
 
     /// Has a line a value for each column?
     fn is_whole(&mut self, line: &Line, columns: usize) -> bool {
-        let count = line.cells.len();
-        if count != columns {
-            let values = counted(count, "value", "values");
-            let advice = if count > columns {
-                "a value that holds the separator stands in quotes"
-            } else {
-                "an empty value keeps its separator"
-            };
-            self.fault(line.number, None, format!("{values}; the first line has {columns}; {advice}"));
+        let values = line.cells.len();
+        if values != columns {
+            self.fault(line.number, None, What::Values(values, columns));
         }
-        count == columns
+        values == columns
     }
 
     /// The values of a column.
@@ -154,7 +131,7 @@ impl Noticed {
             let bytes = &line.cells[place];
             match str::from_utf8(bytes) {
                 Ok(value) => column.values.push((line.number, value)),
-                Err(_) => self.unfit(&column, line.number, &String::from_utf8_lossy(bytes), NOT_UTF_8.to_owned()),
+                Err(_) => self.unfit(&column, line.number, &String::from_utf8_lossy(bytes), What::NotUtf8),
             }
         }
         column
@@ -190,7 +167,7 @@ impl Noticed {
     fn number(&mut self, column: &Values, line: usize, value: &str) -> Option<u32> {
         let number = number_of(value);
         if number.is_none() {
-            self.unfit(column, line, value, format!("not a number; write {}", a_number()));
+            self.unfit(column, line, value, no_number(value));
         }
         number
     }
@@ -199,13 +176,11 @@ impl Noticed {
     fn text(&mut self, column: &Values, line: usize, value: &str) -> Option<Vec<u8>> {
         let letters = value.chars().count();
         if letters > MAX_TEXT {
-            self.unfit(column, line, value, format!("{letters} letters; a text has at most {MAX_TEXT}, so shorten it"));
+            self.unfit(column, line, value, What::Long(letters));
         }
-        let outside = value.chars().filter(|&letter| u8::try_from(letter).is_err());
-        let outside: Vec<String> = outside.map(|letter| format!("{letter} (U+{:04X})", u32::from(letter))).collect();
+        let outside: Vec<char> = value.chars().filter(|&letter| u8::try_from(letter).is_err()).collect();
         if !outside.is_empty() {
-            let what = format!("not in ISO 8859-1: {}; use other letters", outside.join(", "));
-            self.unfit(column, line, value, what);
+            self.unfit(column, line, value, What::Outside(outside));
         }
         value.chars().map(|letter| u8::try_from(letter).ok()).collect()
     }
@@ -217,19 +192,12 @@ impl Noticed {
         let mut mark = Vec::new();
         for &(line, value) in &column.values {
             let Some(withdrawn) = says_withdrawn(value) else {
-                let what =
-                    "neither yes nor no; write yes, true, 1 or x if it is withdrawn, else no, false, 0 or nothing";
-                self.unfit(column, line, value, what.to_owned());
+                self.unfit(column, line, value, What::NoWord);
                 continue;
             };
             let (first, word) = *words[usize::from(withdrawn)].get_or_insert((line, value));
             if word != value {
-                self.unfit(
-                    column,
-                    line,
-                    value,
-                    format!("line {first} says {} for the same; use one word", quoted(word)),
-                );
+                self.unfit(column, line, value, What::OtherWord(first, word.to_owned()));
             }
             mark.push(withdrawn);
         }
@@ -239,15 +207,16 @@ impl Noticed {
     }
 }
 
-/// How a number is written.
-fn a_number() -> String {
-    format!("digits alone, no leading zero, at most {}", grouped(MAX_NUMBER as usize))
+/// Why a value is no number.
+fn no_number(value: &str) -> What {
+    if !value.bytes().all(|byte| byte.is_ascii_digit()) {
+        What::NotDigits
+    } else if value.starts_with('0') {
+        What::LeadingZero
+    } else {
+        What::TooLarge
+    }
 }
-
-const NOT_UTF_8: &str = "not UTF-8; save the file as \"CSV UTF-8\"";
-
-/// Signs that often separate values, and how they are named on the command line.
-const SEPARATORS: [(u8, &str); 4] = [(b',', "','"), (b';', "';'"), (b'\t', "tab"), (b'|', "'|'")];
 
 /// What may surprise in a column: a value that makes it one of texts though half of them are numbers, or one with spaces
 /// around it.

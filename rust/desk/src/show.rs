@@ -2,6 +2,8 @@
 
 use std::env;
 use std::io::IsTerminal;
+use std::path::Path;
+use std::str::Utf8Chunk;
 
 /// Colours, or none.
 #[derive(Clone, Copy)]
@@ -68,9 +70,24 @@ pub fn quoted(text: &str) -> String {
     format!("\"{}\"", text.chars().map(letter).collect::<String>())
 }
 
-/// Control characters, the space that does not break and the hyphen that does not show. All have two digits.
-fn is_unseen(letter: char) -> bool {
-    letter.is_control() || matches!(letter, '\u{A0}' | '\u{AD}')
+/// A path as it may go to a terminal: in the same way, and of a byte that is no UTF-8 its number too.
+pub fn shown_path(path: &Path) -> String {
+    let part = |part: Utf8Chunk| {
+        let strange = part.invalid().iter().map(|&byte| by_number(char::from(byte)));
+        shown(part.valid()) + &strange.collect::<String>()
+    };
+    path.as_os_str().as_encoded_bytes().utf8_chunks().map(part).collect()
+}
+
+/// Control characters, the space that does not break, and letters of no width. Those that a catalogue can hold have two digits.
+pub fn is_unseen(letter: char) -> bool {
+    letter.is_control() || letter == '\u{A0}' || is_of_no_width(letter)
+}
+
+/// Letters of no width, the byte order mark and those that turn the direction of writing among them: two names that differ by
+/// one look the same.
+pub fn is_of_no_width(letter: char) -> bool {
+    matches!(letter, '\u{AD}' | '\u{200B}'..='\u{200F}' | '\u{202A}'..='\u{202E}' | '\u{2060}'..='\u{206F}' | '\u{FEFF}')
 }
 
 fn by_number(letter: char) -> String {

@@ -1,9 +1,9 @@
-//! A CSV file as lines of cells, and what does not fit in it.
+//! A CSV file as lines of cells.
 
-use std::fmt;
 use std::iter;
 
-use crate::show::{quoted, shown};
+use crate::fault::{Fault, What};
+use crate::faults::Faults;
 
 /// A line of a CSV file: its number in the file, counted from 1 as editors do, and its cells.
 pub struct Line {
@@ -11,83 +11,55 @@ pub struct Line {
     pub cells: Vec<Vec<u8>>,
 }
 
-/// Something in a CSV file that does not fit a catalogue.
-pub struct Fault {
-    pub line: usize,
-    pub cell: Option<Cell>,
-    pub what: String,
-}
-
-/// The cell of a fault.
-pub struct Cell {
-    /// Its place in the line, counted from 0.
-    pub place: usize,
-    /// The column's name; empty in the first line.
-    pub name: String,
-    pub value: String,
-}
-
-/// How many letters of a value a fault shows.
-const SHOWN: usize = 60;
-
-impl fmt::Display for Fault {
-    fn fmt(&self, f: &mut fmt::Formatter<'_>) -> fmt::Result {
-        write!(f, "line {}", self.line)?;
-        if let Some(Cell { place, name, value }) = &self.cell {
-            write!(f, ", column {}", place + 1)?;
-            if !name.is_empty() {
-                write!(f, " ({})", shown(name))?;
-            }
-            let cut: String = value.chars().take(SHOWN).collect();
-            let more = if cut.len() < value.len() { "…" } else { "" };
-            write!(f, ", {}", quoted(&format!("{cut}{more}")))?;
-        }
-        write!(f, ": {}", self.what)
-    }
-}
-
 /// Reads the lines of a CSV file. An empty line is a fault: the library that reads the file passes over it, and in a file of
 /// one column an entry would be lost.
-pub fn read_lines(bytes: &[u8], separator: u8) -> (Vec<Line>, Vec<Fault>) {
-    let mut reader =
-        csv::ReaderBuilder::new().has_headers(false).flexible(true).delimiter(separator).from_reader(bytes);
+pub fn read_lines(bytes: &[u8], separator: u8, faults: &mut Faults) -> Vec<Line> {
+    let mut reader = reader(bytes, separator);
     let mut place =
         Place { bytes, at: if bytes.starts_with(BYTE_ORDER_MARK) { BYTE_ORDER_MARK.len() } else { 0 }, line: 1 };
-    let (mut lines, mut faults, mut empty) = (Vec::new(), Vec::new(), Vec::new());
+    let mut lines: Vec<Line> = Vec::new();
     let mut record = csv::ByteRecord::new();
     loop {
         let more = reader.read_byte_record(&mut record).expect("memory can always be read");
+        // Without a line that names the columns there is nothing to say of empty ones.
+        let columns = lines.first().map_or(record.len(), |first| first.cells.len());
         while place.at_line_end() {
-            empty.push(place.line);
+            if columns > 0 {
+                faults.add(Fault { line: place.line, cell: None, what: What::Empty(columns) });
+            }
             place.pass_line_end();
         }
         if !more {
-            // Without a line that names the columns there is nothing else to say.
-            if let Some(first) = lines.first() {
-                faults.extend(empty.into_iter().map(|line| empty_line(line, first)));
-            }
-            return (lines, faults);
+            return lines;
         }
         let end = usize::try_from(reader.position().byte()).expect("a place in memory");
         if !is_told_as_it_stands(&bytes[place.at..end], &record, separator) {
-            faults.push(Fault { line: place.line, cell: None, what: BAD_QUOTES.to_owned() });
+            faults.add(Fault { line: place.line, cell: None, what: What::Quotes });
         }
         lines.push(Line { number: place.line, cells: record.iter().map(<[u8]>::to_vec).collect() });
         place.advance(end);
     }
 }
 
-/// The fault of an empty line. In a file of one column it may be meant for a blank.
-fn empty_line(line: usize, first: &Line) -> Fault {
-    let what = match first.cells.len() {
-        1 => "an empty line; write \"\" for a blank value, or remove it if it is no entry",
-        _ => "an empty line; remove it",
-    };
-    Fault { line, cell: None, what: what.to_owned() }
+fn reader(bytes: &[u8], separator: u8) -> csv::Reader<&[u8]> {
+    csv::ReaderBuilder::new().has_headers(false).flexible(true).delimiter(separator).from_reader(bytes)
 }
 
-const BAD_QUOTES: &str = "a quote is not closed, or letters follow a closing quote; a value in quotes begins and ends with one, \
-                          and a quote inside is doubled";
+/// Signs that often separate values, and how they are named on the command line.
+const SEPARATORS: [(u8, &str); 4] = [(b',', "','"), (b';', "';'"), (b'\t', "tab"), (b'|', "'|'")];
+
+/// Another sign that may separate the values, and how many the first line has then: more than these columns, and some other line
+/// has as many, if there is another.
+pub fn likely_separator(bytes: &[u8], columns: usize) -> Option<(&'static str, usize)> {
+    let values = |sign: u8| {
+        let records = reader(bytes, sign).into_byte_records();
+        let mut counts = records.map(|record| record.expect("memory can always be read").len()).peekable();
+        let values = counts.next().filter(|&values| values > columns)?;
+        (counts.peek().is_none() || counts.any(|count| count == values)).then_some(values)
+    };
+    let likely = SEPARATORS.into_iter().filter_map(|(sign, option)| values(sign).map(|values| (option, values)));
+    likely.max_by_key(|&(_, values)| values)
+}
 
 /// Do the cells stand in the line as they are, or in quotes? The library lets other quotes pass, and would change the value or
 /// take further lines into it.

@@ -12,6 +12,7 @@ use clap::{Args, Parser, Subcommand};
 #[derive(Parser)]
 #[command(
     name = "searchroom",
+    bin_name = "searchroom",
     version,
     subcommand_value_name = "WORD",
     subcommand_help_heading = "Words",

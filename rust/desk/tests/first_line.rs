@@ -183,7 +183,7 @@ fn names_in_messages() {
 /// Another sign may separate the values: told, whether the file is taken for one column or has faults.
 #[test]
 fn separator_is_forgotten() {
-    let hint = |option| format!("one column only: if {option} separates the values, say --separator {option}\n");
+    let hint = |option| format!("the first line has 2 values if separated by {option}: try --separator {option}\n");
     for (table, option) in
         [("year;parish\n1701;Ash\n", "';'"), ("year\tparish\n1701\tAsh\n", "tab"), ("a|b\n", "'|'"), ("a;b\n", "';'")]
     {
@@ -195,11 +195,38 @@ fn separator_is_forgotten() {
     for table in ["name;depositor\nAsh;\"Lowther, Sir James\"\n", "name;depositor\nAsh;Ashburnham of Ashburnham\n"] {
         room.set("deeds.csv", table);
         let said = room.run(&["import", "deeds.csv", "deeds"]).failed(1);
-        assert!(said.contains(&hint("';'")), "{said}");
+        assert!(said.starts_with(&format!("deeds.csv: {}", hint("';'"))), "{said}");
     }
-    for table in ["a;b\n1\n2\n", "year,parish\n1701,a;b\n", "\"a;b\",c\n1;2,3\n"] {
+    for table in ["a;b\n1\n2\n", "year,parish\n1701,a;b\n", "\"a;b\",c\n1;2,3\n", "\"a;b\"\n\"1;2\"\n"] {
         assert!(!import(table).1.contains("--separator"), "{table}");
     }
+}
+
+/// Whatever faults follow, the separator that parts the first line into more columns is named before them.
+#[test]
+fn separator_is_named_first() {
+    let titles = "Ashby-de-la-Zouch Saint Helen;1701;a, b\n".repeat(30);
+    for (table, option, values) in [
+        (format!("title;year;note\n{titles}"), "';'", 3),
+        (format!("\u{FEFF}title, short;year;note\n{titles}"), "';'", 3),
+        (format!("title;year;note\nAshby;1701\n{titles}").replace(';', "\t"), "tab", 3),
+        (format!("title;\"a;b\";note\n{titles}").replace(';', "|"), "'|'", 3),
+        ("a;b|c|d,\n1;2|3|4\n".to_owned(), "'|'", 3),
+    ] {
+        let room = Room::new();
+        room.set("bonds.csv", &table);
+        let said = room.run(&["import", "bonds.csv", "bonds"]).failed(1);
+        let first = format!(
+            "bonds.csv: the first line has {values} values if separated by {option}: try --separator {option}\n"
+        );
+        assert!(said.starts_with(&first), "{table}: {said}");
+    }
+    let room = Room::new();
+    room.set("bonds.csv", "title,year\nAshby-de-la-Zouch Saint Helen,1701\n");
+    let said = room.run(&["import", "--separator", ";", "bonds.csv", "bonds"]).failed(1);
+    assert!(said.starts_with("bonds.csv: the first line has 2 values if separated by ',': "), "{said}");
+    let said = room.run(&["import", "bonds.csv", "bonds"]).failed(1);
+    assert!(!said.contains("--separator"), "{said}");
 }
 
 /// One column whose name and values hold a comma, in quotes, is just that.

@@ -141,16 +141,6 @@ fn all_faults_are_told() {
     assert!(why[7].contains("\"no\""), "the first spelling is named: {}", why[7]);
 }
 
-/// A thousand faults are a thousand lines.
-#[test]
-fn many_faults_are_told_too() {
-    let table = "a:number\n".to_owned() + &"x\n".repeat(1_000);
-    let expected: Vec<String> =
-        (2..1_002).map(|line| format!(r#"deeds.csv, line {line}, column 1 (a), "x""#)).collect();
-    let expected: Vec<&str> = expected.iter().map(String::as_str).collect();
-    expect_faults(table, &expected);
-}
-
 #[test]
 fn faults_leave_an_earlier_import_as_it_is() {
     let (room, _, _) = import("year,withdrawn\n1701,x\n");

@@ -43,12 +43,15 @@ pub fn faults(csv: impl AsRef<[u8]>) -> Vec<String> {
     told
 }
 
-/// The faults in what was said, which ends with their number. Remarks on the file as a whole may stand between.
+/// The faults told one by one in what was said, which ends with their number. Remarks on the file as a whole and a summary may
+/// stand before them, and behind them how many more there are.
 pub fn told(room: &Room, said: &str) -> Vec<String> {
     let mut lines: Vec<String> = said.lines().map(str::to_owned).collect();
     let last = lines.pop().expect("a last line");
+    let more = lines.last().and_then(|line| line.strip_prefix("and ")?.strip_suffix(" more"));
+    let more: usize = more.map_or(0, |more| more.parse().expect("a number"));
     lines.retain(|line| line.starts_with("deeds.csv, line "));
-    let number = if lines.len() == 1 { "1 fault".to_owned() } else { format!("{} faults", lines.len()) };
+    let number = if lines.len() + more == 1 { "1 fault".to_owned() } else { format!("{} faults", lines.len() + more) };
     assert_eq!(last, format!("searchroom: {number} in deeds.csv: nothing was written"), "{said}");
     assert!(!room.path("deeds/catalogue.bin.new").exists());
     lines
