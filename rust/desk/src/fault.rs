@@ -119,8 +119,8 @@ impl What {
         matches!(self, What::Name(_) | What::Column)
     }
 
-    /// What is wrong in many places, the first of them in this line and column, and what to do. Of texts that are too long the
-    /// longest has so many letters.
+    /// What is wrong in many places, the first of them in this line and column, and what to do. Of texts that are too
+    /// long the longest has so many letters.
     pub fn many(&self, count: usize, line: usize, column: &str, longest: usize) -> String {
         let first = format!("first in line {line}");
         let (what, advice) = match self {

@@ -1,5 +1,5 @@
-//! The faults of a CSV file, counted and told. However many there are, only the first of them are kept, and the first of each
-//! kind.
+//! The faults of a CSV file, counted and told. However many there are, only the first of them are kept, and the first
+//! of each kind.
 
 use std::mem::{Discriminant, discriminant};
 
@@ -58,7 +58,8 @@ impl Faults {
         }
     }
 
-    /// The faults in lines: where there are more than a few first a summary, then the first of them, then how many are left.
+    /// The faults in lines: where there are more than a few first a summary, then the first of them, then how many are
+    /// left.
     pub fn lines(&self, file: &str) -> Vec<String> {
         let one = |fault: &Fault| format!("{file}, {fault}");
         let mut kinds: Vec<&Kind> = self.kinds.iter().filter(|_| self.count > FEW).collect();

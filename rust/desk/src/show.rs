@@ -79,13 +79,13 @@ pub fn shown_path(path: &Path) -> String {
     path.as_os_str().as_encoded_bytes().utf8_chunks().map(part).collect()
 }
 
-/// Control characters, the space that does not break, and letters of no width. Those that a catalogue can hold have two digits.
+/// Control characters, the space that does not break, and letters of no width. Those in a catalogue have two digits.
 pub fn is_unseen(letter: char) -> bool {
     letter.is_control() || letter == '\u{A0}' || is_of_no_width(letter)
 }
 
-/// Letters of no width, the byte order mark and those that turn the direction of writing among them: two names that differ by
-/// one look the same.
+/// Letters of no width, the byte order mark and those that turn the direction of writing among them: two names that
+/// differ by one look the same.
 pub fn is_of_no_width(letter: char) -> bool {
     matches!(letter, '\u{AD}' | '\u{200B}'..='\u{200F}' | '\u{202A}'..='\u{202E}' | '\u{2060}'..='\u{206F}' | '\u{FEFF}')
 }

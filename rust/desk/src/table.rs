@@ -48,8 +48,8 @@ fn reader(bytes: &[u8], separator: u8) -> csv::Reader<&[u8]> {
 /// Signs that often separate values, and how they are named on the command line.
 const SEPARATORS: [(u8, &str); 4] = [(b',', "','"), (b';', "';'"), (b'\t', "tab"), (b'|', "'|'")];
 
-/// Another sign that may separate the values, and how many the first line has then: more than these columns, and some other line
-/// has as many, if there is another.
+/// Another sign that may separate the values, and how many the first line has then: more than these columns, and some
+/// other line has as many, if there is another.
 pub fn likely_separator(bytes: &[u8], columns: usize) -> Option<(&'static str, usize)> {
     let values = |sign: u8| {
         let records = reader(bytes, sign).into_byte_records();

@@ -5,8 +5,8 @@ use clap::error::{ContextValue, Error};
 
 use crate::show::{is_unseen, shown};
 
-/// Ends the program with what clap has to say: help, the release, or why it does not take the words. It repeats words as they
-/// were typed, so these are shown as values are.
+/// Ends the program with what clap has to say: help, the release, or why it does not take the words. It repeats words
+/// as they were typed, so these are shown as values are.
 pub fn end(mut error: Error) -> ! {
     let said: Vec<_> = error.context().map(|(kind, value)| (kind, value.clone())).collect();
     for (kind, value) in said {

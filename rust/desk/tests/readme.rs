@@ -107,6 +107,14 @@ fn page_of_the_desk() {
     );
     assert_eq!(room.run(&["import", "bonds.csv", "bonds"]).failed(1), *block("bonds.csv, "));
 
+    let parish = |letters: usize| format!("1701,{}\n", "a".repeat(letters));
+    room.set("bonds.csv", format!("year,parish\n{}{}\n\n", parish(24).repeat(56), parish(88)));
+    let said = room.run(&["import", "bonds.csv", "bonds"]).failed(1);
+    assert!(said.starts_with(block("bonds.csv: 2 empty")), "{said}");
+    room.set("bonds.csv", "year;parish;deed\n1701;Ashby-de-la-Zouch;lease\n");
+    let said = room.run(&["import", "bonds.csv", "bonds"]).failed(1);
+    assert!(said.starts_with(block("bonds.csv: the first line")), "{said}");
+
     room.set("parish.csv", "year,parish\n1701,Ash\n1822,ASHBY\n,\n");
     room.run(&["import", "parish.csv", "parish"]).done();
     let refused = block("searchroom: refused 21");

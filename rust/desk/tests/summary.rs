@@ -1,4 +1,4 @@
-//! `searchroom import` of a file with many faults: what they have in common stands first, a line for each column and kind.
+//! `searchroom import` of a file with many faults: what they have in common stands first, a line for a column and kind.
 
 mod desk {
     pub mod room;

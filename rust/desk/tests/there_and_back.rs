@@ -271,3 +271,16 @@ fn mark_that_is_added_later() {
     let said = room.run(&["ask", "deeds", "not year blank"]).done();
     assert!(said.starts_with("1 of 2 entries found (1 is withdrawn)\n"), "{said}");
 }
+
+/// What a spreadsheet takes for a formula is a value as any other, and given as it is; the page says so.
+#[test]
+fn formulas_are_values() {
+    let room = Room::new();
+    let table = "deed\n=1+1\n@sum\n\"=\"\"a\"\"&\"\"b\"\"\"\n";
+    room.set("deeds.csv", table);
+    room.run(&["import", "deeds.csv", "deeds"]).done();
+    assert_eq!(room.run(&["export", "deeds"]).done(), table);
+    assert!(room.run(&["ask", "deeds", "deed starts \"=\""]).done().starts_with("2 of 3 entries found\n"));
+    let page = fs::read_to_string(concat!(env!("CARGO_MANIFEST_DIR"), "/../../docs/DESK.md")).expect("the page");
+    assert!(page.contains("one that begins with `=` is a formula to a spreadsheet"));
+}

@@ -43,8 +43,8 @@ pub fn faults(csv: impl AsRef<[u8]>) -> Vec<String> {
     told
 }
 
-/// The faults told one by one in what was said, which ends with their number. Remarks on the file as a whole and a summary may
-/// stand before them, and behind them how many more there are.
+/// The faults told one by one in what was said, which ends with their number. Remarks on the file as a whole and
+/// a summary may stand before them, and behind them how many more there are.
 pub fn told(room: &Room, said: &str) -> Vec<String> {
     let mut lines: Vec<String> = said.lines().map(str::to_owned).collect();
     let last = lines.pop().expect("a last line");
