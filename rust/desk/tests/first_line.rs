@@ -150,7 +150,7 @@ fn sixteen_columns_beside_the_mark_and_one_more() {
 fn no_column_at_all() {
     assert_eq!(faults("withdrawn\nno\n").len(), 1);
     assert_eq!(faults("withdrawn\n").len(), 1);
-    for nothing in ["", "\u{FEFF}"] {
+    for nothing in ["", "\u{FEFF}", "\n\n\n"] {
         let lines = faults(nothing);
         assert!(lines.len() == 1 && lines[0].starts_with("deeds.csv"), "{nothing:?}: {lines:?}");
     }
@@ -211,7 +211,7 @@ fn separator_is_named_first() {
         (format!("\u{FEFF}title, short;year;note\n{titles}"), "';'", 3),
         (format!("title;year;note\nAshby;1701\n{titles}").replace(';', "\t"), "tab", 3),
         (format!("title;\"a;b\";note\n{titles}").replace(';', "|"), "'|'", 3),
-        ("a;b|c|d,\n1;2|3|4\n".to_owned(), "'|'", 3),
+        ("a;b|c|d\n1;2|3|Ashby-de-la-Zouch Saint Helen\n".to_owned(), "'|'", 3),
     ] {
         let room = Room::new();
         room.set("bonds.csv", &table);

@@ -226,6 +226,15 @@ fn letters_outside_iso_8859_1() {
     }
 }
 
+/// A value may be wrong in two ways.
+#[test]
+fn long_text_with_letters_outside_iso_8859_1() {
+    let value = format!("Ł{}", "a".repeat(23));
+    let place = format!("deeds.csv, line 2, column 1 (parish), {value:?}");
+    let why = expect_faults(format!("parish\n{value}\n"), &[&place, &place]);
+    assert!(why[0].starts_with("24 letters; ") && why[1].starts_with("not in ISO 8859-1: Ł (U+0141); "), "{why:?}");
+}
+
 #[test]
 fn not_utf_8() {
     for value in [&b"Andr\xE9"[..], b"\xC3", b"\xFF\xFE", b"\xED\xA0\x80"] {

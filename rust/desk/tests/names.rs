@@ -44,6 +44,8 @@ fn expect_shown(words: &[&str], name: &[u8], shown: &str) {
     fs::create_dir(at(b"")).expect("a new folder");
     fs::copy(room.path("parish/catalogue.bin"), at(b"/catalogue.bin")).expect("a copy");
     fs::write(at(b"/columns.csv"), "header,values\nyear,text\n").expect("columns that do not fit");
+    fs::create_dir(at(b".good")).expect("a new folder");
+    fs::copy(room.path("parish/catalogue.bin"), at(b".good/catalogue.bin")).expect("a copy");
     fs::create_dir(at(b".bad")).expect("a new folder");
     fs::write(at(b".bad/catalogue.bin"), "none").expect("a catalogue that is none");
     fs::write(at(b".csv"), "year:number\nx\n").expect("a faulty file");
@@ -74,7 +76,7 @@ const WORDS: [&[&str]; 22] = [
     &["ask", "parish", QUESTION, "--tally", "missing/NAME/tally.bin"],
     &["ask", "parish", QUESTION, "--tally", "NAME"],
     &["ask", "parish", QUESTION, "--copy", "NAME.new"],
-    &["ask", "NAME", QUESTION, "--copy", "NAME/catalogue.bin"],
+    &["ask", "NAME.good", "c0 blank", "--copy", "NAME.good/catalogue.bin"],
     &["explain", "NAME.bad", QUESTION, "0"],
     &["draw", "parish", QUESTION, "-o", "NAME.svg"],
     &["draw", "parish", QUESTION, "-o", "parish.csv/NAME"],
