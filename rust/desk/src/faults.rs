@@ -36,7 +36,7 @@ impl Faults {
         self.count
     }
 
-    /// Of one kind and column the first line comes first.
+    /// Adds a fault. Those of one kind in one column come as their lines do.
     pub fn add(&mut self, fault: Fault) {
         self.count += 1;
         self.sum_up(&fault);
