@@ -8,7 +8,7 @@ registry := /usr/share/cargo/registry
 define need_rt
 @command -v rt >/dev/null || { \
   echo "there is no command rt: it is the Rattle kit, which proves and compiles the engine."; \
-  echo "Put the kit's rt into PATH; README.md, \"Two commands\", names the kit and what else is needed."; \
+  echo "Put the kit's rt into PATH: docs/ASSUMPTIONS.md names the kit, README.md, \"Two commands\", what else is needed."; \
   exit 1; } >&2
 endef
 

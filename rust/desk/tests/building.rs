@@ -48,12 +48,15 @@ fn without_the_kit_every_target_says_what_it_is() {
     for target in ["parish", "library", "desk", "test", "install", "install-desk"] {
         let said = make(&room, &[target]).failed(2);
         assert!(said.starts_with("there is no command rt: it is the Rattle kit, "), "{target}: {said}");
-        assert!(said.contains("README.md, \"Two commands\""), "{target}: {said}");
+        assert!(
+            said.contains("docs/ASSUMPTIONS.md") && said.contains("README.md, \"Two commands\""),
+            "{target}: {said}"
+        );
     }
-    let page = fs::read_to_string(Path::new(ROOT).join("README.md")).expect("the page");
-    let (_, commands) = page.split_once("\n## Two commands\n").expect("the part that is named");
-    let (commands, _) = commands.split_once("\n## ").expect("its end");
-    assert!(commands.contains("`rt version`") && commands.contains("`rattle-kit-"), "{commands}");
+    for (page, named) in [("docs/ASSUMPTIONS.md", "`rattle-kit-"), ("README.md", "\n## Two commands\n")] {
+        let text = fs::read_to_string(Path::new(ROOT).join(page)).expect("the page");
+        assert!(text.contains(named), "{page}");
+    }
 }
 
 #[test]
