@@ -6,6 +6,7 @@ use mathlib.Core.List.{List}
 use lib.ListN.{length, take, drop, length-append, length-take, length-drop}
 use lib.Seq.{length-take-le}
 use Rattle.io.specs.Counts.{Counts}
+use Rattle.fields.specs.Numbers.{Bytes}
 use Rattle.register.specs.Register.{refused, Printed}
 use Rattle.consultation.specs.Consultation.{unreadable, consultationOf}
 use Rattle.consult.specs.File.{catalogueLimit, questionLimit, orderLimit}
@@ -27,10 +28,10 @@ front-counts : (text out new : List ℕ) (r : ℕ) → Printed text out r new �
 front-counts text out new r h = counts r new (omega (arith, ap length (h .0), length-append text (drop (length text) out)))
 
 module _ (out new : List ℕ) (r : ℕ) where
-  pub files-print : (catalogue question order : List ℕ) → Printed (consultationOf catalogue question order) out r new → length catalogue ≤ catalogueLimit
-      → length question ≤ questionLimit → length order ≤ orderLimit → Prints out r new × Counts r new
-  files-print catalogue question order h k l m =
-      (ofFiles catalogue question order k l m h, front-counts (consultationOf catalogue question order) out new r h)
+  pub files-print : (catalogue question order : List ℕ) → Printed (consultationOf catalogue question order) out r new × Bytes catalogue × Bytes question
+      → length catalogue ≤ catalogueLimit → length question ≤ questionLimit → length order ≤ orderLimit → Prints out r new × Counts r new
+  files-print catalogue question order (h, b, q) k l m =
+      (ofFiles catalogue question order b q k l m h, front-counts (consultationOf catalogue question order) out new r h)
 
   pub unreadable-prints : Printed (refused unreadable) out r new → Prints out r new × Counts r new
   unreadable-prints h = (ofUnreadable h, front-counts (refused unreadable) out new r h)

@@ -4,6 +4,7 @@ use bitmaps::copy::Line;
 use query::format::Predicate;
 ghost use Prim.Native.Nat.{_≤_};
 ghost use lib.ListN.{length};
+ghost use Rattle.fields.specs.Numbers.{Bytes};
 ghost use Rattle.query.specs.Format.{predicateLimit};
 ghost use Rattle.register.specs.Register.{refused, Printed};
 ghost use Rattle.consultation.specs.Consultation.{unreadable, consultationOf, longest};
@@ -15,10 +16,11 @@ impl Refusal {
     pub const UNREADABLE: u64 = 19;
 }
 
-// The register of three files, to the front of the output; its length.
+// The register of three files, to the front of the output; its length. What is lent is bytes: the caller's own contract says so of its files.
 pub fn write_consultation(catalogue: &[u8], question: &[u8], order: &[u8], out: &mut [u8]) -> usize
     requires { ⌜ (length (now order) ≤ predicateLimit) × (longest ≤ length (now out)) ⌝ }
-    ensures { λ r. ⌜ Printed (consultationOf (now (catalogue .entry)) (now (question .entry)) (now (order .entry))) (now (out .entry)) r (now (out .exit)) ⌝ }
+    ensures { λ r. ⌜ Printed (consultationOf (now (catalogue .entry)) (now (question .entry)) (now (order .entry)))
+        (now (out .entry)) r (now (out .exit)) × Bytes (now (catalogue .entry)) × Bytes (now (question .entry)) ⌝ }
 {
     let mut listed = [0u8; Line::SIZE];
     let mut looks = [0u8; Predicate::LIMIT * Line::SIZE];

@@ -43,8 +43,8 @@ use Rattle.strategy.specs.TreeLaws.{all-none, all-more, any-none, any-more}
 use Rattle.strategy.specs.Order.{isOrder}
 use Rattle.strategy.specs.Strategy.{Strategy, State, Right, finalState, predicates, probes}
 use Rattle.strategy.specs.Trace.{trace}
-use Rattle.strategy.specs.Ours.{passedAsNo, laterThan, ours}
-use Rattle.strategy.specs.DueLaws.{due-law}
+use Rattle.strategy.specs.Ours.{ours}
+use Rattle.strategy.specs.OursLaws.{ours-rule}
 use Rattle.strategy.specs.Optimality.{optimal, optimal-count}
 use Rattle.strategy.specs.QueryLaws.{query-ours, query-right}
 use Rattle.bitmaps.specs.Sums.{sumOf, countOf}
@@ -357,8 +357,7 @@ demand-3-ours b q i r order o a = (
 )
 
 pub demand-3-ours-rule : Demand3OursRule
-unfolding ours
-demand-3-ours-rule i order s = (λ c. due-law (treeValue i) c (laterThan c order) (passedAsNo s), refl)
+demand-3-ours-rule i order s = ours-rule (treeValue i) order s
 
 pub demand-3-count : Demand3Count
 demand-3-count b q i r order o =

@@ -2,7 +2,7 @@
 use Prim.Native.Nat.{ℕ}
 use mathlib.Core.Path.{_≡_, refl, sym, ap, _∙_, subst, fun-ext}
 use mathlib.Core.Bool.{Bool, true, false, cond}
-use mathlib.Core.Logic.{_⊎_, inl, inr}
+use mathlib.Core.Logic.{_↔_, _⊎_, inl, inr}
 use mathlib.Core.List.{List, [], _∷_, _++_, append-assoc, append-nil}
 use Rattle.bools.specs.Bools.{iff-eq, eqb-self, eqb-ne}
 use Rattle.strategy.specs.Assignment.{Assignment, allNo, update, Among, Once, AgreeOff, AgreeOn, keepIf}
@@ -166,3 +166,9 @@ ours-trace-fixing f order o a z = both-of f order a o (start-fixed f order a z) 
 
 pub ours-right-fixing : (f : Formula) (order : List ℕ) → Once order → RightFixing allNo f order (ours f order)
 ours-right-fixing f order o a z = both-of f order a o (start-fixed f order a z) .1
+
+-- what ours does, whatever it has seen
+pub ours-rule : (f : Formula) (order : List ℕ) (s : State)
+    → ((c : ℕ) → ((ours f order) .probe c s ≡ true) ↔ Due f c (laterThan c order) (passedAsNo s)) × ((ours f order) .answer s ≡ f (passedAsNo s))
+unfolding ours
+ours-rule f order s = (λ c. due-law f c (laterThan c order) (passedAsNo s), refl)

@@ -1,4 +1,5 @@
 -- `write_consultation` meets its contract: the run is the definition's, and so is the register of it.
+use native.Mathlib.Omega.{arith}
 use mathlib.Core.Path.{refl, sym}
 use Rattle.consultation.proofs.Consulting.{laid-few, as-long, has-room, consulted}
 use Rattle.catalogue.specs.Decode.{decodeCatalogue}
@@ -49,9 +50,13 @@ returns : tie.Need-returns
 returns c =
     let t = c .before .before .before .before .before .before in
     let o = t .before .before .before in
-    let a = o .before .before .before .before .before .before .before .before .before .before .before .before .args in
-    consulted (a .catalogue .now) (a .question .now) (a .order .now) _ _ (o .lay-out .ensures) refl _ _ _ _ _ _ _ (o .before .before .before .before .searchroom-run .ensures)
-    (t .before .before .number-in .ensures) (t .before .first-in .ensures) (t .third-in .ensures) (c .before .before .write-register .ensures)
+    let s = o .before .before .before .before .before .before .before .before .before in
+    let a = s .before .before .before .args in (
+      consulted (a .catalogue .now) (a .question .now) (a .order .now) _ _ (o .lay-out .ensures) refl _ _ _ _ _ _ _ (o .before .before .before .before .searchroom-run .ensures)
+          (t .before .before .number-in .ensures) (t .before .first-in .ensures) (t .third-in .ensures) (c .before .before .write-register .ensures),
+      λ i. omega (arith, s .before .before .shared-slice-known .given i),
+      λ i. omega (arith, s .before .shared-slice-known2 .given i),
+    )
 
 pub write-consultation-spec : {M : Type 1} → statement M
 write-consultation-spec =
