@@ -1,4 +1,4 @@
--- A table that holds bits at the rows that there are has no one behind them.
+-- A table that holds bits at the rows that there are has zeros behind them.
 use Prim.Native.Nat.{ℕ, _*_, _≤_, _<_}
 use native.Mathlib.Omega.{arith}
 use mathlib.Core.Path.{_≡_, sym, ap, _∙_}

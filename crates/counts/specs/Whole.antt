@@ -1,4 +1,4 @@
--- Lines with no one behind their first bytes, up to the end of a word.
+-- Lines whose bits behind their first bytes are zeros, up to the end of a word.
 use Prim.Native.Nat.{ℕ, _+_, _*_, _/_}
 use mathlib.Core.Path.{_≡_}
 use mathlib.Core.List.{List}

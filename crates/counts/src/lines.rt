@@ -82,7 +82,7 @@ fn whole_words(size: usize) -> usize
     (size + 7) / Word::SIZE * Word::SIZE
 }
 
-// The same where no one stands behind those bytes: counted to the end of a word, so that no byte is counted by itself.
+// The same where all bits behind those bytes are zeros: counted to the end of a word, so that no byte is counted by itself.
 pub fn count_whole_lines(table: &[u8], n: usize, size: usize) -> u64
     requires { ⌜ (size ≤ lineSize) × (n * lineSize ≤ length (now table)) × (length (now table) < 2 ^ 61) × NoneBehind size n (now table) ⌝ }
     ensures { λ r. ⌜ (r ≡ onesIn (linesOf size (now (table .entry)) n)) × (r ≤ 8 * (n * lineSize)) ⌝ }

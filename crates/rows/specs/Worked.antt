@@ -70,7 +70,7 @@ abbrev pub marking : Task → (n : ℕ) → (line row : ℕ) → Bool
 marking T n line row =
     cond (ltb line predicateLimit) (within (isProbed T) n (T .catalogue .rows) line row) (within (isMet T) n (T .catalogue .rows) (line - predicateLimit) row)
 
--- a run's own tables: the bitmaps of document 01 at the front of their lines, with no one behind them, and the marks in as many lines as there are
+-- a run's own tables: the bitmaps of document 01 at the front of their lines, with zeros behind them, and the marks in as many lines as there are
 pub record Worked (T : Task) (n : ℕ) (selected marks : List ℕ) : Type 0 where
   pub selected-size : length selected ≡ lineSize
   pub selected-bitmap : linesOf (bytesFor (T .catalogue .rows)) selected 1 ≡ bitmap (isSelected T) (T .catalogue .rows)
