@@ -4,8 +4,7 @@ use native.Mathlib.Omega.{arith}
 use mathlib.Core.Path.{_≡_, refl, sym, ap, ap₂, _∙_}
 use mathlib.Core.Bool.{Bool, true, false, not, _&&_, cond}
 use mathlib.Core.List.{List, [], _++_}
-use lib.ListN.{length, getD, take, drop, length-append, length-drop, List·getD-append}
-use lib.Seq.{take-append-le, drop-append-le}
+use lib.ListN.{length, getD, take, drop, length-append, List·getD-append}
 use lib.Dec.{leb, eqb}
 use borrow.Author.Tests.{ne-eqb, eqb-true, eqb-false, leb-true}
 use Rattle.fields.specs.declared.header.Header.{Header}
@@ -13,7 +12,8 @@ use Rattle.fields.specs.declared.header.Header.the-variants.{Cut, Field}
 use Rattle.fields.specs.Decoded.{Decoded, refused, accepted, mapped, andThen}
 use Rattle.fields.specs.Numbers.{numberAt}
 use Rattle.fields.specs.Header.{headerAt}
-use Rattle.fields.proofs.FieldLaws.{HeaderIs, FieldAt, header-is, header-whole, number-front}
+use Rattle.fields.proofs.FieldLaws.{HeaderIs, FieldAt, header-is, number-front}
+use Rattle.fields.proofs.FrontLaws.{appended, part-same, header-farther}
 use Rattle.bools.specs.Bools.{and-parts}
 use Rattle.slots.specs.Slots.{slotSize, textLimit, zerosAt, validSlot, validSlots}
 use Rattle.catalogue.specs.declared.column.ColumnField.the-variants as field
@@ -56,14 +56,8 @@ module _ (b tail : List ℕ) where
   slots-front at (suc n) l = ap₂ _&&_ (slot-front at (omega arith)) (slots-front (at + slotSize) n (omega arith))
 
   -- a field that is whole without the tail is the same with it
-  pub header-front : {at tag start stop : ℕ} → FieldAt b at (length b) tag start stop → headerAt longer at (length longer) ≡ Field tag start stop
-  header-front {at} {tag} {start} {stop} f =
-      let g = f .begins in
-      let s = f .sized in
-      let w = f .within in
-      let n : numberAt longer (at + 1) 2 ≡ numberAt b (at + 1) 2 = number-front b tail (at + 1) 2 (omega arith) in
-      let t : getD longer at 0 ≡ tag = byte-front at (omega arith) ∙ f .tagged in
-      header-whole longer at (length longer) (omega (arith, length-append b tail)) ∙ rw (t, n, ← g, ← s)
+  header-front : {at tag start stop : ℕ} → FieldAt b at (length b) tag start stop → headerAt longer at (length longer) ≡ Field tag start stop
+  header-front f = header-farther (appended b tail) f (omega arith) (omega arith) (length longer) (omega (arith, length-append b tail))
 
   column-front : (rows : ℕ) {at tag start stop : ℕ} → FieldAt b at (length b) tag start stop
       → columnOf longer rows (Field tag start stop) ≡ columnOf b rows (Field tag start stop)
@@ -108,10 +102,7 @@ module _ (b tail : List ℕ) where
       rw part-front (go (eqb (stop - start) (bytesFor rows) && not (strayBit (take (stop - start) (drop start b)) rows)) (eqb stop (length b)) refl)
     where
       part-front : take (stop - start) (drop start longer) ≡ take (stop - start) (drop start b)
-      part-front =
-          let s = f .sized in
-          let w = f .within in
-          ap (take (stop - start)) (drop-append-le start b tail (omega arith)) ∙ take-append-le (stop - start) (drop start b) tail (omega (arith, length-drop start b))
+      part-front = part-same (appended b tail) start stop (omega arith) (omega (arith, f .sized)) (omega (arith, f .within))
 
       go : (x y : Bool) → eqb stop (length b) ≡ y
           → MarkAlike (cond x (cond y (mark.Marked start) (mark.Refused bytesLeftOver)) (mark.Refused badMark))

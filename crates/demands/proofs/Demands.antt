@@ -32,7 +32,7 @@ use Rattle.query.proofs.ValidLaws.{valid-passes, passes-valid}
 use Rattle.query.proofs.EncodedBytes.{query-bytes}
 use Rattle.query.proofs.Exactly as question
 use Rattle.query.proofs.Refusals.{query-refusal}
-use Rattle.query.proofs.FrontToBack.{question-front}
+use Rattle.query.proofs.FrontToBack.{question-cut, question-whole, question-walk}
 use Rattle.predicate.specs.Meaning.{Predicate, outcomeOf, outcome}
 use Rattle.predicate.specs.Outcome.{isBlank}
 use Rattle.predicate.specs.Payload.{tagsOf, validPayload, predicateOf}
@@ -60,7 +60,7 @@ use Rattle.answers.specs.Answers.{questionAnswer, outcomeNumber, outcomeAnswer}
 use Rattle.answers.proofs.Outcomes.{outcome-small}
 use Rattle.demands.specs.Run.{Lent, rowCount, predicateCount, taskOf, selection, probeBitmaps, foundCount, lookCount, counterAt, tallyAfter}
 use Rattle.demands.specs.Demands.{after, Reads, Keeps, Breaks, badForm, badCheck, outcomeSentences, RunningOrder, lineBytes, counterBytes, Kept, FirstBroken, Present, ifPresent, pattern, treeValue, LineOf, listedLine, looksLine}
-use Rattle.demands.specs.Demands.{Demand1CatalogueForm, Demand1QuestionForm, Demand1Payload, Demand1FormsWritten, Demand1WrittenOnce, Demand1Mark, Demand1AfterColumns, Demand1FrontToBack, Demand1AfterQuestion, Demand1QuestionFrontToBack, Demand1Number, Demand1Refused, Demand1Accepted, Demand1Limits, Demand1Catalogue, Demand1Question, Demand1Outcome}
+use Rattle.demands.specs.Demands.{Demand1CatalogueForm, Demand1QuestionForm, Demand1Payload, Demand1FormsWritten, Demand1WrittenOnce, Demand1Mark, Demand1AfterColumns, Demand1FrontToBack, Demand1AfterQuestion, Demand1QuestionField, Demand1QuestionWalk, Demand1Number, Demand1Refused, Demand1Accepted, Demand1Limits, Demand1Catalogue, Demand1Question, Demand1Outcome}
 use Rattle.demands.specs.Demands.{Gives, outcomeWord, Reads, conditionOf, Demand2Blank, Demand2AsNo, Demand2Opposite, Demand2AsBefore, Demand2Tree, Demand2Listed, Demand2Looks, Demand2Withdrawn, Demand2Further, Demand2Counts, Demand2Tally, Demand2OtherReaders, Demand3, Demand3Ours, Demand3OursRule, Demand3Count, Demand3Run}
 use Rattle.demands.proofs.AfterColumns.{after-other, after-cut, after-bad, after-more, after-mark}
 use Rattle.demands.proofs.DemandLaws.{catalogue-range, is-catalogue, is-question, reads-input, broken-input, broken-range, unpacked}
@@ -124,8 +124,11 @@ demand-1-front-to-back b tail e uncut = decode-front b tail e uncut
 pub demand-1-after-question : Demand1AfterQuestion
 demand-1-after-question = question.encoded-followed
 
-pub demand-1-question-front-to-back : Demand1QuestionFrontToBack
-demand-1-question-front-to-back = question-front
+pub demand-1-question-field : Demand1QuestionField
+demand-1-question-field C q = (question-cut C q, question-whole C q)
+
+pub demand-1-question-walk : Demand1QuestionWalk
+demand-1-question-walk = question-walk
 
 -- DEMAND 1: THE CALLS
 

@@ -11,6 +11,7 @@ use mathlib.Core.List.{List, [], _∷_, _++_}
 use lib.ListN.{length, getD, take, drop}
 use Rattle.fields.specs.Decoded.{refused, accepted}
 use Rattle.fields.specs.Numbers.{numberAt, bytesOf, Bytes}
+use Rattle.fields.specs.Header.{fieldOf}
 use Rattle.catalogue.specs.Catalogue.{Catalogue, Column, numbers, texts, Mark, unmarked, marked, withMark, isWithdrawn}
 use Rattle.catalogue.specs.Decode.{decodeCatalogue}
 use Rattle.catalogue.specs.Encode.{encodeCatalogue}
@@ -263,10 +264,19 @@ abbrev pub Demand1AfterQuestion : Type 0
 Demand1AfterQuestion =
     (C : Catalogue) (Q : Query) → WellFormed C Q → (tail : List ℕ) → 0 < length tail → decodeQuery C (encode (payloads Q) ++ tail) ≡ refused 14
 
--- "then walks the question", front to back: every refusal but 7, a field that is cut, is the same whatever bytes follow
-abbrev pub Demand1QuestionFrontToBack : Type 0
-Demand1QuestionFrontToBack =
-    (C : Catalogue) (q tail : List ℕ) (e : ℕ) → (e ≡ 7 → ⊥) → decodeQuery C q ≡ refused e → decodeQuery C (q ++ tail) ≡ refused e
+-- "The question is one field of these.": bytes that end before that field does are refused by 7; else a refusal is the same whatever bytes follow
+abbrev pub Demand1QuestionField : Type 0
+Demand1QuestionField =
+    (C : Catalogue) (q : List ℕ)
+    → (length q < 3 + declaredSize q → decodeQuery C q ≡ refused 7)
+    × (3 + declaredSize q ≤ length q → (e : ℕ) → decodeQuery C q ≡ refused e → (tail : List ℕ) → decodeQuery C (q ++ tail) ≡ refused e)
+
+-- "then walks the question", front to back: a refusal for what the outermost group holds so far, but for 7, a field that is cut, stays whatever more it
+-- holds behind that
+abbrev pub Demand1QuestionWalk : Type 0
+Demand1QuestionWalk =
+    (C : Catalogue) (tag : ℕ) (members more : List ℕ) (e : ℕ) → (tag ≡ 65) ⊎ (tag ≡ 79) → 0 < length members → length (members ++ more) < 65536
+    → (e ≡ 7 → ⊥) → decodeQuery C (fieldOf tag members) ≡ refused e → decodeQuery C (fieldOf tag (members ++ more)) ≡ refused e
 
 -- DEMAND 1: THE CALLS
 
