@@ -34,7 +34,7 @@ desk: desk_needs $(archive)
 
 desk_needs:
 	@command -v cargo >/dev/null || { \
-	  echo "there is no command cargo: install Rust 1.85 or later (README.md, \"Two commands\")"; exit 1; } >&2
+	  echo "there is no command cargo: install Rust 1.89 or later (README.md, \"Two commands\")"; exit 1; } >&2
 	@for crate in clap csv serde_json; do \
 	  ls -d $(registry)/$$crate-[0-9]* >/dev/null 2>&1 || { \
 	    echo "no source of the crate $$crate: apt-get install librust-clap-dev librust-csv-dev librust-serde-json-dev"; \

@@ -10,9 +10,11 @@ use crate::catalogue::Column;
 use crate::failure::Failure;
 use crate::folder::{Folder, output};
 use crate::found::{Found, run};
-use crate::replace::{Replacement, Target};
+use crate::ours;
+use crate::replace::{Access, Replacement};
 use crate::request::Request;
 use crate::show::{Paint, shown, shown_path};
+use crate::target::Target;
 use crate::words::Ask;
 
 pub fn ask(ask: &Ask, paint: Paint, out: &mut dyn Write) -> Result<(), Failure> {
@@ -47,12 +49,18 @@ impl<'a> Register<'a> {
     fn make(ask: &'a Ask, request: &'a Request) -> Result<Register<'a>, Failure> {
         let Request { folder, question, order } = request;
         let (tally_file, copy_file) = outputs(ask)?;
-        let mut new_tally = tally_file.map(Replacement::begin).transpose()?;
-        let before = new_tally.as_ref().map(Replacement::read).transpose()?.flatten();
+        let begin = |file| Replacement::begin(file, Access::Private);
+        // The tally comes last, because others wait for it.
+        let mut new_copy = copy_file.map(begin).transpose()?;
+        if let Some(new_copy) = new_copy.as_ref().filter(|_| !ask.force) {
+            new_copy.refuse_others(ours::COPY, "a copy of a register")?;
+        }
+        let mut new_tally = tally_file.map(begin).transpose()?;
+        // One byte too many is enough for the engine to refuse it.
+        let before = new_tally.as_ref().map(|file| file.read(Tally::BYTES + 1)).transpose()?.flatten();
         let is_new = before.is_none();
         let mut tally = before.unwrap_or_else(|| Tally::default().bytes().to_vec());
         let found = run(folder, question, order, ask.reader, &mut tally)?;
-        let mut new_copy = copy_file.map(Replacement::begin).transpose()?;
         let mut copied = None;
         if let Some(new_copy) = &mut new_copy {
             let bytes = copy_of(&folder.bytes, &question.bytes, order)?;

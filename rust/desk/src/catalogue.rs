@@ -1,6 +1,6 @@
 //! A catalogue taken apart into values, and put together again. The engine judges its bytes; here they are only told.
 
-use searchroom::{MAX_TEXT, Refusal, bit, check_catalogue};
+use searchroom::{MAX_COLUMNS, MAX_ENTRIES, MAX_TEXT, Refusal, bit, check_catalogue};
 
 /// The largest number; the next one stands for a blank.
 pub const MAX_NUMBER: u32 = BLANK_NUMBER - 1;
@@ -13,6 +13,14 @@ const MARK_TAG: u8 = 87;
 const HEAD: usize = 3;
 const NUMBER: usize = 4;
 const SLOT: usize = 1 + MAX_TEXT;
+/// The bytes of the first field: the number of entries, in two, and that of columns.
+const SIZE: usize = 3;
+
+/// How every catalogue begins.
+pub const BEGINNING: &[u8] = &[CATALOGUE_TAG, 0, SIZE as u8];
+
+/// The most bytes of a catalogue: every column one of texts, and a mark.
+pub const MAX_BYTES: usize = HEAD + SIZE + MAX_COLUMNS * (HEAD + SLOT * MAX_ENTRIES) + HEAD + MAX_ENTRIES.div_ceil(8);
 
 pub struct Catalogue {
     pub entries: usize,

@@ -2,9 +2,14 @@
 
 use crate::catalogue::{Catalogue, Column, from_latin_1, number_of};
 use crate::heading::{Heading, Holds, WITHDRAWN, name_faults};
+use crate::import;
 
 /// The first line of `columns.csv`.
 pub const FIRST_LINE: &str = "header,values\n";
+
+/// The most bytes of `columns.csv` that are read: the cells of any first line that is imported, and what each column
+/// adds.
+pub const MAX_BYTES: usize = import::MAX_BYTES + 65_536;
 
 /// The headings that `columns.csv` keeps; none where it is not of the form that [`write`] gives it, or the names are faulty.
 pub fn read(bytes: &[u8]) -> Option<Vec<Heading>> {

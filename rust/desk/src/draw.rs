@@ -8,23 +8,36 @@ use crate::failure::Failure;
 use crate::folder::{Folder, output};
 use crate::found::{Found, run_without_tally};
 use crate::notation::Condition;
+use crate::ours;
 use crate::question::{Group, Question};
-use crate::replace::replace;
+use crate::replace::{Access, Replacement};
 use crate::request::Request;
 use crate::show::{counted, shown_path};
 use crate::words::Draw;
 
 pub fn draw(draw: &Draw, out: &mut dyn Write) -> Result<(), Failure> {
     let request = Request::read(&draw.asked)?;
+    let new_picture = begin(draw)?;
     let found = run_without_tally(&request.folder, &request.question, &request.order)?;
     let picture = Picture::new(&request, &found).svg();
-    if draw.output == Path::new("-") {
-        return Ok(out.write_all(picture.as_bytes())?);
-    }
-    replace(output(&draw.asked.folder, &draw.output)?, picture.as_bytes())?;
+    let Some(mut new_picture) = new_picture else { return Ok(out.write_all(picture.as_bytes())?) };
+    new_picture.write(picture.as_bytes())?;
+    new_picture.finish()?;
     let conditions = counted(request.question.conditions().len(), "condition", "conditions");
     let groups = counted(request.question.groups.len(), "group", "groups");
     Ok(writeln!(out, "{}: {conditions}, {groups}", shown_path(&draw.output))?)
+}
+
+/// Begins to replace the picture's file; none where it goes to standard output.
+fn begin(draw: &Draw) -> Result<Option<Replacement>, Failure> {
+    if draw.output == Path::new("-") {
+        return Ok(None);
+    }
+    let new_picture = Replacement::begin(output(&draw.asked.folder, &draw.output)?, Access::Usual)?;
+    if !draw.force {
+        new_picture.refuse_others(ours::PICTURE.as_bytes(), "a picture of the desk's")?;
+    }
+    Ok(Some(new_picture))
 }
 
 // All lengths are in pixels.
@@ -89,9 +102,10 @@ impl<'a> Picture<'a> {
         let height = HEAD + ROW * self.question.conditions().len() as f64 + MARGIN;
         let width = self.width;
         let mut svg = format!(
-            "<svg xmlns=\"http://www.w3.org/2000/svg\" width=\"{width:.0}\" height=\"{height:.0}\" \
+            "{}width=\"{width:.0}\" height=\"{height:.0}\" \
              viewBox=\"0 0 {width:.0} {height:.0}\" role=\"img\">\n<title>{}</title>\n<style>\n{STYLE}</style>\n\
              <rect width=\"100%\" height=\"100%\" fill=\"#ffffff\"/>\n",
+            ours::PICTURE,
             xml(&self.question.written.shown(&self.folder.names())),
         );
         self.head(&mut svg);

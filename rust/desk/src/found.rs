@@ -66,7 +66,11 @@ fn advice(refusal: Refusal, question: &Question, tally_bytes: usize) -> String {
             count => format!("\n  the question has {count} conditions: name each number from 0 to {} once", count - 1),
         },
         Refusal::BadTally if tally_bytes != Tally::BYTES => {
-            let bytes = counted(tally_bytes, "byte", "bytes");
+            // One byte too many is the most that is read of it.
+            let bytes = match tally_bytes > Tally::BYTES {
+                true => format!("more than {} bytes", Tally::BYTES),
+                false => counted(tally_bytes, "byte", "bytes"),
+            };
             format!("\n  the tally's file has {bytes}: name another, or one that is not there yet")
         }
         Refusal::BadTally => "\n  keep this tally as it is, and begin another".to_owned(),

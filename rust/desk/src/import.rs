@@ -1,30 +1,47 @@
 //! `searchroom import`: a catalogue from a CSV file.
 
-use std::fs;
 use std::io::{self, BufWriter, Write};
 use std::path::Path;
 
-use searchroom::check_catalogue;
+use searchroom::{MAX_ENTRIES, check_catalogue};
 
 use crate::catalogue::Column;
 use crate::failure::Failure;
 use crate::folder::{Folder, catalogue_file};
+use crate::reading;
 use crate::sheet::Noticed;
-use crate::show::{counted, shown, shown_path};
+use crate::show::{counted, grouped, shown, shown_path};
+
+/// The most bytes of a CSV file that is imported, 64 MiB: 32,768 for each entry that a catalogue can have.
+pub const MAX_BYTES: usize = 32_768 * MAX_ENTRIES;
 
 /// Imports a CSV file into a folder. Everything that does not fit is told on standard error, and then nothing is written.
 pub fn import(file: &Path, folder: &Path, separator: u8, out: &mut dyn Write) -> Result<(), Failure> {
-    let bytes = fs::read(file).map_err(|error| match error.kind() {
-        io::ErrorKind::NotFound => Failure::Desk(format!("there is no {}: name the CSV file", shown_path(file))),
-        io::ErrorKind::IsADirectory => Failure::Desk(format!("{} is a folder: name the CSV file", shown_path(file))),
-        _ => Failure::file("read", file, &error),
-    })?;
+    let bytes = read(file)?;
     let mut noticed = Noticed::default();
     let imported = noticed.folder(&bytes, separator);
     let Some(imported) = imported else { return Err(faulty(&noticed, file)) };
     check_catalogue(&imported.bytes)?;
     imported.save(folder)?;
     report(&noticed, &imported, folder, out)
+}
+
+/// The bytes of the CSV file.
+fn read(file: &Path) -> Result<Vec<u8>, Failure> {
+    const NAME_IT: &str = "name the CSV file";
+    if file.is_dir() {
+        return Err(Failure::Desk(format!("{} is a folder: {NAME_IT}", shown_path(file))));
+    }
+    let Some(opened) = reading::open(file, NAME_IT)? else {
+        return Err(Failure::Desk(format!("there is no {}: {NAME_IT}", shown_path(file))));
+    };
+    let bytes = reading::at_most(MAX_BYTES + 1, &opened, file)?;
+    if bytes.len() > MAX_BYTES {
+        let (file, most, entries) = (shown_path(file), grouped(MAX_BYTES), grouped(MAX_ENTRIES));
+        let what = format!("{file} has more than {most} bytes, and no more are read");
+        return Err(Failure::Desk(format!("{what}: split it; a catalogue has at most {entries} entries")));
+    }
+    Ok(bytes)
 }
 
 /// Tells what was noticed and the faults of a file; gives the failure, with their number.

@@ -49,7 +49,7 @@ pub fn counted(number: usize, one: &str, more: &str) -> String {
 pub fn grouped(number: usize) -> String {
     let digits = number.to_string();
     let place = |(at, digit): (usize, char)| {
-        let comma = at > 0 && (digits.len() - at) % 3 == 0;
+        let comma = at > 0 && (digits.len() - at).is_multiple_of(3);
         comma.then_some(',').into_iter().chain([digit])
     };
     digits.chars().enumerate().flat_map(place).collect()

@@ -42,12 +42,12 @@ pub enum Word {
 
 /// Make a catalogue from a CSV file
 ///
-/// The first line names the columns, at most 16; each further line is an entry, at most 2,048. A column holds numbers if every
-/// value is empty or a number up to 4,294,967,294 without leading zeros, else texts of at most 23 letters; `name:number` or
-/// `name:text` in the first line decides it. An empty value is a blank. A column named `withdrawn` is the mark: yes, true, 1
-/// or x withdraws the entry, no, false, 0 or nothing does not. The file is in UTF-8, the letters of its values are those of
-/// ISO 8859-1. Whatever does not fit is reported with its line and column, many faults summed up by column, and then
-/// nothing is written.
+/// The first line names the columns, at most 16; each further line is an entry, at most 2,048. A column holds numbers
+/// if every value is empty or a number up to 4,294,967,294 without leading zeros, else texts of at most 23 letters;
+/// `name:number` or `name:text` in the first line decides it. An empty value is a blank. A column named `withdrawn` is
+/// the mark: yes, true, 1 or x withdraws the entry, no, false, 0 or nothing does not. The file is in UTF-8 and has at
+/// most 64 MiB, the letters of its values are those of ISO 8859-1. Whatever does not fit is reported with its line and
+/// column, many faults summed up by column, and then nothing is written.
 ///
 /// FOLDER receives catalogue.bin, which the engine reads, and columns.csv, the columns' names.
 #[derive(Args)]
@@ -122,11 +122,14 @@ pub struct Ask {
     /// Write the steward's copy of the register to FILE: seven bytes for each look
     #[arg(long, value_name = "FILE")]
     pub copy: Option<PathBuf>,
+    /// Replace the copy's FILE even if it is not empty and no copy
+    #[arg(long, requires = "copy")]
+    pub force: bool,
     /// Answer with one line of JSON
     #[arg(long)]
     pub json: bool,
     /// Only print the question in the strict spelling that the engine reads; goes with no other option
-    #[arg(long, conflicts_with_all = ["order", "reader", "tally", "copy", "json"])]
+    #[arg(long, conflicts_with_all = ["order", "reader", "tally", "copy", "force", "json"])]
     pub strict: bool,
 }
 
@@ -159,6 +162,9 @@ pub struct Draw {
     /// The file for the picture, or - for standard output
     #[arg(short, long, value_name = "FILE")]
     pub output: PathBuf,
+    /// Replace FILE even if it is not empty and no picture of the desk's
+    #[arg(long)]
+    pub force: bool,
 }
 
 /// What every question needs.

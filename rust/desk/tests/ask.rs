@@ -384,7 +384,7 @@ fn copies_of_random_questions() {
         let asked = Asked::new(&mut rng, 40, 9);
         let room = asked.room();
         if seed % 2 == 0 {
-            room.set("copy.bin", "an earlier one, longer or not");
+            room.set("copy.bin", [76, 0, 4, 9, 9, 9, 1].repeat(20));
         }
         let said = room.run(&["ask", "deeds", &asked.strict(), "--order", &asked.order_word(), "--copy", "copy.bin"]);
         let copied = fs::read(room.path("copy.bin")).expect("the copy");
@@ -414,7 +414,7 @@ fn no_copy_of_a_refused_run() {
     let words = ["ask", "parish", "year blank", "--order", "1", "--copy", "copy.bin"];
     room.run(&words).failed(1);
     assert!(!room.path("copy.bin").exists() && !room.path("copy.bin.new").exists());
-    room.set("copy.bin", "kept");
-    room.run(&words).failed(1);
-    assert_eq!(fs::read(room.path("copy.bin")).unwrap(), b"kept");
+    room.set("copy.bin", [76, 0, 4, 0, 0, 0, 1]);
+    assert!(room.run(&words).failed(1).contains("refused 15"));
+    assert_eq!(fs::read(room.path("copy.bin")).unwrap(), [76, 0, 4, 0, 0, 0, 1]);
 }

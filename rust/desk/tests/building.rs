@@ -78,7 +78,7 @@ fn archive_that_is_there() {
 #[test]
 fn without_cargo_or_crates() {
     let said = make(&repository(&[]), &["desk"]).failed(2);
-    assert!(said.starts_with("there is no command cargo: install Rust 1.85 or later"), "{said}");
+    assert!(said.starts_with("there is no command cargo: install Rust 1.89 or later"), "{said}");
     let said = make(&repository(&["cargo"]), &["desk", "registry=bin"]).failed(2);
     assert!(said.starts_with("no source of the crate clap: apt-get install librust-clap-dev "), "{said}");
 }

@@ -125,7 +125,8 @@ fn picture_of_the_parish() {
 #[test]
 fn file_is_replaced() {
     let room = parish();
-    room.set("old.svg", "x".repeat(100_000));
+    room.run(&["draw", "parish", QUESTION, "--output", "old.svg"]).done();
+    assert_eq!(Picture::read(&room.path("old.svg")).texts_of("condition").len(), 3);
     room.run(&["draw", "parish", "year blank", "--output", "old.svg"]).done();
     assert_eq!(Picture::read(&room.path("old.svg")).texts_of("condition").len(), 1);
     let said = room.run(&["draw", "parish", "year blank", "-o", "missing/a.svg"]).failed(1);

@@ -3,18 +3,17 @@
 mod desk {
     pub mod parish;
     pub mod room;
+    pub mod stepped;
 }
 
-use std::fs::{self, File, OpenOptions};
-use std::io::Write;
-use std::os::unix::fs::{OpenOptionsExt, symlink};
-use std::path::Path;
-use std::process::{Child, Command, Stdio};
+use std::fs;
+use std::os::unix::fs::symlink;
 use std::thread;
 use std::time::{Duration, Instant};
 
 use desk::parish::{QUESTION, TABLE, parish};
-use desk::room::{Room, Said};
+use desk::room::Room;
+use desk::stepped::Steps;
 
 /// The catalogue's own two files are never an output.
 #[test]
@@ -22,7 +21,13 @@ fn catalogue_is_no_output() {
     let room = parish();
     symlink("parish/catalogue.bin", room.path("link")).unwrap();
     let before = ["catalogue.bin", "columns.csv"].map(|name| fs::read(room.path("parish").join(name)).unwrap());
-    for file in ["parish/catalogue.bin", "./parish/columns.csv", "parish/../parish/catalogue.bin", "link"] {
+    for file in [
+        "parish/catalogue.bin",
+        "./parish/columns.csv",
+        "parish/columns.csv.next",
+        "parish/../parish/catalogue.bin",
+        "link",
+    ] {
         let words: [&[&str]; 3] = [&["ask", "--tally"], &["ask", "--copy"], &["draw", "-o"]];
         for words in words {
             let said = room.run(&[words[0], "parish", QUESTION, words[1], file]).failed(1);
@@ -104,59 +109,42 @@ fn asked_while_it_is_imported() {
     });
 }
 
-/// The same, step by step: `catalogue.bin` is a pipe, at which the reader waits with the names already open, and other names are
-/// put in their place before it is given a catalogue. It must begin anew.
+/// The same, step by step: at each of its calls of the system the reader is stopped until an import has come between.
 #[test]
-fn names_that_change_while_the_catalogue_is_read() {
+fn imported_at_each_step() {
     let room = Room::new();
-    let [(_, names), (catalogue, other_names)] = ["first,second\n1,2\n", "second,first\n2,1\n"].map(|table| {
-        room.set("deeds.csv", table);
-        room.run(&["import", "deeds.csv", "deeds"]).done();
-        ["catalogue.bin", "columns.csv"].map(|file| fs::read(room.path("deeds").join(file)).unwrap()).into()
-    });
-    let pipe = room.path("deeds/catalogue.bin");
-    fs::remove_file(&pipe).unwrap();
-    assert!(Command::new("mkfifo").arg(&pipe).status().unwrap().success());
-    room.set("deeds/columns.csv", names);
-    let mut asking = room.command(&["ask", "deeds", "first in 1..1"]).stdout(Stdio::piped()).spawn().unwrap();
-    let mut writer = opened_by_a_reader(&pipe, &mut asking).expect("the program reads the catalogue");
-    for (file, bytes) in [("columns.csv", &other_names), ("catalogue.bin", &catalogue)] {
-        room.set("deeds/other", bytes);
-        fs::rename(room.path("deeds/other"), room.path("deeds").join(file)).unwrap();
+    room.set("0.csv", "first,second\n1,2\n");
+    room.set("1.csv", "second,first\n2,1\n");
+    room.run(&["import", "0.csv", "deeds"]).done();
+    let at_the_stop = "\"$DESK\" import $((STOP / 2 % 2)).csv deeds";
+    let steps = Steps { first: "", at_the_stop, last: "" };
+    let runs = steps.run(&room, "deeds", &["ask", "deeds", "all(first in 1..1, second in 2..2)"]);
+    assert!(runs.len() > 10, "{runs:?}");
+    for (step, (said, _)) in runs.iter().enumerate() {
+        assert!(said.starts_with("1 of 1 entry found\n"), "step {step}: {said}");
     }
-    writer.write_all(&catalogue).unwrap();
-    drop(writer);
-    let said = Said::of(asking.wait_with_output().unwrap()).done();
-    assert!(said.starts_with("1 of 1 entry found\n"), "{said}");
 }
 
-/// The pipe, to be written to, once the program has opened it to read; none if it ends before.
-fn opened_by_a_reader(pipe: &Path, program: &mut Child) -> Option<File> {
-    /// Not to wait for a reader, but to fail where there is none (O_NONBLOCK).
-    const AT_ONCE: i32 = 0o4000;
-    while program.try_wait().unwrap().is_none() {
-        if let Ok(writer) = OpenOptions::new().write(true).custom_flags(AT_ONCE).open(pipe) {
-            return Some(writer);
-        }
-        thread::sleep(Duration::from_millis(1));
-    }
-    None
-}
-
-/// An import that was cut off between its two steps: the catalogue has no names, and nobody takes those of another.
+/// Step by step again, with an import that was cut off: at the stop another one finishes it and begins to write its
+/// own.
 #[test]
-fn import_that_was_cut_off() {
-    let room = parish();
-    fs::rename(room.path("parish/columns.csv"), room.path("parish/columns.csv.new")).unwrap();
-    let left_over = "parish/columns.csv.new is already there";
-    assert!(room.run(&["ask", "parish", "c0 blank"]).failed(1).contains(left_over));
-    fs::remove_file(room.path("parish/columns.csv.new")).unwrap();
-    assert!(room.run(&["ask", "parish", "c0 blank"]).done().starts_with("1 of 3 entries found\n"));
-    room.set("deeds.csv", TABLE);
-    let said = room.run(&["import", "deeds.csv", "parish"]).failed(1);
-    assert!(said.contains("parish/catalogue.bin has no columns.csv beside it"), "{said}");
-    fs::remove_file(room.path("parish/catalogue.bin")).unwrap();
-    room.run(&["import", "deeds.csv", "parish"]).done();
+fn finished_at_each_step() {
+    let room = Room::new();
+    for (folder, table) in [("old", "first,second\n1,2\n"), ("new", "second,first\n2,1\n2,1\n")] {
+        room.set("deeds.csv", table);
+        room.run(&["import", "deeds.csv", folder]).done();
+    }
+    let first = "rm -rf deeds && cp -r old deeds && cp new/columns.csv deeds/columns.csv.next && \
+                 cp new/catalogue.bin deeds/catalogue.bin.new";
+    let at_the_stop = "cd deeds && mv catalogue.bin.new catalogue.bin && mv columns.csv.next columns.csv && \
+                       head -c 9 catalogue.bin > catalogue.bin.new";
+    let steps = Steps { first, at_the_stop, last: "cat deeds/catalogue.bin.new | wc -c" };
+    let runs = steps.run(&room, "deeds", &["ask", "deeds", "all(first in 1..1, second in 2..2)"]);
+    assert!(runs.len() > 10, "{runs:?}");
+    for (step, (said, left)) in runs.iter().enumerate() {
+        assert!(said.starts_with("2 of 2 entries found\n"), "step {step}: {said}");
+        assert_eq!(left.trim(), "9", "step {step}: it was not finished");
+    }
 }
 
 /// A name in .new is where another file is written; nothing else may stand there.
@@ -199,9 +187,76 @@ fn tally_stays_where_the_copy_fails() {
     let room = parish();
     room.run(&["ask", "parish", QUESTION, "--tally", "t.bin"]).done();
     let before = fs::read(room.path("t.bin")).unwrap();
-    room.set("c.bin.new", "of a run that was cut off");
+    fs::create_dir(room.path("c.bin.new")).unwrap();
     let said = room.run(&["ask", "parish", QUESTION, "--tally", "t.bin", "--copy", "c.bin"]).failed(1);
-    assert!(said.contains("c.bin.new is already there"), "{said}");
+    assert!(said.contains("c.bin.new is not a file"), "{said}");
     assert_eq!(fs::read(room.path("t.bin")).unwrap(), before);
     assert!(!room.path("t.bin.new").exists() && !room.path("c.bin").exists());
+}
+
+/// What a person may keep: no copy and no picture, be it so short.
+const PRECIOUS: [&str; 7] = [
+    "year,parish\n1701,Ash\n",
+    "x",
+    "L",
+    "LL\0",
+    "<svg",
+    "<svg xmlns=\"http://www.w3.org/2000/svg\" width=\"24\" height=\"24\"></svg>\n",
+    "\n",
+];
+
+/// A copy and a picture replace no file of somebody else's, and then nothing is run; with `--force` they do.
+#[test]
+fn no_other_file_is_replaced() {
+    let room = parish();
+    room.set("t.bin", [0; 128]);
+    let cases: [(&[&str], &str); 2] = [
+        (&["ask", "parish", QUESTION, "--tally", "t.bin", "--copy", "mine"], "a copy of a register"),
+        (&["draw", "parish", QUESTION, "-o", "mine"], "a picture of the desk's"),
+    ];
+    for (words, what) in cases {
+        for bytes in PRECIOUS {
+            room.set("mine", bytes);
+            let said = room.run(words).failed(1);
+            let message = format!("searchroom: mine is not {what}: name another file, or replace it with --force\n");
+            assert_eq!(said, message, "{bytes:?}");
+            assert_eq!(fs::read_to_string(room.path("mine")).unwrap(), bytes);
+            assert_eq!(fs::read(room.path("t.bin")).unwrap(), [0; 128], "{bytes:?}");
+            assert!(!room.path("mine.new").exists() && !room.path("t.bin.new").exists(), "{bytes:?}");
+        }
+        room.run(&[words, &["--force"]].concat()).done();
+        let forced = fs::read(room.path("mine")).unwrap();
+        assert!(forced.starts_with(b"L\0\x04") || forced.starts_with(b"<svg xmlns="), "{words:?}");
+        room.set("t.bin", [0; 128]);
+    }
+}
+
+/// What an earlier run wrote is replaced without a word, and so is an empty file; the one is not taken for the other.
+#[test]
+fn own_files_are_replaced() {
+    let room = parish();
+    for (words, other) in [
+        (["ask", "parish", QUESTION, "--copy", "file"], ["draw", "parish", QUESTION, "-o", "file"]),
+        (["draw", "parish", QUESTION, "-o", "file"], ["ask", "parish", QUESTION, "--copy", "file"]),
+    ] {
+        room.set("file", "");
+        room.run(&words).done();
+        let first = fs::read(room.path("file")).unwrap();
+        assert!(!first.is_empty());
+        room.run(&words).done();
+        assert_eq!(fs::read(room.path("file")).unwrap(), first);
+        assert!(room.run(&other).failed(1).contains("--force"));
+        assert_eq!(fs::read(room.path("file")).unwrap(), first);
+    }
+}
+
+/// `--force` is for the copy alone: a tally is the engine's to judge.
+#[test]
+fn force_is_for_the_copy() {
+    let room = parish();
+    room.run(&["ask", "parish", QUESTION, "--force"]).failed(2);
+    room.set("t.bin", "notes");
+    let words = ["ask", "parish", QUESTION, "--tally", "t.bin", "--copy", "c.bin", "--force"];
+    assert!(room.run(&words).failed(1).starts_with("searchroom: refused 17: "));
+    assert_eq!(fs::read(room.path("t.bin")).unwrap(), b"notes");
 }

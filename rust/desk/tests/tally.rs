@@ -2,38 +2,29 @@
 
 mod desk {
     pub mod asked;
+    pub mod held;
+    pub mod numbers;
     pub mod parish;
     pub mod room;
+    pub mod started;
 }
 
 use std::fs;
 use std::os::unix::fs::{PermissionsExt, symlink};
-use std::process::Child;
 use std::time::{Duration, Instant};
 
 use desk::asked::Asked;
+use desk::held::held;
+use desk::numbers::{LOOKS, ask, numbers};
 use desk::parish::{QUESTION, parish};
-use desk::room::{Room, Said};
+use desk::room::Room;
+use desk::started::{ended, started};
 use generator::Rng;
 use searchroom::{Refusal, Tally};
-
-/// The looks of the parish's run.
-const LOOKS: u64 = 6;
-
-fn numbers(room: &Room, file: &str) -> [u64; 16] {
-    let bytes = fs::read(room.path(file)).expect("the tally");
-    assert_eq!(bytes.len(), 128);
-    let number = |reader: usize| u64::from_be_bytes(bytes[8 * reader..][..8].try_into().expect("eight bytes"));
-    std::array::from_fn(number)
-}
 
 /// All zeros but for this reader.
 fn only(reader: usize, number: u64) -> [u64; 16] {
     std::array::from_fn(|other| if other == reader { number } else { 0 })
-}
-
-fn ask<'a>(tally: &'a str, reader: &'a str) -> [&'a str; 7] {
-    ["ask", "parish", QUESTION, "--tally", tally, "--reader", reader]
 }
 
 /// The run must be refused with this number, and leave the tally with these bytes, or none.
@@ -162,38 +153,35 @@ fn refused_runs_leave_the_tally() {
     assert!(!room.path("copy.bin").exists() && !room.path("copy.bin.new").exists());
 }
 
-/// What another run left behind is waited for and then named; nothing is altered.
+/// A tally that another run holds is waited for, and then it is told; nothing is altered.
 #[test]
-fn file_beside_the_tally() {
+fn tally_that_is_held() {
     let room = parish();
     room.set("tally.bin", [0; 128]);
-    room.set("tally.bin.new", "half of one");
-    let started = Instant::now();
+    let _held = held(&room.path("tally.bin.new"));
+    let since = Instant::now();
     let said = room.run(&ask("tally.bin", "0")).failed(1);
-    let waited = started.elapsed();
-    assert!(said.starts_with("searchroom: ") && said.contains("tally.bin.new") && said.contains("remove"), "{said}");
+    let waited = since.elapsed();
+    assert!(said.starts_with("searchroom: another run has held ") && said.contains("tally.bin.new"), "{said}");
+    assert!(said.ends_with(" for five seconds: try again when it has ended\n"), "{said}");
     assert!(waited > Duration::from_secs(4) && waited < Duration::from_secs(30), "waited {waited:?}");
     assert_eq!(numbers(&room, "tally.bin"), [0; 16]);
-    assert_eq!(fs::read(room.path("tally.bin.new")).unwrap(), b"half of one");
+    assert!(room.path("tally.bin.new").exists(), "it is the other run's");
 }
 
 /// A run that waits goes on as soon as the other is done.
 #[test]
 fn waiting_run_goes_on() {
     let room = parish();
-    room.set("tally.bin.new", "");
+    let other = held(&room.path("tally.bin.new"));
     let waiting = started(&room, &ask("tally.bin", "4"));
     std::thread::sleep(Duration::from_millis(700));
     assert!(!room.path("tally.bin").exists(), "the run did not wait");
-    fs::remove_file(room.path("tally.bin.new")).unwrap();
-    Said::of(waiting.wait_with_output().expect("the program ends")).done();
-    assert_eq!(numbers(&room, "tally.bin"), only(4, LOOKS));
-}
-
-fn started(room: &Room, words: &[&str]) -> Child {
-    let mut command = room.command(words);
-    command.stdout(std::process::Stdio::piped()).stderr(std::process::Stdio::piped());
-    command.spawn().expect("the program starts")
+    room.set("tally.bin.new", Tally::from_numbers([LOOKS; 16]).bytes());
+    fs::rename(room.path("tally.bin.new"), room.path("tally.bin")).unwrap();
+    drop(other);
+    ended(waiting).done();
+    assert_eq!(numbers(&room, "tally.bin")[4], 2 * LOOKS, "what the other run wrote is added to");
 }
 
 /// Twenty runs at the same time leave the sum of twenty.
@@ -201,9 +189,9 @@ fn started(room: &Room, words: &[&str]) -> Child {
 fn runs_at_the_same_time() {
     let room = parish();
     let readers: Vec<String> = (0..20).map(|run| (run % 3).to_string()).collect();
-    let running: Vec<Child> = readers.iter().map(|reader| started(&room, &ask("tally.bin", reader))).collect();
+    let running: Vec<_> = readers.iter().map(|reader| started(&room, &ask("tally.bin", reader))).collect();
     for run in running {
-        Said::of(run.wait_with_output().expect("the program ends")).done();
+        ended(run).done();
     }
     let expected = std::array::from_fn(|reader| [7, 7, 6].get(reader).map_or(0, |runs| runs * LOOKS));
     assert_eq!(numbers(&room, "tally.bin"), expected);

@@ -58,7 +58,7 @@ impl Pattern {
             Pattern::OneOfEach => entry % BLOCK == place,
             Pattern::AllButOneOfEach => entry % BLOCK != place,
             Pattern::Ends => [0, BLOCK - 1].contains(&(entry % BLOCK)),
-            Pattern::Every(step) => (entry + place) % step == 0,
+            Pattern::Every(step) => (entry + place).is_multiple_of(step),
             Pattern::Stretches(longest) => {
                 if left == 0 {
                     (left, last) = (rng.between(1, longest), !last);
@@ -67,7 +67,7 @@ impl Pattern {
                 last
             }
             Pattern::Blocks => {
-                if entry % BLOCK == 0 {
+                if entry.is_multiple_of(BLOCK) {
                     last = rng.chance(50);
                 }
                 last

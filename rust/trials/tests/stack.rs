@@ -83,8 +83,8 @@ fn largest() -> Given {
     let made = Catalogue { entries: 2_048, columns, mark: Some(vec![false; 2_048]) };
     let condition = |number: u8| {
         let on_number = Test::NumberFrom { low: number.into(), high: 2_000 };
-        let (column, test) = if number % 2 == 0 { (0, on_number) } else { (1, Test::Contains(vec![number])) };
-        Condition { column, test, opposite: number % 3 == 0 }
+        let (column, test) = if number.is_multiple_of(2) { (0, on_number) } else { (1, Test::Contains(vec![number])) };
+        Condition { column, test, opposite: number.is_multiple_of(3) }
     };
     let mut tree = Tree::AnyOf((7..64).map(Tree::Condition).collect());
     for number in (0..7).rev() {

@@ -56,7 +56,7 @@ fn read_mark(after_columns: &[u8], entries: usize) -> Result<&[u8], u8> {
         Some(_) => return Err(6),
     }
     let (_, mark, rest) = field(after_columns).ok_or(1)?;
-    let has_stray_bit = || entries % 8 != 0 && mark[entries / 8] >> (entries % 8) != 0;
+    let has_stray_bit = || !entries.is_multiple_of(8) && mark[entries / 8] >> (entries % 8) != 0;
     if mark.len() != entries.div_ceil(8) || has_stray_bit() {
         return Err(23);
     }

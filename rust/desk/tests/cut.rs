@@ -1,0 +1,344 @@
+//! Runs and imports that are cut off, at whatever moment: nobody is kept waiting, and nothing is to be removed by hand.
+
+mod desk {
+    pub mod held;
+    pub mod numbers;
+    pub mod parish;
+    pub mod room;
+    pub mod signal;
+    pub mod started;
+    pub mod stepped;
+}
+
+use std::fs;
+use std::os::unix::fs::symlink;
+use std::process::Command;
+use std::thread;
+use std::time::{Duration, Instant};
+
+use desk::held::held;
+use desk::numbers::{LOOKS, ask, numbers};
+use desk::parish::{QUESTION, TABLE, parish};
+use desk::room::{Room, Said};
+use desk::signal::signal;
+use desk::started::{ended, started};
+use desk::stepped::Steps;
+use generator::Rng;
+
+const SIGNALS: [i32; 2] = [libc::SIGKILL, libc::SIGINT];
+
+/// A run that waits for nobody takes no second, on however slow a machine; one that waits takes five.
+const AT_ONCE: Duration = Duration::from_secs(4);
+
+/// Runs the program, which must not wait for another run.
+fn at_once(room: &Room, words: &[&str]) -> Said {
+    let since = Instant::now();
+    let said = ended(started(room, words));
+    assert!(since.elapsed() < AT_ONCE, "{words:?} took {:?}: {said:?}", since.elapsed());
+    said
+}
+
+/// The names of the files in a folder of the room.
+fn files(room: &Room, folder: &str) -> Vec<String> {
+    let names = fs::read_dir(room.path(folder)).unwrap().map(|file| file.unwrap().file_name().into_string().unwrap());
+    let mut names: Vec<String> = names.collect();
+    names.sort();
+    names
+}
+
+/// What a run that was cut off can have left is taken over, whatever it is.
+#[test]
+fn left_by_a_run() {
+    let room = parish();
+    let lefts: [&[u8]; 5] = [b"", b"half of one", &[7; 128], &[76, 0, 4, 0, 0, 0, 1].repeat(40), TABLE.as_bytes()];
+    let words = ["ask", "parish", QUESTION, "--tally", "t.bin", "--copy", "c.bin"];
+    for (run, left) in lefts.into_iter().enumerate() {
+        room.set("t.bin.new", left);
+        room.set("c.bin.new", left);
+        at_once(&room, &words).done();
+        assert_eq!(numbers(&room, "t.bin")[0], (run as u64 + 1) * LOOKS);
+        assert_eq!(fs::read(room.path("c.bin")).unwrap().len() as u64, 7 * LOOKS);
+        assert!(!room.path("t.bin.new").exists() && !room.path("c.bin.new").exists());
+    }
+    let drawn = room.run(&["draw", "parish", QUESTION, "-o", "-"]).done();
+    room.set("a.svg.new", &drawn[..drawn.len() / 2]);
+    at_once(&room, &["draw", "parish", QUESTION, "-o", "a.svg"]).done();
+    assert_eq!(fs::read_to_string(room.path("a.svg")).unwrap(), drawn);
+}
+
+/// What no run can have left is a person's: it is named, and stays. A link's other name keeps its bytes.
+#[test]
+fn left_by_a_person() {
+    let room = parish();
+    let notes = "what I thought of the tally\n".repeat(5);
+    room.set("t.bin.new", &notes);
+    let said = at_once(&room, &ask("t.bin", "0")).failed(1);
+    assert!(said.contains("t.bin.new is where a file is to be written, and holds something else: move it"), "{said}");
+    assert_eq!(fs::read_to_string(room.path("t.bin.new")).unwrap(), notes);
+    fs::remove_file(room.path("t.bin.new")).unwrap();
+    room.set("mine", "a short note");
+    fs::hard_link(room.path("mine"), room.path("t.bin.new")).unwrap();
+    at_once(&room, &ask("t.bin", "0")).done();
+    assert_eq!(fs::read(room.path("mine")).unwrap(), b"a short note");
+}
+
+/// What is no file is refused by name where a file is to be written, and no link is followed.
+#[test]
+fn no_file_beside() {
+    let room = parish();
+    room.set("mine", "");
+    fs::create_dir(room.path("folder")).unwrap();
+    let set_pipe = |path: &str| assert!(Command::new("mkfifo").arg(room.path(path)).status().unwrap().success());
+    let beside = ["t.bin.new", "c.bin.new", "a.svg.new", "parish/catalogue.bin.new", "parish/columns.csv.new"];
+    let words: [&[&str]; 5] = [
+        &ask("t.bin", "0"),
+        &["ask", "parish", QUESTION, "--copy", "c.bin"],
+        &["draw", "parish", QUESTION, "-o", "a.svg"],
+        &["import", "parish.csv", "parish"],
+        &["import", "parish.csv", "parish"],
+    ];
+    for (file, words) in beside.into_iter().zip(words) {
+        for target in ["pipe", "folder", "mine", "missing", "/dev/zero", "parish/columns.csv"] {
+            let path = room.path(file);
+            match target {
+                "pipe" => set_pipe(file),
+                "folder" => fs::create_dir(&path).unwrap(),
+                _ if target.starts_with('/') => symlink(target, &path).unwrap(),
+                _ => symlink(room.path(target), &path).unwrap(),
+            }
+            let said = at_once(&room, words).failed(1);
+            assert!(said.contains(&format!("{file} is not a file: ")), "{file}, {target}: {said}");
+            assert!(fs::symlink_metadata(&path).is_ok(), "{file}, {target}: it stays");
+            fs::remove_file(&path).or_else(|_| fs::remove_dir(&path)).unwrap();
+        }
+        at_once(&room, words).done();
+    }
+    assert_eq!(fs::read(room.path("mine")).unwrap(), b"");
+    assert!(!room.path("missing").exists());
+}
+
+/// A run is cut off while it holds one file and waits for another: what it left blocks nobody.
+#[test]
+fn cut_off_while_it_holds() {
+    for number in SIGNALS {
+        let room = parish();
+        let words = ["ask", "parish", QUESTION, "--tally", "t.bin", "--copy", "c.bin"];
+        let other = held(&room.path("t.bin.new"));
+        let mut waiting = started(&room, &words);
+        while !room.path("c.bin.new").exists() {
+            assert!(waiting.try_wait().unwrap().is_none(), "the run holds the copy before it waits for the tally");
+        }
+        signal(&waiting, number);
+        waiting.wait().unwrap();
+        assert!(room.path("c.bin.new").exists(), "the run was cut off too late to leave anything");
+        drop(other);
+        at_once(&room, &words).done();
+        assert_eq!(numbers(&room, "t.bin")[0], LOOKS);
+        assert!(!room.path("t.bin.new").exists() && !room.path("c.bin.new").exists());
+    }
+}
+
+/// Many runs with one tally, most of them cut off at some moment. None of the others is refused, and the tally is the
+/// sum over some of the runs, all among them that ended well.
+#[test]
+fn runs_cut_off_at_any_moment() {
+    let room = parish();
+    let (mut rng, mut least, mut most) = (Rng::new(17), [0_u64; 16], [0_u64; 16]);
+    for _ in 0..30 {
+        let readers: Vec<usize> = (0..8).map(|_| rng.between(0, 3)).collect();
+        let run = |reader: &usize| started(&room, &ask("t.bin", &reader.to_string()));
+        let mut running: Vec<_> = readers.iter().map(run).collect();
+        for run in &running {
+            thread::sleep(Duration::from_micros(rng.between(0, 2_000) as u64));
+            if rng.chance(70) {
+                signal(run, *rng.pick(&SIGNALS));
+            }
+        }
+        for (reader, run) in readers.into_iter().zip(running.drain(..)) {
+            let output = run.wait_with_output().unwrap();
+            most[reader] += LOOKS;
+            if output.status.code().is_some() {
+                Said::of(output).done();
+                least[reader] += LOOKS;
+            }
+        }
+    }
+    let numbers = if room.path("t.bin").exists() { numbers(&room, "t.bin") } else { [0; 16] };
+    for reader in 0..16 {
+        let (number, least, most) = (numbers[reader], least[reader], most[reader]);
+        assert!(number % LOOKS == 0 && (least..=most).contains(&number), "reader {reader}: {least} {number} {most}");
+    }
+    at_once(&room, &ask("t.bin", "15")).done();
+    assert_eq!(self::numbers(&room, "t.bin")[15], LOOKS);
+    assert!(!room.path("t.bin.new").exists());
+}
+
+/// The question finds its entry only where names and catalogue are of one import.
+const BY_NAME: [&str; 3] = ["ask", "deeds", "all(first in 1..1, second in 2..2)"];
+
+/// Two tables with the same columns in another order: the earlier import's, of one entry, and the later one's, of two.
+const EARLIER: &str = "first,second\n1,2\n";
+const LATER: &str = "second,first\n2,1\n2,1\n";
+
+/// The files of a folder, each with its bytes.
+type Files<'a> = &'a [(&'a str, &'a [u8])];
+
+/// Every state in which an import can be cut off: the files of the folder, and how many entries there are to ask, if
+/// any.
+#[test]
+fn import_cut_off_after_each_step() {
+    let [[old, old_names], [new, new_names]] = [EARLIER, LATER].map(|table| {
+        let room = Room::new();
+        room.set("deeds.csv", table);
+        room.run(&["import", "deeds.csv", "deeds"]).done();
+        ["catalogue.bin", "columns.csv"].map(|file| fs::read(room.path("deeds").join(file)).unwrap())
+    });
+    let (c, n, new_c, new_n, next) =
+        ("catalogue.bin", "columns.csv", "catalogue.bin.new", "columns.csv.new", "columns.csv.next");
+    let (half, half_names, none): (&[u8], &[u8], &[u8]) = (&new[..new.len() / 2], &new_names[..20], b"");
+    let states: [(Files, usize); 17] = [
+        (&[], 0),
+        (&[(new_n, none)], 0),
+        (&[(new_n, none), (new_c, none)], 0),
+        (&[(new_n, none), (new_c, half)], 0),
+        (&[(new_n, none), (new_c, &new)], 0),
+        (&[(new_n, half_names), (new_c, &new)], 0),
+        (&[(new_n, &new_names), (new_c, &new)], 0),
+        (&[(n, &new_names), (new_c, &new)], 0),
+        (&[(c, &old), (n, &old_names), (new_n, none)], 1),
+        (&[(c, &old), (n, &old_names), (new_n, none), (new_c, none)], 1),
+        (&[(c, &old), (n, &old_names), (new_n, none), (new_c, half)], 1),
+        (&[(c, &old), (n, &old_names), (new_n, half_names), (new_c, &new)], 1),
+        (&[(c, &old), (n, &old_names), (new_n, &new_names), (new_c, &new)], 1),
+        (&[(c, &old), (n, &old_names), (next, &new_names), (new_c, &new)], 2),
+        (&[(c, &new), (n, &old_names), (next, &new_names)], 2),
+        // Another import had begun to wait for this one, and was cut off too.
+        (&[(c, &old), (n, &old_names), (next, &new_names), (new_c, &new), (new_n, none)], 2),
+        (&[(c, &new), (n, &old_names), (next, &new_names), (new_n, none)], 2),
+    ];
+    for (state, entries) in states {
+        let room = Room::new();
+        fs::create_dir(room.path("deeds")).unwrap();
+        state.iter().for_each(|(file, bytes)| room.set(&format!("deeds/{file}"), bytes));
+        let label = || state.iter().map(|(file, bytes)| format!("{file} {}", bytes.len())).collect::<Vec<_>>();
+        match entries {
+            0 => assert!(at_once(&room, &BY_NAME).failed(1).contains("searchroom import FILE.csv"), "{:?}", label()),
+            _ => assert!(at_once(&room, &BY_NAME).done().starts_with(&format!("{entries} of ")), "{:?}", label()),
+        }
+        room.set("deeds.csv", EARLIER);
+        at_once(&room, &["import", "deeds.csv", "deeds"]).done();
+        assert!(at_once(&room, &BY_NAME).done().starts_with("1 of 1 entry found\n"), "{:?}", label());
+        assert_eq!(files(&room, "deeds"), [c, n], "{:?}", label());
+    }
+}
+
+/// A catalogue that no import made stays, whatever an import that was cut off has left beside it.
+#[test]
+fn catalogue_that_no_import_made() {
+    let room = parish();
+    let [catalogue, names] =
+        ["catalogue.bin", "columns.csv"].map(|file| fs::read(room.path("parish").join(file)).unwrap());
+    let lefts: [Files; 4] = [
+        &[],
+        &[("columns.csv.new", b"")],
+        &[("columns.csv.new", &names), ("catalogue.bin.new", &catalogue)],
+        &[("catalogue.bin.new", &catalogue)],
+    ];
+    for left in lefts {
+        room.set("mine/catalogue.bin", [&catalogue[..], &[87, 0, 1, 1]].concat());
+        left.iter().for_each(|(file, bytes)| room.set(&format!("mine/{file}"), bytes));
+        assert!(
+            at_once(&room, &["ask", "mine", "c0 blank"]).done().starts_with("1 of 3 entries found (1 is withdrawn)\n")
+        );
+        let said = at_once(&room, &["import", "parish.csv", "mine"]).failed(1);
+        assert!(said.contains("mine/catalogue.bin has no columns.csv beside it: no import made it"), "{said}");
+        assert_eq!(fs::read(room.path("mine/catalogue.bin")).unwrap().len(), catalogue.len() + 4);
+        fs::remove_dir_all(room.path("mine")).unwrap();
+    }
+}
+
+/// An import is killed at each of its calls of the system, from the first file on, in a folder with an earlier import,
+/// in a new one, and in one where an import was cut off before: whoever asks gets what was there or what is new, and
+/// the next import is done.
+#[test]
+fn import_killed_at_each_step() {
+    let room = Room::new();
+    for (file, table) in [("a", EARLIER), ("b", LATER), ("c", "second,first\n2,1\n2,1\n2,1\n")] {
+        room.set(&format!("{file}.csv"), table);
+        room.run(&["import", &format!("{file}.csv"), file]).done();
+    }
+    let there_is_none =
+        "searchroom: there is no deeds/catalogue.bin: make it with `searchroom import FILE.csv deeds`\n";
+    let cut_off = "cp c/columns.csv deeds/columns.csv.next; cp c/catalogue.bin deeds/catalogue.bin.new";
+    let cases = [
+        ("rm -rf deeds; cp -r a deeds".to_owned(), "1 of 1 entry found\n"),
+        ("rm -rf deeds".to_owned(), there_is_none),
+        (format!("rm -rf deeds; cp -r a deeds; {cut_off}"), "3 of 3 entries found\n"),
+    ];
+    let ask = format!("\"$DESK\" ask deeds '{}' 2>&1 | head -n 1", BY_NAME[2]);
+    let last = format!("{ask}; \"$DESK\" import a.csv deeds > /dev/null; {ask}; ls deeds");
+    for (first, before) in cases {
+        let steps = Steps { first: &first, at_the_stop: "", last: &last };
+        let runs = steps.run(&room, "deeds", &["import", "b.csv", "deeds"]);
+        let told = |start: &str| runs.iter().filter(|(_, said)| said.starts_with(start)).count();
+        let (before, after) = (told(before), told("2 of 2 entries found\n"));
+        assert!(
+            before > 1 && after > 0 && before + after == runs.len() && runs.len() > 5,
+            "{first}: {before}, {after}, {runs:?}"
+        );
+        for (step, (_, said)) in runs.iter().enumerate() {
+            let is_done = said.ends_with("\n1 of 1 entry found\ncatalogue.bin\ncolumns.csv\n");
+            assert!(is_done, "{first}, step {step}: {said}");
+        }
+    }
+}
+
+/// A catalogue that can no longer be replaced when the import is made: that is told, and nothing of the import is lost.
+#[test]
+fn catalogue_that_cannot_be_replaced() {
+    let room = Room::new();
+    for (file, table) in [("a", EARLIER), ("b", LATER)] {
+        room.set(&format!("{file}.csv"), table);
+    }
+    let first = "rm -rf deeds; \"$DESK\" import a.csv deeds";
+    let at_the_stop = "cd deeds && [ -e columns.csv.next ] && rm catalogue.bin && mkdir catalogue.bin";
+    let last = format!("rmdir deeds/catalogue.bin; \"$DESK\" ask deeds '{}' 2>&1", BY_NAME[2]);
+    let steps = Steps { first, at_the_stop, last: &last };
+    let runs = steps.run(&room, "deeds", &["import", "b.csv", "deeds"]);
+    let failed: Vec<_> = runs.iter().filter(|(said, _)| said.contains("cannot replace ")).collect();
+    assert!(!failed.is_empty(), "{runs:?}");
+    assert!(failed.iter().all(|(_, said)| said.starts_with("2 of 2 entries found\n")), "{failed:?}");
+}
+
+/// Imports that are cut off at any moment, in an old folder or a new one: whoever asks gets the one catalogue or the
+/// other with its own names, or is told to import, and the next import is done.
+#[test]
+fn imports_cut_off_at_any_moment() {
+    let room = Room::new();
+    let fill: String = (0..2_000).map(|line| format!("3,3,a text of line {line}\n")).collect();
+    room.set("a.csv", format!("first,second,text\n1,2,\n{fill}"));
+    room.set("b.csv", format!("second,first,text\n2,1,\n{fill}"));
+    let since = Instant::now();
+    room.run(&["import", "a.csv", "deeds"]).done();
+    let (whole, mut rng) = (since.elapsed(), Rng::new(29));
+    for turn in 0..60 {
+        if turn % 8 == 7 {
+            fs::remove_dir_all(room.path("deeds")).unwrap();
+        }
+        let importing = started(&room, &["import", ["b.csv", "a.csv"][turn % 2], "deeds"]);
+        thread::sleep(whole.mul_f64(rng.between(0, 1_000) as f64 / 1_000.0));
+        signal(&importing, *rng.pick(&SIGNALS));
+        importing.wait_with_output().unwrap();
+        let is_there = room.path("deeds/catalogue.bin").exists();
+        let said = at_once(&room, &BY_NAME);
+        match is_there {
+            true => assert!(said.done().starts_with("1 of 2001 entries found\n"), "turn {turn}"),
+            false => assert!(said.failed(1).contains("searchroom import FILE.csv"), "turn {turn}"),
+        }
+        if !is_there || turn % 3 == 0 {
+            at_once(&room, &["import", "a.csv", "deeds"]).done();
+            assert!(at_once(&room, &BY_NAME).done().starts_with("1 of 2001 entries found\n"), "turn {turn}");
+            assert_eq!(files(&room, "deeds"), ["catalogue.bin", "columns.csv"], "turn {turn}");
+        }
+    }
+}

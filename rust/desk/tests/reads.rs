@@ -1,0 +1,151 @@
+//! Every file is read to an end: no more of it than could be of use, and nothing that is no file.
+
+mod desk {
+    pub mod parish;
+    pub mod room;
+    pub mod started;
+}
+
+use std::fs::{self, File};
+use std::os::unix::fs::symlink;
+use std::process::{Command, Stdio};
+
+use desk::parish::{QUESTION, TABLE, parish};
+use desk::room::{Room, Said};
+use desk::started::{ended, started};
+
+/// Runs the program with little memory: of a file that goes on for long it can hold but a part.
+fn with_little_memory(room: &Room, words: &[&str], mebibytes: usize) -> Said {
+    let program = room.command(words);
+    let mut shell = Command::new("sh");
+    shell.args(["-c", &format!("ulimit -v {}; exec \"$0\" \"$@\"", 1024 * mebibytes)]).arg(program.get_program());
+    shell.args(program.get_args()).current_dir(room.path(".")).stdout(Stdio::piped()).stderr(Stdio::piped());
+    ended(shell.spawn().expect("a shell"))
+}
+
+/// A file of so many zeros, which takes no room on the disk.
+fn set_zeros(room: &Room, name: &str, bytes: u64) {
+    File::create(room.path(name)).and_then(|file| file.set_len(bytes)).expect("a file of zeros");
+}
+
+fn set_pipe(room: &Room, name: &str) {
+    let _ = fs::remove_file(room.path(name));
+    assert!(Command::new("mkfifo").arg(room.path(name)).status().expect("mkfifo").success());
+}
+
+const ASK: [&str; 3] = ["ask", "parish", QUESTION];
+
+/// A pipe and a device are refused by name, wherever a file is read; nobody waits for them.
+#[test]
+fn what_is_no_file() {
+    let room = parish();
+    set_pipe(&room, "pipe");
+    for (file, words) in [
+        ("pipe", ["import", "pipe", "new"]),
+        ("/dev/zero", ["import", "/dev/zero", "new"]),
+        ("/dev/null", ["import", "/dev/null", "new"]),
+    ] {
+        let said = with_little_memory(&room, &words, 500).failed(1);
+        assert_eq!(said, format!("searchroom: {file} is not a file: name the CSV file\n"));
+    }
+    for file in ["parish/catalogue.bin", "parish/columns.csv"] {
+        for device in [None, Some("/dev/zero"), Some("/dev/null")] {
+            let room = parish();
+            match device {
+                None => set_pipe(&room, file),
+                Some(device) => {
+                    fs::remove_file(room.path(file)).unwrap();
+                    symlink(device, room.path(file)).unwrap();
+                }
+            }
+            for words in [&ASK[..], &["export", "parish"], &["explain", "parish", QUESTION, "0"]] {
+                let said = ended(started(&room, words)).failed(1);
+                assert_eq!(
+                    said,
+                    format!("searchroom: {file} is not a file: remove it, and import the CSV file again\n"),
+                    "{device:?}"
+                );
+            }
+        }
+    }
+    assert!(!room.path("new").exists());
+}
+
+/// The same where a run would add to a tally or replace a file.
+#[test]
+fn no_file_to_be_replaced() {
+    let room = parish();
+    set_pipe(&room, "pipe");
+    for words in [["ask", "--tally"], ["ask", "--copy"], ["draw", "-o"]] {
+        let run = started(&room, &[words[0], "parish", QUESTION, words[1], "pipe"]);
+        assert_eq!(ended(run).failed(1), "searchroom: pipe is not a file: name one, or one to be made\n");
+    }
+}
+
+/// Of a catalogue that is too large as much is read as the engine needs to refuse it.
+#[test]
+fn catalogue_too_large() {
+    let room = parish();
+    set_zeros(&room, "parish/catalogue.bin", 2 << 30);
+    let said = with_little_memory(&room, &ASK, 500).failed(1);
+    let size = "\n  in parish/catalogue.bin, which has more than 786,745 bytes: import the CSV file again\n";
+    assert!(said.starts_with("searchroom: refused ") && said.ends_with(size), "{said}");
+}
+
+/// The largest catalogue is read whole, and with one byte more it is refused.
+#[test]
+fn largest_catalogue() {
+    let room = Room::new();
+    let names: String = (0..16).map(|column| format!("n{column},")).collect();
+    let line = format!("{}no\n", "a text of 23 letters ab,".repeat(16));
+    room.set("deeds.csv", format!("{names}withdrawn\n{}", line.repeat(2_048)));
+    room.run(&["import", "deeds.csv", "deeds"]).done();
+    let mut bytes = fs::read(room.path("deeds/catalogue.bin")).unwrap();
+    assert_eq!(bytes.len(), 786_745);
+    assert!(room.run(&["ask", "deeds", "n15 blank"]).done().starts_with("0 of 2048 entries found\n"));
+    bytes.push(0);
+    room.set("deeds/catalogue.bin", bytes);
+    let said = room.run(&["ask", "deeds", "n15 blank"]).failed(1);
+    assert!(said.starts_with("searchroom: refused ") && said.contains("has more than 786,745 bytes"), "{said}");
+}
+
+/// A tally that is too large is the engine's to refuse, and stays.
+#[test]
+fn tally_too_large() {
+    let room = parish();
+    set_zeros(&room, "tally.bin", 2 << 30);
+    let said = with_little_memory(&room, &["ask", "parish", QUESTION, "--tally", "tally.bin"], 500).failed(1);
+    assert!(said.starts_with("searchroom: refused 17: "), "{said}");
+    assert!(
+        said.ends_with("\n  the tally's file has more than 128 bytes: name another, or one that is not there yet\n")
+    );
+    assert_eq!(fs::metadata(room.path("tally.bin")).unwrap().len(), 2 << 30);
+}
+
+/// Names of 64 MiB and more were written by no import.
+#[test]
+fn names_too_large() {
+    let room = parish();
+    set_zeros(&room, "parish/columns.csv", 2 << 30);
+    let said = with_little_memory(&room, &ASK, 500).failed(1);
+    let most = "more than 67,174,400 bytes: remove it, and import the CSV file again\n";
+    assert_eq!(said, format!("searchroom: parish/columns.csv has {most}"));
+}
+
+/// A CSV file has at most 64 MiB.
+#[test]
+fn csv_file_too_large() {
+    let room = Room::new();
+    set_zeros(&room, "deeds.csv", 4 << 30);
+    let said = with_little_memory(&room, &["import", "deeds.csv", "deeds"], 500).failed(1);
+    let why = "more than 67,108,864 bytes, and no more are read: split it; a catalogue has at most 2,048 entries\n";
+    assert_eq!(said, format!("searchroom: deeds.csv has {why}"));
+    assert!(!room.path("deeds").exists());
+    // Spaces around a name are no part of it.
+    let spaces = " ".repeat((64 << 20) - TABLE.len());
+    room.set("deeds.csv", format!("year{spaces}{}", &TABLE[4..]));
+    room.run(&["import", "deeds.csv", "deeds"]).done();
+    assert!(room.run(&["ask", "deeds", "year blank"]).done().starts_with("1 of 3 entries found\n"));
+    room.set("deeds.csv", format!("year {spaces}{}", &TABLE[4..]));
+    assert_eq!(room.run(&["import", "deeds.csv", "deeds"]).failed(1), format!("searchroom: deeds.csv has {why}"));
+}
