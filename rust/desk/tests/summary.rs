@@ -72,7 +72,7 @@ fn mended_file() {
 /// The list of an office: a line for each column and kind, whatever the order in which they were found.
 #[test]
 fn faults_are_summed_up_by_column() {
-    let title = |line: usize| if line % 2 == 0 { "T".repeat(20 + line) } else { "Łódź".to_owned() };
+    let title = |line: usize| if line.is_multiple_of(2) { "T".repeat(20 + line) } else { "Łódź".to_owned() };
     let mut table = "Title,Year:number,Withdrawn\n".to_owned();
     for line in 2..32 {
         let year = ["c.1650", "01650", "16501650165"][line % 3];
