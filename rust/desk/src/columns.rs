@@ -1,15 +1,17 @@
 //! The headings of a folder's catalogue, which `columns.csv` keeps.
 
+use searchroom::MAX_COLUMNS;
+
 use crate::catalogue::{Catalogue, Column, from_latin_1, number_of};
-use crate::heading::{Heading, Holds, WITHDRAWN, name_faults};
-use crate::import;
+use crate::heading::{Heading, Holds, WITHDRAWN};
+use crate::names::{MAX_CELL, Names};
 
 /// The first line of `columns.csv`.
 pub const FIRST_LINE: &str = "header,values\n";
 
-/// The most bytes of `columns.csv` that are read: the cells of any first line that is imported, and what each column
-/// adds.
-pub const MAX_BYTES: usize = import::MAX_BYTES + 65_536;
+/// The most bytes of `columns.csv`: for each column and the mark the longest cell, of letters of four bytes, and what
+/// stands around it: quotes, a comma, what the column holds and the line's end.
+pub const MAX_BYTES: usize = FIRST_LINE.len() + (MAX_COLUMNS + 1) * (4 * MAX_CELL + 32);
 
 /// The headings that `columns.csv` keeps; none where it is not of the form that [`write`] gives it, or the names are faulty.
 pub fn read(bytes: &[u8]) -> Option<Vec<Heading>> {
@@ -19,6 +21,9 @@ pub fn read(bytes: &[u8]) -> Option<Vec<Heading>> {
     let mut headings = Vec::new();
     for record in csv::Reader::from_reader(bytes).into_records() {
         let record = record.ok()?;
+        if headings.len() > MAX_COLUMNS {
+            return None;
+        }
         let holds = match record.get(1)? {
             "number" => Holds::Numbers,
             "text" => Holds::Texts,
@@ -29,8 +34,8 @@ pub fn read(bytes: &[u8]) -> Option<Vec<Heading>> {
         };
         headings.push(Heading { cell: record[0].to_owned(), holds });
     }
-    let cells: Vec<String> = headings.iter().map(|heading| heading.cell.clone()).collect();
-    name_faults(&cells).is_empty().then_some(headings)
+    let mut names = Names::default();
+    headings.iter().all(|heading| names.judge(heading.cell.as_bytes()).is_none()).then_some(headings)
 }
 
 pub fn write(headings: &[Heading]) -> Vec<u8> {

@@ -1,10 +1,12 @@
 //! What may be wrong in a CSV file, in words: of one fault, and of many of a kind.
 
 use std::fmt;
+use std::mem::{Discriminant, discriminant};
 
 use searchroom::{MAX_COLUMNS, MAX_ENTRIES, MAX_TEXT};
 
 use crate::catalogue::MAX_NUMBER;
+use crate::names::Misnamed;
 use crate::show::{counted, grouped, quoted, shown};
 
 /// Something in a CSV file that does not fit a catalogue.
@@ -25,13 +27,16 @@ pub struct Cell {
     pub value: String,
 }
 
+/// A kind of faults; names are of as many kinds as there are reasons against one.
+pub type Kind = (Discriminant<What>, Option<Discriminant<Misnamed>>);
+
 #[derive(Clone)]
 pub enum What {
     NoLine,
     /// So many entries are too many.
     Entries(usize),
     /// A name in the first line, and why it cannot stand.
-    Name(String),
+    Name(Misnamed),
     /// A column too many.
     Column,
     NoColumn,
@@ -43,7 +48,7 @@ pub enum What {
     NotUtf8,
     /// A text of so many letters.
     Long(usize),
-    /// Letters outside ISO 8859-1.
+    /// Letters outside ISO 8859-1; [`What::outside`] makes it.
     Outside(Vec<char>),
     NotDigits,
     LeadingZero,
@@ -54,7 +59,7 @@ pub enum What {
     OtherWord(usize, String),
 }
 
-/// How many letters of a value or a name a fault shows.
+/// How many letters of a value or a name a fault shows, and how many that are not in ISO 8859-1.
 const SHOWN: usize = 60;
 
 impl fmt::Display for Fault {
@@ -68,6 +73,12 @@ impl fmt::Display for Fault {
 }
 
 impl Cell {
+    /// A cell of this place. Of a name and a value no more is kept than shows that the rest is cut.
+    pub fn new(place: usize, name: &str, value: &str) -> Cell {
+        let kept = |text: &str| text.chars().take(SHOWN + 1).collect();
+        Cell { place, name: kept(name), value: kept(value) }
+    }
+
     /// The column, counted from 1 as spreadsheets do, and its name.
     pub fn column(&self) -> String {
         let name = if self.name.is_empty() { String::new() } else { format!(" ({})", shown(&cut(&self.name))) };
@@ -89,7 +100,7 @@ impl fmt::Display for What {
                 let (entries, most) = (grouped(*entries), grouped(MAX_ENTRIES));
                 format!("{entries} entries; at most {most} fit, so split the file before this line")
             }
-            What::Name(why) => why.clone(),
+            What::Name(why) => why.to_string(),
             What::Column => format!("a column too many; a catalogue has at most {MAX_COLUMNS} beside the mark"),
             What::NoColumn => "no column beside the mark; add one, for a catalogue has at least one".to_owned(),
             What::Values(values, columns) => {
@@ -103,8 +114,9 @@ impl fmt::Display for What {
             What::NotUtf8 => format!("not UTF-8; {AS_UTF_8}"),
             What::Long(letters) => format!("{letters} letters; a text has at most {MAX_TEXT}, so shorten it"),
             What::Outside(letters) => {
-                let letters: Vec<String> = letters.iter().map(|&letter| outside(letter)).collect();
-                format!("not in ISO 8859-1: {}; {OTHER_LETTERS}", letters.join(", "))
+                let more = if letters.len() > SHOWN { ", …" } else { "" };
+                let letters: Vec<String> = letters.iter().take(SHOWN).map(|&letter| outside(letter)).collect();
+                format!("not in ISO 8859-1: {}{more}; {OTHER_LETTERS}", letters.join(", "))
             }
             What::NotDigits | What::LeadingZero | What::TooLarge => format!("not a number; write {}", a_number()),
             What::NoWord => format!("neither yes nor no; {YES_OR_NO}"),
@@ -114,6 +126,18 @@ impl fmt::Display for What {
 }
 
 impl What {
+    /// The fault of a text with letters outside ISO 8859-1, if it has any. Of many no more are kept than are shown.
+    pub fn outside(text: &str) -> Option<What> {
+        let outside = text.chars().filter(|&letter| u8::try_from(letter).is_err());
+        let letters: Vec<char> = outside.take(SHOWN + 1).collect();
+        (!letters.is_empty()).then_some(What::Outside(letters))
+    }
+
+    /// What faults of one kind have in common: they call for the same advice.
+    pub fn kind(&self) -> Kind {
+        (discriminant(self), if let What::Name(why) = self { Some(discriminant(why)) } else { None })
+    }
+
     /// Is this a fault of the first line, which has one line for all columns in a summary?
     pub fn is_of_first_line(&self) -> bool {
         matches!(self, What::Name(_) | What::Column)
@@ -124,7 +148,7 @@ impl What {
     pub fn many(&self, count: usize, line: usize, column: &str, longest: usize) -> String {
         let first = format!("first in line {line}");
         let (what, advice) = match self {
-            What::Name(_) => (format!("names do not fit, first in {column}"), "give each column one of its own"),
+            What::Name(why) => why.many(column),
             What::Column => {
                 (format!("columns over the {MAX_COLUMNS} that fit beside the mark, first {column}"), "remove them")
             }
@@ -169,7 +193,7 @@ fn outside(letter: char) -> String {
     format!("{} (U+{:04X})", shown(&letter.to_string()), u32::from(letter))
 }
 
-const AS_UTF_8: &str = "save the file as \"CSV UTF-8\"";
+pub const AS_UTF_8: &str = "save the file as \"CSV UTF-8\"";
 const OTHER_LETTERS: &str = "use other letters";
 const STANDS_IN_QUOTES: &str = "a value that holds the separator stands in quotes";
 const KEEPS_ITS_SEPARATOR: &str = "an empty value keeps its separator";

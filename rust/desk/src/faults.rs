@@ -1,9 +1,7 @@
 //! The faults of a CSV file, counted and told. However many there are, only the first of them are kept, and the first
 //! of each kind.
 
-use std::mem::{Discriminant, discriminant};
-
-use crate::fault::{Cell, Fault, What};
+use crate::fault::{self, Cell, Fault, What};
 
 /// With more faults than these a summary stands before them.
 const FEW: usize = 5;
@@ -29,7 +27,7 @@ struct Kind {
     longest: usize,
 }
 
-type Key = (Option<usize>, Discriminant<What>);
+type Key = (Option<usize>, fault::Kind);
 
 impl Faults {
     pub fn count(&self) -> usize {
@@ -94,5 +92,5 @@ fn place(fault: &Fault) -> (usize, Option<usize>) {
 /// What a fault has in common with others.
 fn key(fault: &Fault) -> Key {
     let column = fault.cell.as_ref().map(|cell| cell.place);
-    (column.filter(|_| !fault.what.is_of_first_line()), discriminant(&fault.what))
+    (column.filter(|_| !fault.what.is_of_first_line()), fault.what.kind())
 }

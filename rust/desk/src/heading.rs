@@ -1,12 +1,7 @@
 //! What stands at the head of a column: its name, and what it holds.
 
-use crate::show::is_of_no_width;
-
 /// The name of the column that is the mark.
 pub const WITHDRAWN: &str = "withdrawn";
-
-/// The most letters of a name: more would not fit any page.
-const MAX_NAME: usize = 200;
 
 /// The words that say that an entry is withdrawn, and that it is not; their case does not matter.
 const WITHDRAWN_WORDS: [&str; 4] = ["yes", "true", "1", "x"];
@@ -77,26 +72,4 @@ pub fn without_zeros(digits: &str) -> &str {
 pub fn says_withdrawn(word: &str) -> Option<bool> {
     let is_among = |words: &[&str]| words.iter().any(|known| same(known, word));
     is_among(&WITHDRAWN_WORDS).then_some(true).or_else(|| is_among(&PRESENT_WORDS).then_some(false))
-}
-
-/// What is wrong with the names in a first line: the place of the cell, and the fault.
-pub fn name_faults(cells: &[String]) -> Vec<(usize, String)> {
-    let mut faults = Vec::new();
-    let mut column = 0;
-    for (place, cell) in cells.iter().enumerate() {
-        let name = name_of(cell).0;
-        if name.is_empty() {
-            faults.push((place, "no name; write one into the first line, or remove the column".to_owned()));
-        } else if let Some(earlier) = cells[..place].iter().position(|other| same(name_of(other).0, name)) {
-            faults.push((place, format!("column {} has that name too; each column needs its own", earlier + 1)));
-        } else if name.chars().count() > MAX_NAME {
-            faults.push((place, format!("a name has at most {MAX_NAME} letters; shorten it")));
-        } else if let Some(letter) = name.chars().find(|&letter| is_of_no_width(letter)) {
-            faults.push((place, format!("nobody sees the letter U+{:04X} in this name; remove it", u32::from(letter))));
-        } else if numbered(name).is_some_and(|number| number != column.to_string()) {
-            faults.push((place, format!("in a question {name} is the column of that number; give it another name")));
-        }
-        column += usize::from(!marks(cell));
-    }
-    faults
 }

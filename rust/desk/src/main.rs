@@ -17,6 +17,7 @@ mod found;
 mod heading;
 mod import;
 mod lock;
+mod names;
 mod notation;
 mod ours;
 mod pair;

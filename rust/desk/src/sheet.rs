@@ -8,9 +8,10 @@ use crate::catalogue::{Catalogue, Column, number_of};
 use crate::fault::{Cell, Fault, What, a_number};
 use crate::faults::Faults;
 use crate::folder::Folder;
-use crate::heading::{Heading, Holds, marks, name_faults, name_of, says_withdrawn};
+use crate::heading::{Heading, Holds, marks, name_of, says_withdrawn};
+use crate::names::Names;
 use crate::show::{counted, quoted};
-use crate::table::{Line, likely_separator, read_lines};
+use crate::table::{Lines, likely_separator};
 
 /// What was noticed in a CSV file.
 #[derive(Default)]
@@ -20,6 +21,17 @@ pub struct Noticed {
     pub notes: Vec<Option<String>>,
     /// What may surprise in the file as a whole.
     pub remarks: Vec<String>,
+}
+
+/// How many values of a line are judged: as many as fit with the mark. Where there are more, the first line has faults.
+const JUDGED: usize = MAX_COLUMNS + 1;
+
+/// An entry: the number of its line, and the cells that are judged.
+struct Line {
+    number: usize,
+    cells: Vec<Vec<u8>>,
+    /// Has it no value at all?
+    is_blank: bool,
 }
 
 /// A column of the file: its place in a line, its name, and the value of each line with the line's number.
@@ -32,17 +44,14 @@ struct Values<'a> {
 impl Noticed {
     /// The folder that the file's bytes make; none if there are faults.
     pub fn folder(&mut self, bytes: &[u8], separator: u8) -> Option<Folder> {
-        let lines = read_lines(bytes, separator, &mut self.faults);
-        let Some((first, rest)) = lines.split_first() else {
+        let mut lines = Lines::of(bytes, separator);
+        if !lines.read(&mut self.faults) {
             self.fault(1, None, What::NoLine);
             return None;
-        };
-        let cells = self.first_line(first);
-        let whole: Vec<&Line> = rest.iter().filter(|line| self.is_whole(line, cells.len())).collect();
-        if let Some(line) = rest.get(MAX_ENTRIES) {
-            self.fault(line.number, None, What::Entries(rest.len()));
         }
-        if let Some((option, values)) = likely_separator(bytes, first.cells.len()) {
+        let (columns, cells) = (lines.columns, self.first_line(&lines));
+        let whole = self.entries(lines);
+        if let Some((option, values)) = likely_separator(bytes, columns) {
             let likely = format!("the first line has {values} values if separated by {option}");
             self.remarks.push(format!("{likely}: try --separator {option}"));
         }
@@ -67,11 +76,11 @@ impl Noticed {
     }
 
     /// Remarks on a first line that looks like an entry, and on entries that look like none.
-    fn remark(&mut self, cells: &[String], lines: &[&Line]) {
+    fn remark(&mut self, cells: &[String], lines: &[Line]) {
         if let Some(cell) = cells.iter().find(|cell| number_of(cell).is_some()) {
             self.remarks.push(format!("{cell} is taken for a column's name: the first line names the columns"));
         }
-        let blank: Vec<_> = lines.iter().filter(|line| line.cells.iter().all(Vec::is_empty)).collect();
+        let blank: Vec<_> = lines.iter().filter(|line| line.is_blank).collect();
         if let [first, ..] = blank.as_slice() {
             let (one, more) = ("entry has no value at all, in line", "entries have no value at all, the first in line");
             self.remarks.push(format!("{} {}", counted(blank.len(), one, more), first.number));
@@ -84,48 +93,53 @@ impl Noticed {
 
     /// A fault of a column's value.
     fn unfit(&mut self, column: &Values, line: usize, value: &str, what: What) {
-        let cell = Cell { place: column.place, name: column.name.to_owned(), value: value.to_owned() };
-        self.fault(line, Some(cell), what);
-    }
-
-    /// A fault of a cell of the first line.
-    fn unfit_name(&mut self, first: &Line, place: usize, what: What) {
-        let value = String::from_utf8_lossy(&first.cells[place]).into_owned();
-        self.fault(first.number, Some(Cell { place, name: String::new(), value }), what);
+        self.fault(line, Some(Cell::new(column.place, column.name, value)), what);
     }
 
     /// The cells of the first line, which name the columns.
-    fn first_line(&mut self, first: &Line) -> Vec<String> {
-        let cells: Vec<String> = first.cells.iter().map(|cell| String::from_utf8_lossy(cell).into_owned()).collect();
-        let faulty: Vec<usize> =
-            (0..cells.len()).filter(|&place| str::from_utf8(&first.cells[place]).is_err()).collect();
-        for &place in &faulty {
-            self.unfit_name(first, place, What::Name(What::NotUtf8.to_string()));
+    fn first_line(&mut self, first: &Lines) -> Vec<String> {
+        let mut names = Names::default();
+        let text = |cell: &[u8]| String::from_utf8_lossy(cell).into_owned();
+        for (place, cell) in first.cells.iter().enumerate() {
+            if let Some(what) = names.judge(cell) {
+                self.fault(first.number, Some(Cell::new(place, "", &text(cell))), what);
+            }
         }
-        for (place, why) in name_faults(&cells).into_iter().filter(|(place, _)| !faulty.contains(place)) {
-            self.unfit_name(first, place, What::Name(why));
+        if names.columns == 0 {
+            self.fault(first.number, Some(Cell::new(0, "", &text(&first.cells[0]))), What::NoColumn);
         }
-        let columns: Vec<usize> = (0..cells.len()).filter(|&place| !marks(&cells[place])).collect();
-        for &place in columns.iter().skip(MAX_COLUMNS) {
-            self.unfit_name(first, place, What::Column);
+        first.cells.iter().take(JUDGED).map(text).collect()
+    }
+
+    /// The entries that have a value for each column. As many are judged as fit, and the others counted.
+    fn entries(&mut self, mut lines: Lines) -> Vec<Line> {
+        let mut whole = Vec::new();
+        for _ in 0..MAX_ENTRIES {
+            if !lines.read(&mut self.faults) {
+                return whole;
+            }
+            if self.is_whole(&lines) {
+                let cells = lines.cells.iter().take(JUDGED).map(<[u8]>::to_vec).collect();
+                whole.push(Line { number: lines.number, cells, is_blank: lines.cells.iter().all(<[u8]>::is_empty) });
+            }
         }
-        if columns.is_empty() {
-            self.unfit_name(first, 0, What::NoColumn);
+        if lines.read(&mut self.faults) {
+            self.fault(lines.number, None, What::Entries(MAX_ENTRIES + 1 + lines.count()));
         }
-        cells
+        whole
     }
 
     /// Has a line a value for each column?
-    fn is_whole(&mut self, line: &Line, columns: usize) -> bool {
+    fn is_whole(&mut self, line: &Lines) -> bool {
         let values = line.cells.len();
-        if values != columns {
-            self.fault(line.number, None, What::Values(values, columns));
+        if values != line.columns {
+            self.fault(line.number, None, What::Values(values, line.columns));
         }
-        values == columns
+        values == line.columns
     }
 
     /// The values of a column.
-    fn values<'a>(&mut self, place: usize, name: &'a str, lines: &[&'a Line]) -> Values<'a> {
+    fn values<'a>(&mut self, place: usize, name: &'a str, lines: &'a [Line]) -> Values<'a> {
         let mut column = Values { place, name, values: Vec::new() };
         for line in lines {
             let bytes = &line.cells[place];
@@ -178,9 +192,8 @@ impl Noticed {
         if letters > MAX_TEXT {
             self.unfit(column, line, value, What::Long(letters));
         }
-        let outside: Vec<char> = value.chars().filter(|&letter| u8::try_from(letter).is_err()).collect();
-        if !outside.is_empty() {
-            self.unfit(column, line, value, What::Outside(outside));
+        if let Some(what) = What::outside(value) {
+            self.unfit(column, line, value, what);
         }
         value.chars().map(|letter| u8::try_from(letter).ok()).collect()
     }

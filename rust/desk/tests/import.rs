@@ -233,6 +233,14 @@ fn long_text_with_letters_outside_iso_8859_1() {
     let place = format!("deeds.csv, line 2, column 1 (parish), {value:?}");
     let why = expect_faults(format!("parish\n{value}\n"), &[&place, &place]);
     assert!(why[0].starts_with("24 letters; ") && why[1].starts_with("not in ISO 8859-1: Ł (U+0141); "), "{why:?}");
+    // Of more letters than a value shows no more are listed.
+    for (letters, end) in
+        [(60, "; use other letters"), (61, ", …; use other letters"), (5_000, ", …; use other letters")]
+    {
+        let lines = faults(format!("parish\n{}\n", "Ł".repeat(letters)));
+        let listed = vec!["Ł (U+0141)"; 60].join(", ");
+        assert!(lines[1].ends_with(&format!("not in ISO 8859-1: {listed}{end}")), "{letters}: {lines:?}");
+    }
 }
 
 #[test]

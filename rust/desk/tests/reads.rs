@@ -122,13 +122,13 @@ fn tally_too_large() {
     assert_eq!(fs::metadata(room.path("tally.bin")).unwrap().len(), 2 << 30);
 }
 
-/// Names of 64 MiB and more were written by no import.
+/// Names of more bytes than the longest cells have were written by no import.
 #[test]
 fn names_too_large() {
     let room = parish();
     set_zeros(&room, "parish/columns.csv", 2 << 30);
     let said = with_little_memory(&room, &ASK, 500).failed(1);
-    let most = "more than 67,174,400 bytes: remove it, and import the CSV file again\n";
+    let most = "more than 68,558 bytes: remove it, and import the CSV file again\n";
     assert_eq!(said, format!("searchroom: parish/columns.csv has {most}"));
 }
 
@@ -141,11 +141,67 @@ fn csv_file_too_large() {
     let why = "more than 67,108,864 bytes, and no more are read: split it; a catalogue has at most 2,048 entries\n";
     assert_eq!(said, format!("searchroom: deeds.csv has {why}"));
     assert!(!room.path("deeds").exists());
-    // Spaces around a name are no part of it.
+    // One of just so many is read: what is told of it is its own.
     let spaces = " ".repeat((64 << 20) - TABLE.len());
     room.set("deeds.csv", format!("year{spaces}{}", &TABLE[4..]));
-    room.run(&["import", "deeds.csv", "deeds"]).done();
-    assert!(room.run(&["ask", "deeds", "year blank"]).done().starts_with("1 of 3 entries found\n"));
+    let said = room.run(&["import", "deeds.csv", "deeds"]).failed(1);
+    assert!(said.contains("a name has at most 1,000 letters; remove spaces\n"), "{said}");
     room.set("deeds.csv", format!("year {spaces}{}", &TABLE[4..]));
     assert_eq!(room.run(&["import", "deeds.csv", "deeds"]).failed(1), format!("searchroom: deeds.csv has {why}"));
+}
+
+/// The longest names of a file that is imported are read again.
+#[test]
+fn longest_names() {
+    let cell = |place: usize| format!("{place}{:\u{3000}<998}", "😀".repeat(198));
+    let names: Vec<String> = (10..26).map(cell).collect();
+    let mark = format!("{:>1000}", "withdrawn");
+    let room = Room::new();
+    room.set("deeds.csv", format!("{},{mark}\n{}true\n{}false\n", names.join(","), ",".repeat(16), ",".repeat(16)));
+    room.run(&["import", "deeds.csv", "deeds"]).done();
+    let said = room.run(&["ask", "deeds", "c15 blank"]).done();
+    assert!(said.starts_with("1 of 2 entries found (1 is withdrawn)\n"), "{said}");
+    room.set(
+        "deeds.csv",
+        room.run(&["export", "deeds"]).done().replacen("\u{20}withdrawn", "\u{20}\u{20}withdrawn", 1),
+    );
+    let said = room.run(&["import", "deeds.csv", "deeds"]).failed(1);
+    assert!(said.contains("deeds.csv, line 1, column 17, \" "), "{said}");
+    assert!(said.contains("with its spaces a name has at most 1,000 letters; remove spaces\n"), "{said}");
+}
+
+/// A file may have as many cells, lines or letters as bytes. No more lines and letters are kept than are told, and of
+/// the cells of one line little more than where each ends.
+#[test]
+fn cells_without_number() {
+    let bytes = 16 << 20;
+    let over = "16777201 columns over the 16 that fit beside the mark, first column 17; remove them";
+    for (table, mebibytes, first) in [
+        (
+            ",".repeat(bytes),
+            400,
+            format!("deeds.csv: 16 columns without a name, first column 1; {NAMES}\ndeeds.csv: {over}\n"),
+        ),
+        (format!("a,b\n{}", ",\n".repeat(bytes / 2)), 200, entries(bytes / 2)),
+        (format!("a\n{}", "1\n".repeat(bytes / 2)), 200, entries(bytes / 2)),
+        (
+            format!("a,b\n{}", ",".repeat(bytes)),
+            400,
+            "deeds.csv, line 2: 16777217 values; the first line has 2; ".to_owned(),
+        ),
+        (format!("a\n{}\n", "Ł".repeat(bytes / 2)), 200, "deeds.csv, line 2, column 1 (a), \"ŁŁŁ".to_owned()),
+    ] {
+        let room = Room::new();
+        room.set("deeds.csv", table);
+        let said = with_little_memory(&room, &["import", "deeds.csv", "deeds"], mebibytes).failed(1);
+        assert!(said.contains(&first), "{first}: {said}");
+        assert!(said.len() < 10_000, "{} bytes", said.len());
+    }
+}
+
+const NAMES: &str = "write names into the first line, or remove the columns";
+
+fn entries(number: usize) -> String {
+    assert_eq!(number, 8_388_608);
+    "deeds.csv, line 2050: 8,388,608 entries; at most 2,048 fit, so split the file before this line\n".to_owned()
 }

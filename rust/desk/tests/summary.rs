@@ -52,10 +52,10 @@ fn twenty_faults_are_told_one_by_one() {
     for (faults, more) in [(21, "and 1 more"), (323, "and 303 more")] {
         assert_eq!(said(&alike(faults)), head(faults).chain([more.to_owned(), last(faults)]).collect::<Vec<_>>());
     }
-    // The entry too many is one more fault, the only one of its kind.
+    // The entry too many is one more fault, the only one of its kind, and those from it on are not judged.
     let lines = said(&alike(200_000));
     assert!(lines[0].starts_with("bonds.csv, line 2050: 200,000 entries; at most 2,048 fit"), "{lines:?}");
-    let expected = head(200_000).chain(["and 199980 more".to_owned(), last(200_001)]);
+    let expected = head(2_048).chain(["and 2028 more".to_owned(), last(2_049)]);
     assert_eq!(lines[1..], expected.collect::<Vec<_>>());
 }
 
@@ -114,10 +114,6 @@ fn every_kind_is_summed_up() {
         ),
         (format!("a\n1\n{}", six("\n")), "6 empty lines, first line 3; write \"\" for a blank value, or remove them"),
         (
-            format!("a,b,{}\n", six("\u{200B},")),
-            "7 names do not fit, first in column 3; give each column one of its own",
-        ),
-        (
             (1..23).map(|column| format!("n{column}")).collect::<Vec<_>>().join(","),
             "6 columns over the 16 that fit beside the mark, first column 17; remove them",
         ),
@@ -130,6 +126,50 @@ fn every_kind_is_summed_up() {
     let first =
         "bonds.csv, column 2 (b): 6 values that are not UTF-8, first in line 3; save the file as \"CSV UTF-8\"\n";
     assert!(lines.starts_with(first), "{lines}");
+}
+
+/// Names are of as many kinds as there are reasons against one, each with its own advice.
+#[test]
+fn every_kind_of_names_is_summed_up() {
+    let names = |name: &dyn Fn(usize) -> String| format!("ok,{}\n", (1..7).map(name).collect::<Vec<_>>().join(","));
+    let spaces = " ".repeat(1_000);
+    for (table, first) in [
+        (
+            names(&|at| format!("n{at}\u{200B}")),
+            "names with letters that nobody sees, the first U+200B in column 2; remove these letters",
+        ),
+        (
+            names(&|_| String::new()),
+            "columns without a name, first column 2; write names into the first line, or remove the columns",
+        ),
+        (
+            names(&|_| "OK".to_owned()),
+            "names that an earlier column has too, first in column 2; give each column one of its own",
+        ),
+        (names(&|at| "é".repeat(200 + at)), "names over 200 letters, first in column 2; shorten them"),
+        (
+            names(&|at| format!("n{at}{spaces}")),
+            "names over 1,000 letters with their spaces, first in column 2; remove spaces",
+        ),
+        (
+            names(&|at| format!("c{}", at + 1)),
+            "names that are columns of other numbers in a question, first in column 2; give them other names",
+        ),
+    ] {
+        assert_eq!(said(&table)[0], format!("bonds.csv: 6 {first}"), "{table}");
+    }
+}
+
+/// A list in another encoding has accents in the names too: the cause is told, not that the names do not fit.
+#[test]
+fn names_that_are_not_utf_8() {
+    let room = Room::new();
+    room.set("bonds.csv", b"\xE91,\xE92,\xE93,\xE94,\xE95,\xE96,b,B\n1,2,3,4,5,6,7,8\n");
+    let said = room.run(&["import", "bonds.csv", "bonds"]).failed(1);
+    let first = "bonds.csv: 6 names that are not UTF-8, first in column 1; save the file as \"CSV UTF-8\"\n";
+    assert!(said.starts_with(first), "{said}");
+    let other = "bonds.csv, line 1, column 8, \"B\": column 7 has that name too; each column needs its own\n";
+    assert_eq!(said.matches(other).count(), 1, "{said}");
 }
 
 /// The only fault of its kind is told once: among the first, or else in the summary.
@@ -160,8 +200,27 @@ fn columns_beyond_all_measure() {
     let lines = said(&format!("{}\n{values}\n{values}\n", names.join(",")));
     assert_eq!(lines[0], "bonds.csv: 2984 columns over the 16 that fit beside the mark, first column 17; remove them");
     assert!(lines[1].starts_with("bonds.csv, column 1 (n0): 2 values over 23 letters, "), "{}", lines[1]);
-    assert_eq!(lines.last(), Some(&last(2_984 + 6_000)));
+    // Of each line as many values are judged as fit with the mark.
+    assert_eq!(lines.last(), Some(&last(2_984 + 2 * 17)));
     assert!(lines.len() <= 122, "{} lines", lines.len());
+}
+
+/// A line of very many names ends as soon as any other, and so does one that names the mark as often.
+#[test]
+fn names_without_number() {
+    let names: Vec<String> = (0..200_000).map(|column| format!("{column:x}")).collect();
+    let lines = said(&names.join(","));
+    assert!(lines[1].starts_with("bonds.csv: 199984 columns over the 16 that fit beside the mark, "), "{}", lines[1]);
+    assert_eq!(lines.last(), Some(&last(199_984)));
+    let lines = said(&format!("a,{}", vec!["withdrawn"; 200_000].join(",")));
+    let taken = "199999 names that an earlier column has too, first in column 3; give each column one of its own";
+    assert_eq!(lines[0], format!("bonds.csv: {taken}"));
+    assert!(lines[1].ends_with(": column 2 has that name too; each column needs its own"), "{}", lines[1]);
+    // The mark may stand behind columns that do not fit.
+    let lines = said(&format!("{},withdrawn,Withdrawn", names[..40].join(",")));
+    let twice = "bonds.csv, line 1, column 42, \"Withdrawn\": column 41 has that name too; each column needs its own";
+    assert!(lines.iter().any(|line| line == twice), "{lines:?}");
+    assert_eq!(lines.last(), Some(&last(25)));
 }
 
 /// A file that is no list has no name for its column that fits a line.
