@@ -59,16 +59,20 @@ impl Folder {
 /// A file for what a run writes. It may not be one of the folder's own, nor have a name in .new.
 pub fn output(folder: &Path, path: &Path) -> Result<Target, Failure> {
     let file = Target::of(path)?;
-    let columns = Target::of(&columns_file(folder));
-    let is_next = columns.as_ref().is_ok_and(|columns| file.file == next(columns));
-    if is_next || [columns, Target::of(&catalogue_file(folder))].iter().flatten().any(|own| own.is_same(&file)) {
-        return Err(Failure::Desk(format!("{} is the catalogue's own: name another file", shown_path(path))));
-    }
     if file.is_beside() {
         let path = shown_path(path);
         return Err(Failure::Desk(format!("{path}: names in .new are for files being written; name another file")));
     }
+    if is_own(folder, &file) {
+        return Err(Failure::Desk(format!("{} is the catalogue's own: name another file", shown_path(path))));
+    }
     Ok(file)
+}
+
+/// Is this the catalogue of a folder or its names, or where an import writes them?
+pub fn is_own(folder: &Path, file: &Target) -> bool {
+    let own = [catalogue_file(folder), columns_file(folder)].map(|own| Target::of(&own).ok());
+    own.iter().flatten().any(|own| [own.file.clone(), own.beside(), next(own)].contains(&file.file))
 }
 
 pub fn refuse_a_file(folder: &Path) -> Result<(), Failure> {

@@ -7,16 +7,21 @@ use searchroom::{MAX_ENTRIES, check_catalogue};
 
 use crate::catalogue::Column;
 use crate::failure::Failure;
-use crate::folder::{Folder, catalogue_file};
+use crate::folder::{Folder, catalogue_file, is_own};
 use crate::reading;
 use crate::sheet::Noticed;
 use crate::show::{counted, grouped, shown, shown_path};
+use crate::target::Target;
 
 /// The most bytes of a CSV file that is imported, 64 MiB: 32,768 for each entry that a catalogue can have.
 pub const MAX_BYTES: usize = 32_768 * MAX_ENTRIES;
 
 /// Imports a CSV file into a folder. Everything that does not fit is told on standard error, and then nothing is written.
 pub fn import(file: &Path, folder: &Path, separator: u8, out: &mut dyn Write) -> Result<(), Failure> {
+    // The names of a catalogue read as a CSV file too, and would be all that is left of it.
+    if Target::of(file).is_ok_and(|file| is_own(folder, &file)) {
+        return Err(Failure::Desk(format!("{} is the catalogue's own: {NAME_IT}", shown_path(file))));
+    }
     let bytes = read(file)?;
     let mut noticed = Noticed::default();
     let imported = noticed.folder(&bytes, separator);
@@ -26,9 +31,10 @@ pub fn import(file: &Path, folder: &Path, separator: u8, out: &mut dyn Write) ->
     report(&noticed, &imported, folder, out)
 }
 
+const NAME_IT: &str = "name the CSV file";
+
 /// The bytes of the CSV file.
 fn read(file: &Path) -> Result<Vec<u8>, Failure> {
-    const NAME_IT: &str = "name the CSV file";
     if file.is_dir() {
         return Err(Failure::Desk(format!("{} is a folder: {NAME_IT}", shown_path(file))));
     }

@@ -25,6 +25,7 @@ fn catalogue_is_no_output() {
         "parish/catalogue.bin",
         "./parish/columns.csv",
         "parish/columns.csv.next",
+        "parish/catalogue.bin.next",
         "parish/../parish/catalogue.bin",
         "link",
     ] {
@@ -36,6 +37,28 @@ fn catalogue_is_no_output() {
     }
     let after = ["catalogue.bin", "columns.csv"].map(|name| fs::read(room.path("parish").join(name)).unwrap());
     assert_eq!(before, after);
+}
+
+/// Nor are they what is imported into their own folder, however they are spelled: their names read as a table too.
+#[test]
+fn catalogue_is_not_imported() {
+    let room = parish();
+    symlink("parish/columns.csv", room.path("link")).unwrap();
+    symlink("parish", room.path("there")).unwrap();
+    let before = ["catalogue.bin", "columns.csv"].map(|name| fs::read(room.path("parish").join(name)).unwrap());
+    for name in ["catalogue.bin.new", "catalogue.bin.next", "columns.csv.new", "columns.csv.next"] {
+        fs::copy(room.path("parish.csv"), room.path("parish").join(name)).unwrap();
+    }
+    let all = ["", ".new", ".next"].map(|ending| ["columns.csv", "catalogue.bin"].map(|name| name.to_owned() + ending));
+    let own = all.as_flattened().iter().map(|name| format!("parish/{name}"));
+    for file in own.chain(["link", "there/columns.csv", "parish/../parish/columns.csv"].map(str::to_owned)) {
+        let said = room.run(&["import", &file, "parish"]).failed(1);
+        assert_eq!(said, format!("searchroom: {file} is the catalogue's own: name the CSV file\n"));
+    }
+    let after = ["catalogue.bin", "columns.csv"].map(|name| fs::read(room.path("parish").join(name)).unwrap());
+    assert_eq!(before, after);
+    // Into another folder they may be imported as any table.
+    room.run(&["import", "parish/columns.csv", "names"]).done();
 }
 
 /// A tally and a copy in one file: told at once, however the file is spelled.
@@ -60,11 +83,11 @@ fn columns_that_no_import_wrote() {
         room.set("deeds.csv", TABLE);
         for file in ["mine/columns.csv", "deeds.csv"] {
             let said = room.run(&["import", file, "mine"]).failed(1);
-            let reason = "mine/columns.csv is not of the form that an import writes";
-            assert!(
-                said.contains(reason) || file == "mine/columns.csv" && said.contains("nothing was written"),
-                "{said}"
-            );
+            let reason = match file {
+                "mine/columns.csv" => "mine/columns.csv is the catalogue's own: name the CSV file",
+                _ => "mine/columns.csv is not of the form that an import writes",
+            };
+            assert!(said.contains(reason), "{said}");
             assert_eq!(fs::read_to_string(room.path("mine/columns.csv")).unwrap(), table);
             assert_eq!(fs::read_dir(room.path("mine")).unwrap().count(), 1, "nothing beside it");
         }
