@@ -16,9 +16,11 @@ pub const COPY: &[u8] = &[76, 0, 4];
 /// A picture's first words. Other programs' pictures begin in other ways.
 pub const PICTURE: &str = "<svg xmlns=\"http://www.w3.org/2000/svg\" class=\"searchroom\" ";
 
-/// Can a run have left this file when it was cut off? A tally shows it by its size alone; so does what has only begun.
+/// Can a run have left this file when it was cut off? A tally shows it by its size alone; all else by how it begins, as
+/// far as it goes.
 pub fn may_be_left(file: &File, path: &Path) -> Result<bool, Failure> {
     let bytes = reading::at_most(Tally::BYTES + 1, file, path)?;
     let beginnings = [COPY, PICTURE.as_bytes(), catalogue::BEGINNING, columns::FIRST_LINE.as_bytes()];
-    Ok(bytes.len() <= Tally::BYTES || beginnings.iter().any(|beginning| bytes.starts_with(beginning)))
+    let is_begun = |beginning: &&[u8]| bytes.starts_with(beginning) || beginning.starts_with(&bytes);
+    Ok(bytes.len() == Tally::BYTES || beginnings.iter().any(is_begun))
 }

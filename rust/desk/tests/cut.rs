@@ -46,11 +46,13 @@ fn files(room: &Room, folder: &str) -> Vec<String> {
     names
 }
 
-/// What a run that was cut off can have left is taken over, whatever it is.
+/// What a run that was cut off can have left is removed, whatever it is.
 #[test]
 fn left_by_a_run() {
     let room = parish();
-    let lefts: [&[u8]; 5] = [b"", b"half of one", &[7; 128], &[76, 0, 4, 0, 0, 0, 1].repeat(40), TABLE.as_bytes()];
+    let copy = [76, 0, 4, 0, 0, 0, 1].repeat(40);
+    let lefts: [&[u8]; 8] =
+        [b"", &copy[..1], &copy[..40], &copy, b"<svg xm", b"header,", b"header,values\nyear,nu", &[7; 128]];
     let words = ["ask", "parish", QUESTION, "--tally", "t.bin", "--copy", "c.bin"];
     for (run, left) in lefts.into_iter().enumerate() {
         room.set("t.bin.new", left);
@@ -66,20 +68,34 @@ fn left_by_a_run() {
     assert_eq!(fs::read_to_string(room.path("a.svg")).unwrap(), drawn);
 }
 
-/// What no run can have left is a person's: it is named, and stays. A link's other name keeps its bytes.
+/// What no run can have left is a person's, be it so short: it is named, and stays.
 #[test]
 fn left_by_a_person() {
     let room = parish();
     let notes = "what I thought of the tally\n".repeat(5);
-    room.set("t.bin.new", &notes);
-    let said = at_once(&room, &ask("t.bin", "0")).failed(1);
-    assert!(said.contains("t.bin.new is where a file is to be written, and holds something else: move it"), "{said}");
-    assert_eq!(fs::read_to_string(room.path("t.bin.new")).unwrap(), notes);
-    fs::remove_file(room.path("t.bin.new")).unwrap();
-    room.set("mine", "a short note");
+    for note in
+        [b"\n", b"x", &b"<svg>"[..], b"header;values\n", TABLE.as_bytes(), &[7; 127], &[7; 129], notes.as_bytes()]
+    {
+        room.set("t.bin.new", note);
+        // Though the run be refused in any case.
+        for order in ["0,1,2", "0"] {
+            let said = at_once(&room, &[&ask("t.bin", "0")[..], &["--order", order]].concat()).failed(1);
+            let message = "t.bin.new is where a file is to be written, and holds something else: move it";
+            assert!(said.contains(message), "{note:?}: {said}");
+            assert_eq!(fs::read(room.path("t.bin.new")).unwrap(), note);
+        }
+    }
+    assert!(!room.path("t.bin").exists());
+}
+
+/// What was left is removed and not written to: a link's other name keeps its bytes.
+#[test]
+fn link_of_a_tally() {
+    let room = parish();
+    room.set("mine", [7; 128]);
     fs::hard_link(room.path("mine"), room.path("t.bin.new")).unwrap();
     at_once(&room, &ask("t.bin", "0")).done();
-    assert_eq!(fs::read(room.path("mine")).unwrap(), b"a short note");
+    assert_eq!(fs::read(room.path("mine")).unwrap(), [7; 128]);
 }
 
 /// What is no file is refused by name where a file is to be written, and no link is followed.
