@@ -1,5 +1,6 @@
 //! A folder of the desk's: `catalogue.bin`, and `columns.csv`, which keeps the headings of the file it was imported from.
 
+use std::io::{self, Write};
 use std::path::{Path, PathBuf};
 
 use crate::catalogue::{self, Catalogue};
@@ -29,13 +30,16 @@ impl Folder {
     /// Reads a folder. One without `columns.csv` has columns named by their numbers alone.
     pub fn open(folder: &Path) -> Result<Folder, Failure> {
         refuse_a_file(folder)?;
-        let Pair { bytes, names } = Pair::read(folder)?;
+        let Pair { catalogue: (file, bytes), names, is_cut_off } = Pair::read(folder)?;
+        if is_cut_off {
+            tell_of_a_cut(folder);
+        }
         let catalogue = Catalogue::read(&bytes).map_err(|refusal| {
             let size = match bytes.len() > catalogue::MAX_BYTES {
                 true => format!(", which has more than {} bytes", grouped(catalogue::MAX_BYTES)),
                 false => String::new(),
             };
-            let help = format!("\n  in {}{size}: import the CSV file again", shown_path(&catalogue_file(folder)));
+            let help = format!("\n  in {}{size}: import the CSV file again", shown_path(&file));
             Failure::Refused { refusal, help }
         })?;
         let Some((file, names)) = names else {
@@ -54,6 +58,14 @@ impl Folder {
     pub fn names(&self) -> Vec<&str> {
         self.headings.iter().filter(|heading| !heading.is_mark()).map(Heading::name).collect()
     }
+}
+
+/// Tells whoever asks that they get what an import has made that was cut off.
+fn tell_of_a_cut(folder: &Path) {
+    let folder = shown_path(folder);
+    let what = "an import was cut off before its files were in place, and columns.csv.next and catalogue.bin.next hold";
+    // Where nobody hears it the answer is still that of one import.
+    let _ = writeln!(io::stderr(), "searchroom: in {folder} {what}: import the CSV file again to finish it");
 }
 
 /// A file for what a run writes. It may not be one of the folder's own, nor have a name in .new.

@@ -23,8 +23,8 @@ const PATIENCE: Duration = Duration::from_secs(5);
 pub struct Lock {
     path: PathBuf,
     pub file: File,
-    /// Made here and not renamed yet: to be removed at the end.
-    left: bool,
+    /// Made here, and nobody's yet: to be removed at the end.
+    to_remove: bool,
 }
 
 impl Lock {
@@ -49,9 +49,7 @@ impl Lock {
             Ok(file) => Lock::of_made(path, file),
             Err(error) if error.kind() == io::ErrorKind::AlreadyExists => {
                 // What was left is not written to: it may be a link of a file that has another name too.
-                let left = Lock::of_left(path)?;
-                left.map_or(Ok(()), |left| fs::remove_file(&left.path))
-                    .map_err(|error| failed("remove", path, &error))?;
+                Lock::of_left(path)?.map_or(Ok(()), Lock::remove)?;
                 Ok(None)
             }
             Err(error) => Err(failed("write", path, &error)),
@@ -64,7 +62,7 @@ impl Lock {
             // Where nothing can be locked nobody holds it.
             let _ = fs::remove_file(path);
         })?;
-        lock.iter_mut().for_each(|lock| lock.left = true);
+        lock.iter_mut().for_each(|lock| lock.to_remove = true);
         Ok(lock)
     }
 
@@ -108,7 +106,7 @@ impl Lock {
             Err(TryLockError::WouldBlock) => return Ok(None),
             Err(TryLockError::Error(error)) => return Err(failed("lock", path, &error)),
         }
-        let lock = Lock { path: path.to_path_buf(), file, left: false };
+        let lock = Lock { path: path.to_path_buf(), file, to_remove: false };
         Ok(lock.stands().then_some(lock))
     }
 
@@ -120,7 +118,12 @@ impl Lock {
 
     /// From now on the file stays, whatever comes.
     pub fn keep(&mut self) {
-        self.left = false;
+        self.to_remove = false;
+    }
+
+    /// Removes the file, while it is still held.
+    pub fn remove(self) -> Result<(), Failure> {
+        fs::remove_file(&self.path).map_err(|error| failed("remove", &self.path, &error))
     }
 
     /// Gives the file another name, in the same folder, down to the disk.
@@ -131,7 +134,6 @@ impl Lock {
         }
         fs::rename(&self.path, to).map_err(|error| Failure::file("replace", to, &error))?;
         self.path = to.to_path_buf();
-        self.keep();
         // The name is there; of a folder that cannot be synced no more can be had.
         let _ = File::open(folder_of(to)).and_then(|folder| folder.sync_all());
         Ok(())
@@ -142,7 +144,7 @@ impl Drop for Lock {
     fn drop(&mut self) {
         // While it is still held, so that nobody else's is removed. What stays if this fails is removed by the next
         // run.
-        if self.left && self.stands() {
+        if self.to_remove && self.stands() {
             let _ = fs::remove_file(&self.path);
         }
     }

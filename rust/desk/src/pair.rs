@@ -12,16 +12,32 @@ use crate::reading::{self, is_same_file};
 use crate::show::{grouped, shown_path};
 use crate::target::Target;
 
-/// Where the names of an import stand from when it is made until its catalogue is in place.
-pub fn next(columns: &Target) -> PathBuf {
-    columns.with_ending(".next")
+/// Where the names of an import and its catalogue stand from when it is made until both are in place.
+pub fn next(own: &Target) -> PathBuf {
+    own.with_ending(".next")
+}
+
+/// What is wrong with the next names where their catalogue is missing.
+pub const NO_CATALOGUE: &str = "has no catalogue.bin.next beside it";
+
+/// Refuses what stands where an import that is made has its names or its catalogue, and does not begin as they do: they
+/// come there whole.
+pub fn refuse_others(path: &Path, bytes: &[u8], beginning: &[u8]) -> Result<(), Failure> {
+    let is_own = bytes.starts_with(beginning);
+    is_own.then_some(()).ok_or_else(|| not_left(path, "is not of the form that an import writes"))
+}
+
+/// Files that no import can have left in this way.
+pub fn not_left(path: &Path, why: &str) -> Failure {
+    let path = shown_path(path);
+    Failure::Desk(format!("{path} {why}: no import left it so; move it, and import the CSV file again"))
 }
 
 /// A file that was opened for its names.
 struct Names {
     path: PathBuf,
     file: File,
-    /// Those of an import whose catalogue may not be in place yet.
+    /// Those of an import that may not be in place yet.
     is_next: bool,
 }
 
@@ -44,8 +60,13 @@ impl Names {
         self.is_next == other.is_next && self.file.metadata().ok().zip(other.file.metadata().ok()).is_some_and(same)
     }
 
+    /// Does the import whose names these are no longer go on? Who imports holds them by a lock of their own.
+    fn are_left(&self) -> bool {
+        self.is_next && self.file.try_lock_shared().is_ok()
+    }
+
     /// The file's path and its bytes.
-    fn read(self) -> Result<(PathBuf, Vec<u8>), Failure> {
+    fn read(self) -> Result<Bytes, Failure> {
         let bytes = reading::at_most(columns::MAX_BYTES + 1, &self.file, &self.path)?;
         if bytes.len() > columns::MAX_BYTES {
             let (path, most) = (shown_path(&self.path), grouped(columns::MAX_BYTES));
@@ -55,25 +76,43 @@ impl Names {
     }
 }
 
-/// The bytes of a catalogue and of its names, of one import.
+/// A file that was read, and its bytes.
+type Bytes = (PathBuf, Vec<u8>);
+
+/// A catalogue and its names, of one import.
 pub struct Pair {
-    pub bytes: Vec<u8>,
-    /// The file that the names were read from, and its bytes.
-    pub names: Option<(PathBuf, Vec<u8>)>,
+    pub catalogue: Bytes,
+    pub names: Option<Bytes>,
+    /// They are of an import that was cut off before they were in place.
+    pub is_cut_off: bool,
 }
 
 impl Pair {
     pub fn read(folder: &Path) -> Result<Pair, Failure> {
         let both = patiently(|_| {
             let names = Names::standing(folder)?;
-            let bytes = read_catalogue(folder, names.as_ref().is_some_and(|names| names.is_next))?;
+            let is_next = names.as_ref().is_some_and(|names| names.is_next);
+            let catalogue = read_catalogue(folder, is_next)?;
+            // Asked before the second look: names that are left and then still there were not put in place meanwhile.
+            let is_cut_off = names.as_ref().is_some_and(Names::are_left);
             // An import that came between has put other names there.
             let is_same = match (&names, Names::standing(folder)?) {
                 (Some(names), Some(standing)) => names.is_same(&standing),
                 (names, standing) => names.is_none() && standing.is_none(),
             };
+            if !is_same {
+                return Ok(None);
+            }
             let names = names.map(Names::read).transpose()?;
-            Ok(is_same.then_some(Pair { bytes, names }))
+            let catalogue = catalogue.ok_or_else(|| match &names {
+                Some((names, _)) if is_next => not_left(names, NO_CATALOGUE),
+                _ => no_catalogue(folder),
+            })?;
+            if let Some((names, bytes)) = names.as_ref().filter(|_| is_next) {
+                refuse_others(names, bytes, columns::FIRST_LINE.as_bytes())?;
+                refuse_others(&catalogue.0, &catalogue.1, catalogue::BEGINNING)?;
+            }
+            Ok(Some(Pair { catalogue, names, is_cut_off }))
         })?;
         let folder = shown_path(folder);
         both.ok_or_else(|| {
@@ -82,18 +121,19 @@ impl Pair {
     }
 }
 
-/// The catalogue's bytes, or so many that the engine refuses them. That of the next names is still beside, or already
-/// in place.
-fn read_catalogue(folder: &Path, is_next: bool) -> Result<Vec<u8>, Failure> {
+/// The catalogue, or so many of its bytes that the engine refuses them; none if it is not there. That of the next names
+/// stands beside them.
+fn read_catalogue(folder: &Path, is_next: bool) -> Result<Option<Bytes>, Failure> {
     let file = catalogue_file(folder);
-    let beside = if is_next { Some(Target::of(&file)?.beside()) } else { None };
-    for path in beside.iter().chain([&file]) {
-        if let Some(opened) = reading::open(path, REMOVE)? {
-            return reading::at_most(catalogue::MAX_BYTES + 1, &opened, path);
-        }
-    }
-    let (file, folder) = (shown_path(&file), shown_path(folder));
-    Err(Failure::Desk(format!("there is no {file}: make it with `searchroom import FILE.csv {folder}`")))
+    let path = if is_next { next(&Target::of(&file)?) } else { file };
+    let Some(opened) = reading::open(&path, REMOVE)? else { return Ok(None) };
+    let bytes = reading::at_most(catalogue::MAX_BYTES + 1, &opened, &path)?;
+    Ok(Some((path, bytes)))
+}
+
+fn no_catalogue(folder: &Path) -> Failure {
+    let (file, folder) = (shown_path(&catalogue_file(folder)), shown_path(folder));
+    Failure::Desk(format!("there is no {file}: make it with `searchroom import FILE.csv {folder}`"))
 }
 
 /// What to do about a file of the folder's that is none.

@@ -1,7 +1,7 @@
 //! Files that are read: plain ones alone, and never more of one than could be of use.
 
 use std::fs::{File, Metadata, OpenOptions};
-use std::io::{self, Read};
+use std::io::{self, Read, Seek};
 use std::os::unix::fs::{MetadataExt, OpenOptionsExt};
 use std::path::Path;
 
@@ -20,10 +20,10 @@ pub fn open(path: &Path, advice: &str) -> Result<Option<File>, Failure> {
     }
 }
 
-/// The bytes of a file, at most so many.
+/// The bytes of a file from its beginning on, at most so many.
 pub fn at_most(most: usize, file: &File, path: &Path) -> Result<Vec<u8>, Failure> {
-    let mut bytes = Vec::new();
-    let read = file.take(most as u64).read_to_end(&mut bytes);
+    let (mut file, mut bytes) = (file, Vec::new());
+    let read = file.rewind().and_then(|()| file.take(most as u64).read_to_end(&mut bytes));
     read.map_err(|error| Failure::file("read", path, &error))?;
     Ok(bytes)
 }

@@ -67,19 +67,17 @@ impl Replacement {
         written.map_err(|error| Failure::file("write", &self.target.beside(), &error))
     }
 
-    /// What was written stays, though the file be not replaced.
-    pub fn keep(&mut self) {
-        self.lock.keep();
-    }
-
-    /// Gives what was written another name, under which it is still held.
-    pub fn rename(&mut self, to: &Path) -> Result<(), Failure> {
-        self.lock.rename(to)
+    /// Gives what was written another name, under which it is still held, and is removed at the end unless it is kept.
+    pub fn set_aside(mut self, to: &Path) -> Result<Lock, Failure> {
+        self.lock.rename(to)?;
+        Ok(self.lock)
     }
 
     /// Puts what was written in the file's place.
     pub fn finish(mut self) -> Result<(), Failure> {
-        self.lock.rename(&self.target.file)
+        self.lock.rename(&self.target.file)?;
+        self.lock.keep();
+        Ok(())
     }
 }
 

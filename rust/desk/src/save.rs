@@ -3,11 +3,13 @@
 use std::fs;
 use std::path::Path;
 
+use crate::catalogue;
 use crate::columns;
 use crate::failure::Failure;
 use crate::folder::{Folder, catalogue_file, columns_file, refuse_a_file};
 use crate::lock::Lock;
-use crate::pair::next;
+use crate::pair::{NO_CATALOGUE, next, not_left, refuse_others};
+use crate::reading;
 use crate::replace::{Access, Replacement};
 use crate::show::shown_path;
 use crate::target::Target;
@@ -34,28 +36,56 @@ impl Folder {
         }
         let mut new_catalogue = Replacement::begin(catalogue.clone(), Access::Usual)?;
         new_catalogue.write(&self.bytes)?;
-        new_columns.write(&columns::write(&self.headings))?;
         if !catalogue.file.exists() {
             // Nobody can ask yet. A catalogue never stands there without its names.
+            new_columns.write(&columns::write(&self.headings))?;
             new_columns.finish()?;
             return new_catalogue.finish();
         }
+        let mut kept = new_catalogue.set_aside(&next(&catalogue))?;
+        new_columns.write(&columns::write(&self.headings))?;
         // In this one step the import is made: from now on whoever asks takes these names, and the catalogue with them.
-        new_columns.rename(&next(&columns))?;
-        new_catalogue.keep();
+        let mut names = new_columns.set_aside(&next(&columns))?;
+        names.keep();
+        kept.keep();
+        Made { names, kept }.put_in_place(&self.bytes, &catalogue, &columns)
+    }
+}
+
+/// An import that is made: its names and its catalogue, as they were set aside.
+struct Made {
+    names: Lock,
+    kept: Lock,
+}
+
+impl Made {
+    /// Puts the import in its place. The catalogue that was set aside stays until the names are there, so that whoever
+    /// asks never takes new names with whatever stands in the catalogue's place.
+    fn put_in_place(mut self, bytes: &[u8], catalogue: &Target, columns: &Target) -> Result<(), Failure> {
+        let mut new_catalogue = Replacement::begin(catalogue.clone(), Access::Usual)?;
+        new_catalogue.write(bytes)?;
         new_catalogue.finish()?;
-        new_columns.finish()
+        self.names.rename(&columns.file)?;
+        self.kept.remove()
     }
 }
 
 /// Finishes an import that was made and then cut off. One that goes on is waited for.
 fn finish_cut_off(catalogue: &Target, columns: &Target) -> Result<(), Failure> {
-    let Some(mut names) = Lock::of_left_in_time(&next(columns))? else { return Ok(()) };
-    // Only the import whose names these are can have begun a catalogue, and then it is whole.
-    if let Some(mut left) = Lock::of_left_in_time(&catalogue.beside())? {
-        left.rename(&catalogue.file)?;
+    let (next_catalogue, next_columns) = (next(catalogue), next(columns));
+    let names = Lock::of_left_in_time(&next_columns)?;
+    match (names, Lock::of_left_in_time(&next_catalogue)?) {
+        // It was set aside by an import that was then not made, or that is in its place.
+        (None, kept) => kept.map_or(Ok(()), Lock::remove),
+        (Some(_), None) => Err(not_left(&next_columns, NO_CATALOGUE)),
+        (Some(names), Some(kept)) => {
+            let first_line = reading::at_most(columns::FIRST_LINE.len(), &names.file, &next_columns)?;
+            refuse_others(&next_columns, &first_line, columns::FIRST_LINE.as_bytes())?;
+            let bytes = reading::at_most(catalogue::MAX_BYTES + 1, &kept.file, &next_catalogue)?;
+            refuse_others(&next_catalogue, &bytes, catalogue::BEGINNING)?;
+            Made { names, kept }.put_in_place(&bytes, catalogue, columns)
+        }
     }
-    names.rename(&columns.file)
 }
 
 fn not_imported(file: &Target, why: &str) -> Failure {

@@ -199,6 +199,22 @@ const LATER: &str = "second,first\n2,1\n2,1\n";
 /// The files of a folder, each with its bytes.
 type Files<'a> = &'a [(&'a str, &'a [u8])];
 
+/// Where the names and the catalogue of an import stand that is made.
+const NEXT: &str = "columns.csv.next";
+const KEPT: &str = "catalogue.bin.next";
+
+/// What a run says beside the line which tells that an import was cut off, and whether that was told.
+fn heard(room: &Room, words: &[&str]) -> (Said, bool) {
+    let mut output = room.command(words).output().unwrap();
+    let note = "searchroom: in deeds an import was cut off before its files were in place, and columns.csv.next and \
+                catalogue.bin.next hold: import the CSV file again to finish it\n";
+    let is_told = output.stderr == note.as_bytes();
+    if is_told {
+        output.stderr.clear();
+    }
+    (Said::of(output), is_told)
+}
+
 /// Every state in which an import can be cut off: the files of the folder, and how many entries there are to ask, if
 /// any.
 #[test]
@@ -209,10 +225,11 @@ fn import_cut_off_after_each_step() {
         room.run(&["import", "deeds.csv", "deeds"]).done();
         ["catalogue.bin", "columns.csv"].map(|file| fs::read(room.path("deeds").join(file)).unwrap())
     });
-    let (c, n, new_c, new_n, next) =
-        ("catalogue.bin", "columns.csv", "catalogue.bin.new", "columns.csv.new", "columns.csv.next");
+    let (c, n, new_c, new_n) = ("catalogue.bin", "columns.csv", "catalogue.bin.new", "columns.csv.new");
     let (half, half_names, none): (&[u8], &[u8], &[u8]) = (&new[..new.len() / 2], &new_names[..20], b"");
-    let states: [(Files, usize); 17] = [
+    let (old, old_names) = ((c, &old[..]), (n, &old_names[..]));
+    let (next, kept) = ((NEXT, &new_names[..]), (KEPT, &new[..]));
+    let states: [(Files, usize); 23] = [
         (&[], 0),
         (&[(new_n, none)], 0),
         (&[(new_n, none), (new_c, none)], 0),
@@ -221,31 +238,113 @@ fn import_cut_off_after_each_step() {
         (&[(new_n, half_names), (new_c, &new)], 0),
         (&[(new_n, &new_names), (new_c, &new)], 0),
         (&[(n, &new_names), (new_c, &new)], 0),
-        (&[(c, &old), (n, &old_names), (new_n, none)], 1),
-        (&[(c, &old), (n, &old_names), (new_n, none), (new_c, none)], 1),
-        (&[(c, &old), (n, &old_names), (new_n, none), (new_c, half)], 1),
-        (&[(c, &old), (n, &old_names), (new_n, half_names), (new_c, &new)], 1),
-        (&[(c, &old), (n, &old_names), (new_n, &new_names), (new_c, &new)], 1),
-        (&[(c, &old), (n, &old_names), (next, &new_names), (new_c, &new)], 2),
-        (&[(c, &new), (n, &old_names), (next, &new_names)], 2),
+        (&[old, old_names, (new_n, none)], 1),
+        (&[old, old_names, (new_n, none), (new_c, none)], 1),
+        (&[old, old_names, (new_n, none), (new_c, half)], 1),
+        (&[old, old_names, (new_n, none), (new_c, &new)], 1),
+        (&[old, old_names, (new_n, none), kept], 1),
+        (&[old, old_names, (new_n, half_names), kept], 1),
+        (&[old, old_names, (new_n, &new_names), kept], 1),
+        (&[old, old_names, next, kept], 2),
+        (&[old, old_names, next, kept, (new_c, none)], 2),
+        (&[old, old_names, next, kept, (new_c, half)], 2),
+        (&[old, old_names, next, kept, (new_c, &new)], 2),
+        (&[(c, &new), old_names, next, kept], 2),
+        (&[(c, &new), (n, &new_names), kept], 2),
         // Another import had begun to wait for this one, and was cut off too.
-        (&[(c, &old), (n, &old_names), (next, &new_names), (new_c, &new), (new_n, none)], 2),
-        (&[(c, &new), (n, &old_names), (next, &new_names), (new_n, none)], 2),
+        (&[old, old_names, next, kept, (new_n, none)], 2),
+        (&[(c, &new), old_names, next, kept, (new_n, none)], 2),
     ];
     for (state, entries) in states {
         let room = Room::new();
         fs::create_dir(room.path("deeds")).unwrap();
         state.iter().for_each(|(file, bytes)| room.set(&format!("deeds/{file}"), bytes));
         let label = || state.iter().map(|(file, bytes)| format!("{file} {}", bytes.len())).collect::<Vec<_>>();
+        let (said, is_told) = heard(&room, &BY_NAME);
         match entries {
-            0 => assert!(at_once(&room, &BY_NAME).failed(1).contains("searchroom import FILE.csv"), "{:?}", label()),
-            _ => assert!(at_once(&room, &BY_NAME).done().starts_with(&format!("{entries} of ")), "{:?}", label()),
+            0 => assert!(said.failed(1).contains("searchroom import FILE.csv"), "{:?}", label()),
+            _ => assert!(said.done().starts_with(&format!("{entries} of ")), "{:?}", label()),
         }
+        assert_eq!(is_told, state.contains(&next), "{:?}", label());
         room.set("deeds.csv", EARLIER);
         at_once(&room, &["import", "deeds.csv", "deeds"]).done();
         assert!(at_once(&room, &BY_NAME).done().starts_with("1 of 1 entry found\n"), "{:?}", label());
         assert_eq!(files(&room, "deeds"), [c, n], "{:?}", label());
     }
+}
+
+/// After a cut somebody puts other files in their places: names are never taken with another import's catalogue, and
+/// every word tells of the cut.
+#[test]
+fn other_files_after_a_cut() {
+    let room = Room::new();
+    for (file, table) in [("a", EARLIER), ("b", LATER)] {
+        room.set(&format!("{file}.csv"), table);
+        room.run(&["import", &format!("{file}.csv"), file]).done();
+    }
+    let copy = |from: &str, to: &str| fs::copy(room.path(from), room.path(to)).unwrap();
+    fs::create_dir(room.path("deeds")).unwrap();
+    for (from, to) in [("b/columns.csv", NEXT), ("b/catalogue.bin", KEPT), ("b/catalogue.bin", "catalogue.bin")] {
+        copy(from, &format!("deeds/{to}"));
+    }
+    for file in ["catalogue.bin", "columns.csv"] {
+        copy(&format!("a/{file}"), &format!("deeds/{file}"));
+    }
+    let words: [&[&str]; 4] = [
+        &BY_NAME,
+        &["explain", "deeds", BY_NAME[2], "1"],
+        &["draw", "deeds", BY_NAME[2], "-o", "-"],
+        &["export", "deeds"],
+    ];
+    for words in words {
+        let (said, is_told) = heard(&room, words);
+        let of_b: Vec<&str> = words.iter().map(|&word| if word == "deeds" { "b" } else { word }).collect();
+        assert_eq!(said.done(), room.run(&of_b).done(), "{words:?}");
+        assert!(is_told, "{words:?}");
+    }
+    // The same without the catalogue that belongs to the names: no import leaves that.
+    fs::remove_file(room.path("deeds").join(KEPT)).unwrap();
+    let message = "columns.csv.next has no catalogue.bin.next beside it: no import left it so; move it, and import";
+    for words in [&words[..], &[&["import", "a.csv", "deeds"]]].concat() {
+        assert!(room.run(words).failed(1).contains(message), "{words:?}");
+    }
+    fs::remove_file(room.path("deeds").join(NEXT)).unwrap();
+    assert!(room.run(&BY_NAME).done().starts_with("1 of 1 entry found\n"));
+}
+
+/// What no import can have left in the place of a made one is named, and nothing is replaced by it.
+#[test]
+fn next_files_that_no_import_made() {
+    let room = parish();
+    let own = ["catalogue.bin", "columns.csv"].map(|file| fs::read(room.path("parish").join(file)).unwrap());
+    let [catalogue, names] = &own;
+    let (short, form) = (&names[..9], "is not of the form that an import writes");
+    let cases: [(Files, &str, &str); 7] = [
+        (&[(NEXT, b"")], NEXT, "has no catalogue.bin.next beside it"),
+        (&[(NEXT, short)], NEXT, "has no catalogue.bin.next beside it"),
+        (&[(NEXT, names)], NEXT, "has no catalogue.bin.next beside it"),
+        (&[(NEXT, b""), (KEPT, catalogue)], NEXT, form),
+        (&[(NEXT, short), (KEPT, catalogue)], NEXT, form),
+        (&[(NEXT, names), (KEPT, b"")], KEPT, form),
+        (&[(NEXT, names), (KEPT, &[7; 128])], KEPT, form),
+    ];
+    for (files, named, why) in cases {
+        files.iter().for_each(|(file, bytes)| room.set(&format!("parish/{file}"), bytes));
+        let message = format!("parish/{named} {why}: no import left it so; move it, and import the CSV file again\n");
+        for words in [["import", "parish.csv", "parish"], ["ask", "parish", QUESTION]] {
+            let said = at_once(&room, &words).failed(1);
+            assert!(said.starts_with("searchroom: ") && said.ends_with(&message), "{words:?}: {said}");
+        }
+        let after = ["catalogue.bin", "columns.csv"].map(|file| fs::read(room.path("parish").join(file)).unwrap());
+        assert_eq!(after, own, "{named} {why}");
+        for (file, bytes) in files {
+            assert_eq!(fs::read(room.path("parish").join(file)).unwrap(), *bytes, "{named} {why}");
+            fs::remove_file(room.path("parish").join(file)).unwrap();
+        }
+    }
+    room.set("parish/catalogue.bin.next", "my notes");
+    let said = at_once(&room, &["import", "parish.csv", "parish"]).failed(1);
+    assert!(said.contains("catalogue.bin.next is where a file is to be written, and holds something else"), "{said}");
 }
 
 /// A catalogue that no import made stays, whatever an import that was cut off has left beside it.
@@ -285,13 +384,13 @@ fn import_killed_at_each_step() {
     }
     let there_is_none =
         "searchroom: there is no deeds/catalogue.bin: make it with `searchroom import FILE.csv deeds`\n";
-    let cut_off = "cp c/columns.csv deeds/columns.csv.next; cp c/catalogue.bin deeds/catalogue.bin.new";
+    let cut_off = "cp c/columns.csv deeds/columns.csv.next; cp c/catalogue.bin deeds/catalogue.bin.next";
     let cases = [
         ("rm -rf deeds; cp -r a deeds".to_owned(), "1 of 1 entry found\n"),
         ("rm -rf deeds".to_owned(), there_is_none),
         (format!("rm -rf deeds; cp -r a deeds; {cut_off}"), "3 of 3 entries found\n"),
     ];
-    let ask = format!("\"$DESK\" ask deeds '{}' 2>&1 | head -n 1", BY_NAME[2]);
+    let ask = format!("\"$DESK\" ask deeds '{}' 2>&1 | grep -v 'was cut off' | head -n 1", BY_NAME[2]);
     let last = format!("{ask}; \"$DESK\" import a.csv deeds > /dev/null; {ask}; ls deeds");
     for (first, before) in cases {
         let steps = Steps { first: &first, at_the_stop: "", last: &last };
@@ -318,7 +417,7 @@ fn catalogue_that_cannot_be_replaced() {
     }
     let first = "rm -rf deeds; \"$DESK\" import a.csv deeds";
     let at_the_stop = "cd deeds && [ -e columns.csv.next ] && rm catalogue.bin && mkdir catalogue.bin";
-    let last = format!("rmdir deeds/catalogue.bin; \"$DESK\" ask deeds '{}' 2>&1", BY_NAME[2]);
+    let last = format!("rmdir deeds/catalogue.bin; \"$DESK\" ask deeds '{}' 2> /dev/null", BY_NAME[2]);
     let steps = Steps { first, at_the_stop, last: &last };
     let runs = steps.run(&room, "deeds", &["import", "b.csv", "deeds"]);
     let failed: Vec<_> = runs.iter().filter(|(said, _)| said.contains("cannot replace ")).collect();
@@ -346,7 +445,7 @@ fn imports_cut_off_at_any_moment() {
         signal(&importing, *rng.pick(&SIGNALS));
         importing.wait_with_output().unwrap();
         let is_there = room.path("deeds/catalogue.bin").exists();
-        let said = at_once(&room, &BY_NAME);
+        let (said, _) = heard(&room, &BY_NAME);
         match is_there {
             true => assert!(said.done().starts_with("1 of 2001 entries found\n"), "turn {turn}"),
             false => assert!(said.failed(1).contains("searchroom import FILE.csv"), "turn {turn}"),
