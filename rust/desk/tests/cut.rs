@@ -12,7 +12,7 @@ mod desk {
 
 use std::fs;
 use std::os::unix::fs::symlink;
-use std::process::Command;
+use std::process::{Child, Command};
 use std::thread;
 use std::time::{Duration, Instant};
 
@@ -27,15 +27,9 @@ use generator::Rng;
 
 const SIGNALS: [i32; 2] = [libc::SIGKILL, libc::SIGINT];
 
-/// A run that waits for nobody takes no second, on however slow a machine; one that waits takes five.
-const AT_ONCE: Duration = Duration::from_secs(4);
-
-/// Runs the program, which must not wait for another run.
+/// Runs the program, which must not wait for another run: one that does gives up after five seconds, and says so.
 fn at_once(room: &Room, words: &[&str]) -> Said {
-    let since = Instant::now();
-    let said = ended(started(room, words));
-    assert!(since.elapsed() < AT_ONCE, "{words:?} took {:?}: {said:?}", since.elapsed());
-    said
+    ended(started(room, words))
 }
 
 /// The names of the files in a folder of the room.
@@ -143,6 +137,7 @@ fn cut_off_while_it_holds() {
         let mut waiting = started(&room, &words);
         while !room.path("c.bin.new").exists() {
             assert!(waiting.try_wait().unwrap().is_none(), "the run holds the copy before it waits for the tally");
+            thread::sleep(Duration::from_millis(1));
         }
         signal(&waiting, number);
         waiting.wait().unwrap();
@@ -154,39 +149,48 @@ fn cut_off_while_it_holds() {
     }
 }
 
-/// Many runs with one tally, most of them cut off at some moment. None of the others is refused, and the tally is the
-/// sum over some of the runs, all among them that ended well.
+/// Rounds of runs with one tally, each for another reader, most of them cut off at some moment. None of the others is
+/// refused, and after each round the sum is exact: a run that ended has added its looks, one that was cut off its looks
+/// or nothing, and nobody else anything.
 #[test]
 fn runs_cut_off_at_any_moment() {
     let room = parish();
-    let (mut rng, mut least, mut most) = (Rng::new(17), [0_u64; 16], [0_u64; 16]);
-    for _ in 0..30 {
-        let readers: Vec<usize> = (0..8).map(|_| rng.between(0, 3)).collect();
-        let run = |reader: &usize| started(&room, &ask("t.bin", &reader.to_string()));
-        let mut running: Vec<_> = readers.iter().map(run).collect();
+    let (mut rng, since, mut before, mut cut_off) = (Rng::new(17), Instant::now(), [0; 16], 0);
+    for round in 0..40 {
+        let running: Vec<_> = (0..8).map(|reader| started(&room, &ask("t.bin", &reader.to_string()))).collect();
         for run in &running {
             thread::sleep(Duration::from_micros(rng.between(0, 2_000) as u64));
             if rng.chance(70) {
                 signal(run, *rng.pick(&SIGNALS));
             }
         }
-        for (reader, run) in readers.into_iter().zip(running.drain(..)) {
-            let output = run.wait_with_output().unwrap();
-            most[reader] += LOOKS;
-            if output.status.code().is_some() {
-                Said::of(output).done();
-                least[reader] += LOOKS;
-            }
+        let ended: Vec<bool> = running.into_iter().map(has_ended).collect();
+        cut_off += ended.iter().filter(|&&ended| !ended).count();
+        let after = if room.path("t.bin").exists() { numbers(&room, "t.bin") } else { before };
+        for reader in 0..16 {
+            let (added, ended) = (after[reader] - before[reader], ended.get(reader));
+            let is_exact = added == LOOKS && ended.is_some() || added == 0 && ended != Some(&true);
+            assert!(is_exact, "round {round}, reader {reader}, ended {ended:?}: {added}");
+        }
+        before = after;
+        if since.elapsed() > Duration::from_secs(5) {
+            break;
         }
     }
-    let numbers = if room.path("t.bin").exists() { numbers(&room, "t.bin") } else { [0; 16] };
-    for reader in 0..16 {
-        let (number, least, most) = (numbers[reader], least[reader], most[reader]);
-        assert!(number % LOOKS == 0 && (least..=most).contains(&number), "reader {reader}: {least} {number} {most}");
-    }
+    assert!(cut_off > 0 && before != [0; 16], "{cut_off} were cut off: {before:?}");
     at_once(&room, &ask("t.bin", "15")).done();
-    assert_eq!(self::numbers(&room, "t.bin")[15], LOOKS);
+    assert_eq!(numbers(&room, "t.bin")[15], LOOKS);
     assert!(!room.path("t.bin.new").exists());
+}
+
+/// Has the run ended by itself? Then it was done.
+fn has_ended(run: Child) -> bool {
+    let output = run.wait_with_output().unwrap();
+    let has_ended = output.status.code().is_some();
+    if has_ended {
+        Said::of(output).done();
+    }
+    has_ended
 }
 
 /// The question finds its entry only where names and catalogue are of one import.
