@@ -39,6 +39,9 @@ fn read(file: &Path) -> Result<Vec<u8>, Failure> {
         return Err(Failure::Desk(format!("{} is a folder: {NAME_IT}", shown_path(file))));
     }
     let Some(opened) = reading::open(file, NAME_IT)? else {
+        if file == Path::new("-") {
+            return Err(Failure::Desk(format!("standard input is not read: {NAME_IT}")));
+        }
         return Err(Failure::Desk(format!("there is no {}: {NAME_IT}", shown_path(file))));
     };
     let bytes = reading::at_most(MAX_BYTES + 1, &opened, file)?;

@@ -20,6 +20,9 @@ use crate::target::folder_of;
 /// How long to wait for other runs while none goes ahead.
 const PATIENCE: Duration = Duration::from_secs(5);
 
+/// How long to wait for them in all.
+const MOST_PATIENCE: Duration = Duration::from_secs(60);
+
 pub struct Lock {
     path: PathBuf,
     pub file: File,
@@ -70,7 +73,7 @@ impl Lock {
     fn of_left(path: &Path) -> Result<Option<Lock>, Failure> {
         let file = match open_standing(path) {
             Ok(file) => file,
-            // It is gone, or another user's, who alone may know whether it is held.
+            // It is gone, or closed: another user's, who alone may know whether it is held.
             Err(error) if matches!(error.kind(), io::ErrorKind::NotFound | io::ErrorKind::PermissionDenied) => {
                 return Ok(None);
             }
@@ -123,7 +126,7 @@ impl Lock {
 
     /// Removes the file, while it is still held.
     pub fn remove(self) -> Result<(), Failure> {
-        fs::remove_file(&self.path).map_err(|error| failed("remove", &self.path, &error))
+        fs::remove_file(&self.path).map_err(|error| not_permitted("remove", &self.path, &error))
     }
 
     /// Gives the file another name, in the same folder, down to the disk.
@@ -132,7 +135,7 @@ impl Lock {
             let path = shown_path(&self.path);
             return Err(Failure::Desk(format!("{path} was taken away while it was written: run this again")));
         }
-        fs::rename(&self.path, to).map_err(|error| Failure::file("replace", to, &error))?;
+        fs::rename(&self.path, to).map_err(|error| not_permitted("replace", to, &error))?;
         self.path = to.to_path_buf();
         // The name is there; of a folder that cannot be synced no more can be had.
         let _ = File::open(folder_of(to)).and_then(|folder| folder.sync_all());
@@ -165,24 +168,41 @@ fn failed(what: &str, path: &Path, error: &io::Error) -> Failure {
     }
 }
 
+/// What could not be done with a file in its folder. One with the sticky bit lets others write a file, but not remove
+/// it.
+fn not_permitted(what: &str, path: &Path, error: &io::Error) -> Failure {
+    match error.kind() {
+        io::ErrorKind::PermissionDenied => {
+            let (path, why) = (shown_path(path), "only its owner may do so in this folder: use another");
+            Failure::Desk(format!("cannot {what} {path}: {error}; {why}"))
+        }
+        _ => Failure::file(what, path, error),
+    }
+}
+
 /// Patience has ended.
 fn held(path: &Path) -> Failure {
     let is_closed = open_standing(path).is_err_and(|error| error.kind() == io::ErrorKind::PermissionDenied);
     let path = shown_path(path);
     Failure::Desk(match is_closed {
         true => {
-            format!("{path} is another user's: try again when their run has ended; if none is running, have it removed")
+            let theirs = "if another user's run made it, try again when that has ended";
+            format!("{path} is closed to you: {theirs}; if none is running, have it removed")
         }
-        false => format!("another run has held {path} for five seconds: try again when it has ended"),
+        false => format!("another run holds {path}: try again when it has ended"),
     })
 }
 
-/// Tries until something comes of it, or for as long as patience lasts since an instant that an attempt may set anew.
+/// Tries until something comes of it, or for as long as patience lasts since an instant that an attempt may set anew,
+/// and never longer than a minute.
 pub fn patiently<T>(mut attempt: impl FnMut(&mut Instant) -> Result<Option<T>, Failure>) -> Result<Option<T>, Failure> {
-    let mut since = Instant::now();
+    let begun = Instant::now();
+    let mut since = begun;
     loop {
         match attempt(&mut since)? {
-            None if since.elapsed() < PATIENCE => thread::sleep(Duration::from_millis(10)),
+            None if since.elapsed() < PATIENCE && begun.elapsed() < MOST_PATIENCE => {
+                thread::sleep(Duration::from_millis(10))
+            }
             done => return Ok(done),
         }
     }

@@ -9,7 +9,7 @@ use crate::failure::Failure;
 use crate::lock::Lock;
 use crate::reading::{self, if_there};
 use crate::show::shown_path;
-use crate::target::Target;
+use crate::target::{NAME_ONE, Target};
 
 /// For whom a file is made that was not there before.
 #[derive(Clone, Copy, PartialEq, Eq)]
@@ -46,7 +46,7 @@ impl Replacement {
     /// The bytes of the file that will be replaced, at most so many; none if it is not there.
     pub fn read(&self, most: usize) -> Result<Option<Vec<u8>>, Failure> {
         let Target { named, file } = &self.target;
-        let opened = reading::open(file, "name one, or one to be made")?;
+        let opened = reading::open(file, NAME_ONE)?;
         opened.map(|opened| reading::at_most(most, &opened, named)).transpose()
     }
 

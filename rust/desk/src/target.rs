@@ -5,7 +5,7 @@ use std::io;
 use std::path::{Path, PathBuf};
 
 use crate::failure::Failure;
-use crate::reading::if_there;
+use crate::reading::{if_there, not_a_file};
 use crate::show::shown_path;
 
 /// A file that is to be replaced, or made.
@@ -19,6 +19,9 @@ pub struct Target {
 
 /// How many links to links are followed, as many as the system follows.
 const LINKS: usize = 40;
+
+/// What to do where something else than a file is named.
+pub const NAME_ONE: &str = "name one, or one to be made";
 
 /// What the name of a file that is being written ends with.
 const BESIDE: &str = ".new";
@@ -38,9 +41,10 @@ impl Target {
         })?;
         let file = file.file_name().map_or(folder.clone(), |name| folder.join(name));
         let found = if_there(fs::metadata(path)).map_err(|error| Failure::file("write", path, &error))?;
-        let is_named_a_folder = path.as_os_str().as_encoded_bytes().ends_with(b"/");
+        let name = path.as_os_str().as_encoded_bytes();
+        let is_named_a_folder = name.ends_with(b"/") || name.ends_with(b"/.");
         if found.is_some_and(|found| !found.is_file()) || is_named_a_folder {
-            return Err(Failure::Desk(format!("{} is not a file: name one, or one to be made", shown_path(path))));
+            return Err(not_a_file(path, NAME_ONE));
         }
         Ok(Target { named: path.to_path_buf(), file })
     }

@@ -192,7 +192,7 @@ fn names_of_files_being_written() {
 #[test]
 fn what_is_no_file() {
     let room = parish();
-    for file in ["parish", "new/", "parish/", "/dev/null", "/dev/stdout", ".", "/"] {
+    for file in ["parish", "new/", "new/.", "parish/.", "parish/", "/dev/null", "/dev/stdout", ".", "/"] {
         for words in [["ask", "--tally"], ["ask", "--copy"], ["draw", "-o"]] {
             let said = room.run(&[words[0], "parish", QUESTION, words[1], file]).failed(1);
             let is_missing = file == "new/" && said.contains("there is no folder");

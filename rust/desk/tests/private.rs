@@ -10,6 +10,8 @@ mod desk {
 use std::fs::{self, Metadata, Permissions};
 use std::os::unix::fs::{MetadataExt, PermissionsExt, chown};
 use std::process::{Command, Stdio};
+use std::thread;
+use std::time::Duration;
 
 use desk::held::held;
 use desk::parish::{QUESTION, TABLE, parish};
@@ -68,6 +70,7 @@ fn from_the_first_byte() {
             let seen = fs::metadata(room.path("c.bin.new")).map_or(0o600, |found| found.mode() & 0o7777);
             assert!(seen == 0o600 || seen == as_before, "{before:?}: {seen:o}");
             assert!(running.try_wait().expect("a run").is_none(), "{before:?}: it ended before");
+            thread::sleep(Duration::from_millis(1));
         }
         assert_eq!(found(&room, "c.bin.new").len(), 0);
         drop(tally);

@@ -71,6 +71,16 @@ fn what_is_no_file() {
     assert!(!room.path("new").exists());
 }
 
+/// A word that other programs take for standard input.
+#[test]
+fn standard_input() {
+    let room = parish();
+    let said = room.run(&["import", "-", "new"]).failed(1);
+    assert_eq!(said, "searchroom: standard input is not read: name the CSV file\n");
+    room.set("-", TABLE);
+    room.run(&["import", "-", "new"]).done();
+}
+
 /// The same where a run would add to a tally or replace a file.
 #[test]
 fn no_file_to_be_replaced() {

@@ -162,8 +162,8 @@ fn tally_that_is_held() {
     let since = Instant::now();
     let said = room.run(&ask("tally.bin", "0")).failed(1);
     let waited = since.elapsed();
-    assert!(said.starts_with("searchroom: another run has held ") && said.contains("tally.bin.new"), "{said}");
-    assert!(said.ends_with(" for five seconds: try again when it has ended\n"), "{said}");
+    assert!(said.starts_with("searchroom: another run holds ") && said.contains("tally.bin.new"), "{said}");
+    assert!(said.ends_with(": try again when it has ended\n"), "{said}");
     assert!(waited > Duration::from_secs(4) && waited < Duration::from_secs(30), "waited {waited:?}");
     assert_eq!(numbers(&room, "tally.bin"), [0; 16]);
     assert!(room.path("tally.bin.new").exists(), "it is the other run's");

@@ -11,7 +11,7 @@ const STEP_BY_STEP: &str = r#"
 import ctypes, os, subprocess, sys
 folder, first, at_the_stop, last, *words = sys.argv[1:]
 TRACE_ME, TO_THE_NEXT_CALL = 0, 24
-libc = ctypes.CDLL(None)
+libc = ctypes.CDLL(None, use_errno=True)
 libc.ptrace.argtypes = [ctypes.c_long, ctypes.c_long, ctypes.c_void_p, ctypes.c_void_p]
 
 def shell(command):
@@ -25,7 +25,9 @@ def traced(at_each_stop):
         os.dup2(writing, 1)
         os.dup2(writing, 2)
         os.close(reading)
-        libc.ptrace(TRACE_ME, 0, None, None)
+        if libc.ptrace(TRACE_ME, 0, None, None) != 0:
+            os.write(2, b"ptrace: " + os.strerror(ctypes.get_errno()).encode())
+            os._exit(1)
         os.execv(words[0], words)
     os.close(writing)
     stops = 0
@@ -53,7 +55,9 @@ def files():
     return {name: open(os.path.join(folder, name), "rb").read() for name in names}
 
 shell(first)
-traced(look)
+stops, said = traced(look)
+if not begun:
+    sys.exit(f"the program cannot be traced here, or opened no file of {folder}: {stops} stops, {said}")
 # At every call the program stops twice, before it and after it. It may look for a file or two that are not there first.
 stop = begun[0] - 6
 left = None
