@@ -17,6 +17,9 @@ pub fn next(own: &Target) -> PathBuf {
     own.with_ending(".next")
 }
 
+/// What is wrong with a file that no import wrote.
+pub const FORM: &str = "is not of the form that an import writes";
+
 /// What is wrong with the next names where their catalogue is missing.
 pub const NO_CATALOGUE: &str = "has no catalogue.bin.next beside it";
 
@@ -24,7 +27,7 @@ pub const NO_CATALOGUE: &str = "has no catalogue.bin.next beside it";
 /// come there whole.
 pub fn refuse_others(path: &Path, bytes: &[u8], beginning: &[u8]) -> Result<(), Failure> {
     let is_own = bytes.starts_with(beginning);
-    is_own.then_some(()).ok_or_else(|| not_left(path, "is not of the form that an import writes"))
+    is_own.then_some(()).ok_or_else(|| not_left(path, FORM))
 }
 
 /// Files that no import can have left in this way.

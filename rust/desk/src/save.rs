@@ -8,7 +8,7 @@ use crate::columns;
 use crate::failure::Failure;
 use crate::folder::{Folder, catalogue_file, columns_file, refuse_a_file};
 use crate::lock::Lock;
-use crate::pair::{NO_CATALOGUE, next, not_left, refuse_others};
+use crate::pair::{FORM, NO_CATALOGUE, next, not_left, refuse_others};
 use crate::reading;
 use crate::replace::{Access, Replacement};
 use crate::show::shown_path;
@@ -25,15 +25,8 @@ impl Folder {
         let (catalogue, columns) = (Target::of(&catalogue_file(folder))?, Target::of(&columns_file(folder))?);
         // The names come first: who holds them is the one import that goes on here.
         let mut new_columns = Replacement::begin(columns.clone(), Access::Usual)?;
+        refuse_unimported(&catalogue, &columns, &new_columns)?;
         finish_cut_off(&catalogue, &columns)?;
-        let before = new_columns.read(columns::FIRST_LINE.len())?;
-        match &before {
-            None if catalogue.file.exists() => return Err(not_imported(&catalogue, "has no columns.csv beside it")),
-            Some(bytes) if bytes != columns::FIRST_LINE.as_bytes() => {
-                return Err(not_imported(&columns, "is not of the form that an import writes"));
-            }
-            _ => {}
-        }
         let mut new_catalogue = Replacement::begin(catalogue.clone(), Access::Usual)?;
         new_catalogue.write(&self.bytes)?;
         if !catalogue.file.exists() {
@@ -85,6 +78,15 @@ fn finish_cut_off(catalogue: &Target, columns: &Target) -> Result<(), Failure> {
             refuse_others(&next_catalogue, &bytes, catalogue::BEGINNING)?;
             Made { names, kept }.put_in_place(&bytes, catalogue, columns)
         }
+    }
+}
+
+/// Refuses files that no import made. An import that was made replaces them no more than this one does.
+fn refuse_unimported(catalogue: &Target, columns: &Target, new_columns: &Replacement) -> Result<(), Failure> {
+    match new_columns.read(columns::FIRST_LINE.len())? {
+        None if catalogue.file.exists() => Err(not_imported(catalogue, "has no columns.csv beside it")),
+        Some(bytes) if bytes != columns::FIRST_LINE.as_bytes() => Err(not_imported(columns, FORM)),
+        _ => Ok(()),
     }
 }
 

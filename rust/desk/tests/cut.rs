@@ -376,6 +376,32 @@ fn catalogue_that_no_import_made() {
     }
 }
 
+/// Nor does an import that was made and cut off replace a file that no import made, when the next one finishes it.
+#[test]
+fn own_files_after_a_cut() {
+    let room = parish();
+    let [catalogue, names] =
+        ["catalogue.bin", "columns.csv"].map(|file| fs::read(room.path("parish").join(file)).unwrap());
+    let cases: [(Files, &str); 2] = [
+        (&[("catalogue.bin", &catalogue)], "mine/catalogue.bin has no columns.csv beside it: no import made it"),
+        (&[("columns.csv", TABLE.as_bytes())], "mine/columns.csv is not of the form that an import writes"),
+    ];
+    for (mine, message) in cases {
+        for (file, bytes) in mine.iter().chain(&[(NEXT, &names[..]), (KEPT, &catalogue)]) {
+            room.set(&format!("mine/{file}"), bytes);
+        }
+        let before = files(&room, "mine");
+        let said = at_once(&room, &["import", "parish.csv", "mine"]).failed(1);
+        assert!(said.contains(message), "{said}");
+        assert_eq!(files(&room, "mine"), before);
+        assert!(
+            mine.iter().all(|(file, bytes)| fs::read(room.path("mine").join(file)).unwrap() == *bytes),
+            "{message}"
+        );
+        fs::remove_dir_all(room.path("mine")).unwrap();
+    }
+}
+
 /// An import is killed at each of its calls of the system, from the first file on, in a folder with an earlier import,
 /// in a new one, and in one where an import was cut off before: whoever asks gets what was there or what is new, and
 /// the next import is done.
