@@ -13,8 +13,8 @@ use crate::sheet::Noticed;
 use crate::show::{counted, grouped, shown, shown_path};
 use crate::target::Target;
 
-/// The most bytes of a CSV file that is imported, 64 MiB: 32,768 for each entry that a catalogue can have.
-pub const MAX_BYTES: usize = 32_768 * MAX_ENTRIES;
+/// The most bytes of a CSV file that is imported, 16 MiB: 8,192 for each entry that a catalogue can have.
+const MAX_BYTES: usize = 8_192 * MAX_ENTRIES;
 
 /// Imports a CSV file into a folder. Everything that does not fit is told on standard error, and then nothing is written.
 pub fn import(file: &Path, folder: &Path, separator: u8, out: &mut dyn Write) -> Result<(), Failure> {

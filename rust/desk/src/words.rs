@@ -46,7 +46,7 @@ pub enum Word {
 /// if every value is empty or a number up to 4,294,967,294 without leading zeros, else texts of at most 23 letters;
 /// `name:number` or `name:text` in the first line decides it. An empty value is a blank. A column named `withdrawn` is
 /// the mark: yes, true, 1 or x withdraws the entry, no, false, 0 or nothing does not. The file is in UTF-8 and has at
-/// most 64 MiB, the letters of its values are those of ISO 8859-1. Whatever does not fit is reported with its line and
+/// most 16 MiB, the letters of its values are those of ISO 8859-1. Whatever does not fit is reported with its line and
 /// column, many faults summed up by column, and then nothing is written.
 ///
 /// FOLDER receives catalogue.bin, which the engine reads, and columns.csv, the columns' names.

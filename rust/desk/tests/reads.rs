@@ -142,17 +142,17 @@ fn names_too_large() {
     assert_eq!(said, format!("searchroom: parish/columns.csv has {most}"));
 }
 
-/// A CSV file has at most 64 MiB.
+/// A CSV file has at most 16 MiB.
 #[test]
 fn csv_file_too_large() {
     let room = Room::new();
     set_zeros(&room, "deeds.csv", 4 << 30);
     let said = with_little_memory(&room, &["import", "deeds.csv", "deeds"], 500).failed(1);
-    let why = "more than 67,108,864 bytes, and no more are read: split it; a catalogue has at most 2,048 entries\n";
+    let why = "more than 16,777,216 bytes, and no more are read: split it; a catalogue has at most 2,048 entries\n";
     assert_eq!(said, format!("searchroom: deeds.csv has {why}"));
     assert!(!room.path("deeds").exists());
     // One of just so many is read: what is told of it is its own.
-    let spaces = " ".repeat((64 << 20) - TABLE.len());
+    let spaces = " ".repeat((16 << 20) - TABLE.len());
     room.set("deeds.csv", format!("year{spaces}{}", &TABLE[4..]));
     let said = room.run(&["import", "deeds.csv", "deeds"]).failed(1);
     assert!(said.contains("a name has at most 1,000 letters; remove spaces\n"), "{said}");
@@ -184,8 +184,8 @@ fn longest_names() {
 /// the cells of one line little more than where each ends.
 #[test]
 fn cells_without_number() {
-    let bytes = 16 << 20;
-    let over = "16777201 columns over the 16 that fit beside the mark, first column 17; remove them";
+    let bytes = 16_000_000;
+    let over = "15999985 columns over the 16 that fit beside the mark, first column 17; remove them";
     for (table, mebibytes, first) in [
         (
             ",".repeat(bytes),
@@ -197,7 +197,7 @@ fn cells_without_number() {
         (
             format!("a,b\n{}", ",".repeat(bytes)),
             400,
-            "deeds.csv, line 2: 16777217 values; the first line has 2; ".to_owned(),
+            "deeds.csv, line 2: 16000001 values; the first line has 2; ".to_owned(),
         ),
         (format!("a\n{}\n", "Ł".repeat(bytes / 2)), 200, "deeds.csv, line 2, column 1 (a), \"ŁŁŁ".to_owned()),
     ] {
@@ -212,6 +212,6 @@ fn cells_without_number() {
 const NAMES: &str = "write names into the first line, or remove the columns";
 
 fn entries(number: usize) -> String {
-    assert_eq!(number, 8_388_608);
-    "deeds.csv, line 2050: 8,388,608 entries; at most 2,048 fit, so split the file before this line\n".to_owned()
+    assert_eq!(number, 8_000_000);
+    "deeds.csv, line 2050: 8,000,000 entries; at most 2,048 fit, so split the file before this line\n".to_owned()
 }
