@@ -6,9 +6,11 @@ mod desk {
     pub mod room;
 }
 
+use std::env;
 use std::fs::{self, Permissions};
 use std::os::unix::fs::{MetadataExt, PermissionsExt, chown};
 use std::os::unix::process::CommandExt;
+use std::process::Command;
 
 use desk::parish::{QUESTION, parish};
 use desk::room::{Room, Said};
@@ -23,14 +25,17 @@ fn set_mode(room: &Room, file: &str, mode: u32) {
     fs::set_permissions(room.path(file), Permissions::from_mode(mode)).unwrap();
 }
 
-/// A room that is open to all; and do the tests run as the superuser?
+/// A room that is open to all, with a copy of the program; and do the tests run as the superuser? The repository may
+/// stand where nobody comes, so the room is where everybody does.
 fn open_room() -> (Room, bool) {
-    let room = parish();
+    let (made, room) = (parish(), Room::below(&env::temp_dir()));
+    for file in ["parish.csv", "parish/catalogue.bin", "parish/columns.csv"] {
+        room.set(file, fs::read(made.path(file)).unwrap());
+        set_mode(&room, file, 0o666);
+    }
+    fs::copy(env!("CARGO_BIN_EXE_searchroom"), room.path("program")).unwrap();
     for folder in [".", "parish"] {
         set_mode(&room, folder, 0o777);
-    }
-    for file in ["parish.csv", "parish/catalogue.bin", "parish/columns.csv"] {
-        set_mode(&room, file, 0o666);
     }
     let is_superuser = fs::metadata(room.path("parish.csv")).unwrap().uid() == 0;
     (room, is_superuser)
@@ -38,7 +43,8 @@ fn open_room() -> (Room, bool) {
 
 /// Runs the program as a user who is not the superuser.
 fn run(room: &Room, is_superuser: bool, words: &[&str]) -> Said {
-    let mut command = room.command(words);
+    let mut command = Command::new(room.path("program"));
+    command.args(words).current_dir(room.path("."));
     if is_superuser {
         command.uid(NOBODY).gid(NOBODY);
     }

@@ -20,9 +20,14 @@ pub struct Said {
 
 impl Room {
     pub fn new() -> Room {
+        Room::below(Path::new(env!("CARGO_TARGET_TMPDIR")))
+    }
+
+    /// A room in this folder.
+    pub fn below(parent: &Path) -> Room {
         static ROOMS: AtomicU32 = AtomicU32::new(0);
         let number = ROOMS.fetch_add(1, Ordering::Relaxed);
-        let folder = Path::new(env!("CARGO_TARGET_TMPDIR")).join(format!("desk-{}-{number}", process::id()));
+        let folder = parent.join(format!("desk-{}-{number}", process::id()));
         // One that a failed test of an earlier process with this number left is not to be found again.
         let _ = fs::remove_dir_all(&folder);
         fs::create_dir_all(&folder).expect("a new folder");
