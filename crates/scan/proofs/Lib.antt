@@ -1,4 +1,4 @@
 pub mod Ranges
 mod Blanks
 pub mod Shown
-mod Eight
+mod Halves

@@ -1,18 +1,17 @@
--- The number kinds as one test: a lowest number and how many follow it, and one comparison.
+-- A range as a lowest number and how many follow it, and one comparison.
 use Prim.Native.Nat.{ℕ, _+_, _-_, _%_, _^_, _≤_, _<_}
 use native.Mathlib.Omega.{arith}
-use mathlib.Core.Path.{_≡_, ap}
+use mathlib.Core.Path.{_≡_, refl, ap}
 use mathlib.Core.Bool.{true, not, _&&_}
-use mathlib.Core.Logic.{_⊎_, inl, inr}
 use mathlib.Core.List.{List}
 use lib.ListN.{length}
 use lib.Dec.{leb, ltb, eqb}
 use borrow.Author.Tests.{le-leb, leb-true, eq-eqb, eqb-true, ltb-true}
-use Rattle.bools.specs.Bools.{both, not-of-true, and-parts, iff-eq, same?, eqb-ne, ltb-no, ltb-le}
+use Rattle.bools.specs.Bools.{both, not-of-true, and-parts, iff-eq, eqb-ne, ltb-no, ltb-le}
 use Rattle.catalogue.specs.Format.{blankNumber}
 use Rattle.slots.specs.Slots.{textLimit}
 use Rattle.predicate.specs.Kinds.{rangeKind, numberBlankKind, equalsKind, containsKind, textBlankKind}
-use Rattle.predicate.specs.Meaning.{between, numberBlank, lowOf, highOf, numberTest}
+use Rattle.predicate.specs.Meaning.{between, numberBlank, lowOf, highOf}
 use Rattle.predicate.specs.Payload.{rangeFits, operandFits}
 use Rattle.scan.specs.declared.range.Range.{Range}
 use Rattle.scan.specs.Met.{RangeFor, within}
@@ -48,11 +47,7 @@ text-fits kind o h l m =
     let s : 1 ≤ length o = leb-true 1 (length o) (p .0) in
     (omega arith, leb-true (length o) textLimit (p .1))
 
--- a range, and the blank as a range of one number
-
-in-range : (low high n : ℕ) → low ≤ high → within low (high - low) n ≡ between low high n
-in-range low high n l = let top : low + (high - low) ≡ high = omega arith in rw top
-
+-- the blank as a range of one number
 pub is-blank : (n : ℕ) → within blankNumber 0 n ≡ numberBlank n
 is-blank n = iff-eq (within blankNumber 0 n) (numberBlank n) to from
   where
@@ -66,26 +61,13 @@ is-blank n = iff-eq (within blankNumber 0 n) (numberBlank n) to from
     from : numberBlank n ≡ true → within blankNumber 0 n ≡ true
     from t = let e : n ≡ blankNumber = eqb-true n blankNumber t in both (le-leb blankNumber n (omega arith)) (le-leb n (blankNumber + 0) (omega arith))
 
--- what a number kind asks, and its test
-module _ {kind : ℕ} {o : List ℕ} {r : Range} (P : RangeFor kind o r) (fits : operandFits kind o ≡ true) (number : kind ≤ numberBlankKind) where
-  each : (kind ≡ rangeKind) ⊎ (kind ≡ numberBlankKind)
-  each = go (same? kind rangeKind)
-    where
-      go : (kind ≡ rangeKind) ⊎ (kind ≡ rangeKind → ⊥) → (kind ≡ rangeKind) ⊎ (kind ≡ numberBlankKind)
-      go (inl e) = inl e
-      go (inr ne) = inr (omega arith)
-
+-- what a range asks, and its test
+module _ {o : List ℕ} {r : Range} (P : RangeFor o r) (fits : operandFits rangeKind o ≡ true) where
   pub width-fits : r .low + r .width < 2 ^ 32
-  width-fits = go each
-    where
-      go : (kind ≡ rangeKind) ⊎ (kind ≡ numberBlankKind) → r .low + r .width < 2 ^ 32
-      go (inl e) = let p = P .range e in let f = range-fits kind o fits e in omega arith
-      go (inr e) = let p = P .blank e in omega arith
+  width-fits = let f = range-fits rangeKind o fits refl in omega (arith, P .low-is, P .width-is)
 
-  pub number-means : (n : ℕ) → within (r .low) (r .width) n ≡ numberTest kind o n
-  unfolding numberTest
-  number-means n = go each
-    where
-      go : (kind ≡ rangeKind) ⊎ (kind ≡ numberBlankKind) → within (r .low) (r .width) n ≡ numberTest kind o n
-      go (inl e) = let p = P .range e in let f = range-fits kind o fits e in rw (p .0, p .1, e) (in-range (lowOf o) (highOf o) n (f .1))
-      go (inr e) = let p = P .blank e in rw (p .0, p .1, e) (is-blank n)
+  pub range-means : (n : ℕ) → within (r .low) (r .width) n ≡ between (lowOf o) (highOf o) n
+  range-means n =
+      let f = range-fits rangeKind o fits refl in
+      let top : lowOf o + (highOf o - lowOf o) ≡ highOf o = omega arith in
+      rw (P .low-is, P .width-is, top)

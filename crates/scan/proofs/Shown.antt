@@ -1,5 +1,5 @@
 -- From the rows as they lie in the bytes to the column that they show.
-use Prim.Native.Nat.{ℕ, _+_, _-_, _*_, _^_, _≤_, _<_}
+use Prim.Native.Nat.{ℕ, _+_, _-_, _*_, _≤_, _<_}
 use native.Mathlib.Omega.{arith}
 use mathlib.Core.Path.{_≡_, refl, sym, ap, _∙_}
 use mathlib.Core.Bool.{Bool, true, false, _&&_, _||_, and-false, and-true}
@@ -10,13 +10,13 @@ use lib.Bits.{bitOr, bitXor}
 use borrow.Author.Tests.{lt-ltb, le-ltb, le-leb, lt-leb, leb-true}
 use Rattle.bools.specs.Bools.{and-parts, eqb-eq}
 use Rattle.fields.specs.Numbers.{numberAt}
-use Rattle.catalogue.specs.Format.{numberTag, numberSize, textTag, blankNumber}
+use Rattle.catalogue.specs.Format.{numberTag, numberSize, textTag}
 use Rattle.catalogue.specs.Catalogue.{Column, numbers, texts}
 use Rattle.slots.specs.Slots.{textLimit, textAt}
 use Rattle.catalogue.specs.InPlace.{Shows, HasRow, NumberIs, TextIs}
 use Rattle.catalogue.proofs.Rows.{number-is, text-is}
 use Rattle.predicate.specs.declared.outcome.Outcome.{Outcome}
-use Rattle.predicate.specs.Kinds.{numberBlankKind, containsKind, textBlankKind, oppositeFrom, plainKind, asksContent}
+use Rattle.predicate.specs.Kinds.{rangeKind, numberBlankKind, containsKind, textBlankKind, oppositeFrom, plainKind, asksContent}
 use Rattle.predicate.specs.Meaning.{truth, textBlank, numberBlank, numberTest, textTest, valueBlank, plainOf, outcomeOf}
 use Rattle.predicate.specs.Outcome.{isBlank}
 use Rattle.predicate.specs.Payload.{kindFits, operandFits}
@@ -29,7 +29,7 @@ use Rattle.sets.specs.KeptLaws.{sift-kept, kept-same, kept-others, kept-either}
 use Rattle.heads.specs.Block.{HasDueRows, slotOf, textOf}
 use Rattle.scan.specs.declared.range.Range.{Range}
 use Rattle.scan.specs.Met.{RangeFor, ShownRows, HasRows, MetFor, PlainMetFor, BlankFor, within}
-use Rattle.scan.proofs.Ranges.{text-fits, width-fits, number-means, is-blank}
+use Rattle.scan.proofs.Ranges.{text-fits, range-means}
 use Rattle.scan.proofs.Blanks.{number-truth, text-truth}
 
 abbrev pub numberOf : List ℕ → (start row : ℕ) → ℕ
@@ -75,11 +75,8 @@ module _ {b : List ℕ} {start base kind : ℕ} {o : List ℕ} {due plain : ℕ}
   fits : {rows tag : ℕ} {c : Column} → ShownRows b start base kind o due rows tag c → operandFits plain o ≡ true
   fits R = ap (λ (j : ℕ). operandFits j o) k ∙ R .operand-fits
 
-  pub due-fits : HasRows b start base kind o due → operandFits plain o ≡ true
-  due-fits (rows, tag, c, R) = fits R
-
-  pub due-width : {g : Range} → HasRows b start base kind o due → RangeFor plain o g → plain ≤ numberBlankKind → g .low + g .width < 2 ^ 32
-  due-width h P l = width-fits P (due-fits h) l
+  pub due-fits : HasRows b start base kind o due → plain ≡ rangeKind → operandFits rangeKind o ≡ true
+  due-fits (rows, tag, c, R) e = ap (λ (j : ℕ). operandFits j o) (sym e) ∙ fits R
 
   pub due-texts : HasRows b start base kind o due → numberBlankKind < plain → HasDueRows b textTag start base due
   due-texts (rows, tag, c, R) l d m =
@@ -99,14 +96,24 @@ module _ {b : List ℕ} {start base kind : ℕ} {o : List ℕ} {due plain : ℕ}
 
   -- and what they answer, as the column has it
   module _ (r : ℕ) where
-    pub numbers-met : {g : Range} → RangeFor plain o g → plain ≤ numberBlankKind → KeptBy (λ d. within (g .low) (g .width) (numberOf b start (base + d))) due r → PlainMetFor b start base kind o due r
-    numbers-met P l K rows tag (numbers ns) R =
+    numbers-met : plain ≤ numberBlankKind → KeptBy (λ d. numberTest plain o (numberOf b start (base + d))) due r → PlainMetFor b start base kind o due r
+    numbers-met l K rows tag (numbers ns) R =
         kept-same _ _ due r
-        (λ d m. number-means P (fits R) l (numberOf b start (base + d)) ∙ ap (λ (j : ℕ). numberTest j o (numberOf b start (base + d))) k
+        (λ d m. ap (λ (j : ℕ). numberTest j o (numberOf b start (base + d))) k
         ∙ ap (numberTest (plainKind kind) o) (number-is b start (base + d) (numberOf b start (base + d)) refl rows ns (refl, R .shown .1, R .shown .2) (R .inside d m))
         ∙ sym (number-truth (plainKind kind) o (R .operand-fits) (omega arith) (getD ns (base + d) 0))) K
-    numbers-met P l K rows tag (texts ts) R =
+    numbers-met l K rows tag (texts ts) R =
         let e = number-kind tag (plainKind kind) (R .kind-fits) (omega arith) in let f : tag ≡ textTag = R .shown .0 in absurd (omega arith)
+
+    pub range-met : {g : Range} → RangeFor o g → HasRows b start base kind o due → plain ≡ rangeKind → KeptBy (λ d. within (g .low) (g .width) (numberOf b start (base + d))) due r → PlainMetFor b start base kind o due r
+    unfolding numberTest
+    range-met P h e K =
+        numbers-met (omega arith)
+        (kept-same _ (λ d. numberTest plain o (numberOf b start (base + d))) due r (λ d m. rw e (range-means P (due-fits h e) (numberOf b start (base + d)))) K)
+
+    pub number-blanks-met : plain ≡ numberBlankKind → KeptBy (λ d. numberBlank (numberOf b start (base + d))) due r → PlainMetFor b start base kind o due r
+    unfolding numberTest
+    number-blanks-met e K = numbers-met (omega arith) (kept-same _ (λ d. numberTest plain o (numberOf b start (base + d))) due r (λ d m. rw e) K)
 
     pub texts-met : numberBlankKind < plain → KeptBy (λ d. textTest plain o (textOf b start (base + d))) due r → PlainMetFor b start base kind o due r
     texts-met l K rows tag (numbers ns) R =
@@ -137,11 +144,10 @@ module _ {b : List ℕ} {start base : ℕ} (kind : ℕ) {due plain : ℕ} (k : p
       ∙ sym (ap (λ (x : Bool). has due d && x) (blank-is c kind o (base + d) ∙ rw (sym k, e, and-false (valueBlank c (base + d)))))
 
   module _ (asks : asksContent plain ≡ true) (r : ℕ) where
-    pub numbers-blank : plain ≤ numberBlankKind → KeptBy (λ d. within blankNumber 0 (numberOf b start (base + d))) due r → BlankFor b start base kind due r
+    pub numbers-blank : plain ≤ numberBlankKind → KeptBy (λ d. numberBlank (numberOf b start (base + d))) due r → BlankFor b start base kind due r
     numbers-blank l K o rows tag (numbers ns) R =
         kept-same _ _ due r
-        (λ d m. is-blank (numberOf b start (base + d))
-        ∙ ap numberBlank (number-is b start (base + d) (numberOf b start (base + d)) refl rows ns (refl, R .shown .1, R .shown .2) (R .inside d m))
+        (λ d m. ap numberBlank (number-is b start (base + d) (numberOf b start (base + d)) refl rows ns (refl, R .shown .1, R .shown .2) (R .inside d m))
         ∙ is-value kind k asks (numbers ns) o (base + d)) K
     numbers-blank l K o rows tag (texts ts) R =
         let e = number-kind tag (plainKind kind) (R .kind-fits) (omega arith) in let f : tag ≡ textTag = R .shown .0 in absurd (omega arith)

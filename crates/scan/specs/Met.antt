@@ -4,11 +4,10 @@ use mathlib.Core.Path.{_≡_}
 use mathlib.Core.Bool.{Bool, true, _&&_}
 use mathlib.Core.List.{List}
 use lib.Dec.{leb}
-use Rattle.catalogue.specs.Format.{blankNumber}
 use Rattle.catalogue.specs.Catalogue.{Column}
 use Rattle.catalogue.specs.InPlace.{Shows}
 use Rattle.predicate.specs.declared.outcome.Outcome.{Outcome}
-use Rattle.predicate.specs.Kinds.{rangeKind, numberBlankKind, plainKind}
+use Rattle.predicate.specs.Kinds.{plainKind}
 use Rattle.predicate.specs.Meaning.{lowOf, highOf, plainOf, outcomeOf, truth}
 use Rattle.predicate.specs.Outcome.{isBlank}
 use Rattle.predicate.specs.Payload.{kindFits, operandFits}
@@ -16,10 +15,10 @@ use Rattle.sets.specs.Set.{has}
 use Rattle.sets.specs.Kept.{KeptBy}
 use Rattle.scan.specs.declared.range.Range.{Range}
 
--- what a number kind asks: of a range its lowest number and how many follow it, of the blank kind its one number
-pub record RangeFor (kind : ℕ) (o : List ℕ) (r : Range) : Type 0 where
-  pub range : kind ≡ rangeKind → (r .low ≡ lowOf o) × (r .width ≡ highOf o - lowOf o)
-  pub blank : kind ≡ numberBlankKind → (r .low ≡ blankNumber) × (r .width ≡ 0)
+-- what a range asks: its lowest number and how many follow it
+pub record RangeFor (o : List ℕ) (r : Range) : Type 0 where
+  pub low-is : r .low ≡ lowOf o
+  pub width-is : r .width ≡ highOf o - lowOf o
 
 -- the due rows are rows of a column that is shown there, and kind and operand fit it
 pub record ShownRows (b : List ℕ) (start base kind : ℕ) (o : List ℕ) (due rows tag : ℕ) (c : Column) : Type 0 where

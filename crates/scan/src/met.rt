@@ -1,5 +1,4 @@
 // The due rows at which a predicate's outcome is yes, or blank: the kind is looked at for a block, not for each row.
-use catalogue::format::Number;
 use predicate::kind::Kind;
 ghost use Rattle.predicate.specs.Outcome.{Folds};
 ghost use Rattle.scan.specs.Met.{HasRows, PlainMetFor, MetFor, HasRowsAnyOperand, BlankFor};
@@ -18,9 +17,12 @@ fn plain_met_at(
     ensures { λ r. ⌜ PlainMetFor (now (b .entry)) start base kind (now (operand .entry)) due r ⌝ }
 {
     let plain = predicate::kind::plain_kind(kind);
-    if plain <= Kind::NUMBER_BLANK {
-        let range = crate::range::range_of(plain, operand);
+    if plain == Kind::RANGE {
+        let range = crate::range::range_of(operand);
         return crate::number::numbers_within(b, start, base, range.low, range.width, due);
+    }
+    if plain == Kind::NUMBER_BLANK {
+        return crate::number::numbers_blank(b, start, base, due);
     }
     if plain == Kind::TEXT_BLANK {
         return crate::text::texts_blank(b, start, base, due);
@@ -39,7 +41,7 @@ pub fn blank_at(b: &[u8], start: usize, base: usize, kind: u8, due: u64) -> u64
         return 0;
     }
     if plain <= Kind::NUMBER_BLANK {
-        return crate::number::numbers_within(b, start, base, Number::BLANK, 0, due);
+        return crate::number::numbers_blank(b, start, base, due);
     }
     crate::text::texts_blank(b, start, base, due)
 }

@@ -1,9 +1,11 @@
 // A number predicate at the due rows.
+use catalogue::format::Number;
 ghost use mathlib.Core.Path.{_≡_};
-ghost use Prim.Native.Nat.{_+_, _*_, _^_, _≤_, _<_};
+ghost use Prim.Native.Nat.{_+_, _*_, _%_, _^_, _≤_, _<_};
+ghost use lib.ListN.{length};
 ghost use Rattle.fields.specs.Numbers.{numberAt};
 ghost use Rattle.catalogue.specs.Format.{numberTag, numberSize};
-ghost use Rattle.catalogue.specs.InPlace.{HasRow};
+ghost use Rattle.predicate.specs.Meaning.{numberBlank};
 ghost use Rattle.sets.specs.Set.{belowSet};
 ghost use Rattle.sets.specs.Kept.{KeptBy};
 ghost use Rattle.sets.specs.Gathered.{bitOf, gathered};
@@ -19,42 +21,86 @@ fn is_within(low: u32, width: u32, n: u32) -> bool
     !(width < std::num::wrapping_sub_u32(n, low))
 }
 
-// 1 where the number of a row is among those, else 0.
-fn bit_within(b: &[u8], start: usize, row: usize, low: u32, width: u32) -> u64
-    requires { ⌜ HasRow (now b) numberTag start row × (low + width < 2 ^ 32) ⌝ }
-    ensures { λ r. ⌜ (r ≡ bitOf (within low width (numberAt (now (b .entry)) (start + numberSize * row) numberSize))) × (r ≤ 1) ⌝ }
+// The number at a place less low, wrapping. The four bytes are read with the least significant first, and low is taken away between the
+// two steps that put them in order: a reversal that the compiler sees as one instruction would keep the loop over it from vector code.
+fn above(b: &[u8], at: usize, low: u32) -> u32
+    requires { ⌜ at + numberSize ≤ length (now b) ⌝ }
+    ensures { λ r. ⌜ ((r + low) % 2 ^ 32 ≡ numberAt (now (b .entry)) at numberSize) × (r < 2 ^ 32) ⌝ }
 {
-    let n = catalogue::column::number_at(b, start, row);
-    sets::bit(is_within(low, width, n))
+    let x = words::half_at(b, at) as u32;
+    let y = (x & 0xff_00ff) * 256 + (x >> 8u8 & 0xff_00ff);
+    std::num::wrapping_add_u32(std::num::wrapping_sub_u32(y << 16u8, low), y >> 16u8)
 }
 
-// The eight rows from one on.
-fn eight_within(b: &[u8], start: usize, row: usize, low: u32, width: u32) -> u64
-    requires { ⌜ HasDueRows (now b) numberTag start row (belowSet 8) × (low + width < 2 ^ 32) ⌝ }
-    ensures { λ r. ⌜ (r ≡ gathered (λ d. within low width (numberAt (now (b .entry)) (start + numberSize * (row + d)) numberSize)) 8) × (r < 256) ⌝ }
+// Whether the number at a place is among those.
+fn is_within_at(b: &[u8], at: usize, low: u32, width: u32) -> bool
+    requires { ⌜ (at + numberSize ≤ length (now b)) × (low + width < 2 ^ 32) ⌝ }
+    ensures { λ r. ⌜ r ≡ within low width (numberAt (now (b .entry)) at numberSize) ⌝ }
 {
-    bit_within(b, start, row, low, width)
-        + 2 * bit_within(b, start, row + 1, low, width)
-        + 4 * bit_within(b, start, row + 2, low, width)
-        + 8 * bit_within(b, start, row + 3, low, width)
-        + 16 * bit_within(b, start, row + 4, low, width)
-        + 32 * bit_within(b, start, row + 5, low, width)
-        + 64 * bit_within(b, start, row + 6, low, width)
-        + 128 * bit_within(b, start, row + 7, low, width)
+    !(width < above(b, at, low))
 }
 
-// The rows of a whole block, straight through, eight at a time.
+// Whether it is the blank, which is the same from either end.
+fn is_blank_at(b: &[u8], at: usize) -> bool
+    requires { ⌜ at + numberSize ≤ length (now b) ⌝ }
+    ensures { λ r. ⌜ r ≡ numberBlank (numberAt (now (b .entry)) at numberSize) ⌝ }
+{
+    words::half_at(b, at) as u32 == Number::BLANK
+}
+
+// Bit d where a test passes, else 0.
+fn bit_at(test: bool, d: u8) -> u32
+    requires { ⌜ d < 32 ⌝ }
+    ensures { λ r. ⌜ r ≡ bitOf test * 2 ^ d ⌝ }
+{
+    if test { 1u32 << d } else { 0 }
+}
+
+// The 32 numbers from a place on. No bit waits for another.
+fn half_within(b: &[u8], at: usize, low: u32, width: u32) -> u32
+    requires { ⌜ (at + numberSize * 32 ≤ length (now b)) × (low + width < 2 ^ 32) ⌝ }
+    ensures { λ r. ⌜ r ≡ gathered (λ d. within low width (numberAt (now (b .entry)) (at + numberSize * d) numberSize)) 32 ⌝ }
+{
+    let mut met: u32 = 0;
+    let mut d: usize = 0;
+    while d < 32 {
+        let passes = is_within_at(b, at + Number::SIZE * d, low, width);
+        met = met | bit_at(passes, fields::number::narrow(d));
+        d += 1;
+    }
+    met
+}
+
+fn half_blank(b: &[u8], at: usize) -> u32
+    requires { ⌜ at + numberSize * 32 ≤ length (now b) ⌝ }
+    ensures { λ r. ⌜ r ≡ gathered (λ d. numberBlank (numberAt (now (b .entry)) (at + numberSize * d) numberSize)) 32 ⌝ }
+{
+    let mut met: u32 = 0;
+    let mut d: usize = 0;
+    while d < 32 {
+        let passes = is_blank_at(b, at + Number::SIZE * d);
+        met = met | bit_at(passes, fields::number::narrow(d));
+        d += 1;
+    }
+    met
+}
+
+// The rows of a whole block, straight through, by halves: lanes of 32 bits hold a number and its bit.
 fn all_within(b: &[u8], start: usize, base: usize, low: u32, width: u32) -> u64
     requires { ⌜ HasDueRows (now b) numberTag start base (belowSet 64) × (low + width < 2 ^ 32) ⌝ }
     ensures { λ r. ⌜ KeptBy (λ d. within low width (numberAt (now (b .entry)) (start + numberSize * (base + d)) numberSize)) (belowSet 64) r ⌝ }
 {
-    let mut met: u64 = 0;
-    let mut k: usize = 8;
-    while 0 < k {
-        k -= 1;
-        met = 256 * met + eight_within(b, start, base + 8 * k, low, width);
-    }
-    met
+    let at = start + Number::SIZE * base;
+    half_within(b, at, low, width) as u64
+        + 0x1_0000_0000 * half_within(b, at + 128, low, width) as u64
+}
+
+fn all_blank(b: &[u8], start: usize, base: usize) -> u64
+    requires { ⌜ HasDueRows (now b) numberTag start base (belowSet 64) ⌝ }
+    ensures { λ r. ⌜ KeptBy (λ d. numberBlank (numberAt (now (b .entry)) (start + numberSize * (base + d)) numberSize)) (belowSet 64) r ⌝ }
+{
+    let at = start + Number::SIZE * base;
+    half_blank(b, at) as u64 + 0x1_0000_0000 * half_blank(b, at + 128) as u64
 }
 
 // The due rows whose numbers are among those.
@@ -84,4 +130,16 @@ pub fn numbers_within(b: &[u8], start: usize, base: usize, low: u32, width: u32,
         return all_within(b, start, base, low, width);
     }
     due_within(b, start, base, low, width, due)
+}
+
+// The due rows whose numbers are blank. Only a whole block by an equality: in the loop over due rows it would become a branch.
+pub fn numbers_blank(b: &[u8], start: usize, base: usize, due: u64) -> u64
+    requires { ⌜ HasDueRows (now b) numberTag start base due ⌝ }
+    ensures { λ r. ⌜ KeptBy (λ d. numberBlank (numberAt (now (b .entry)) (start + numberSize * (base + d)) numberSize)) due r ⌝ }
+{
+    let full = sets::below(64);
+    if due == full {
+        return all_blank(b, start, base);
+    }
+    due_within(b, start, base, Number::BLANK, 0, due)
 }

@@ -6,6 +6,7 @@ use mathlib.Core.Path.{_≡_, refl, sym, ap, ap₂, _∙_}
 use mathlib.Core.Bool.{Bool, true, false, _&&_, cond}
 use lib.Dec.{eqb, ltb, leb·suc-suc}
 use lib.Pow.{pow-mono}
+use lib.Bits.{bitOr, or-shifted-r}
 use Rattle.bools.specs.Bools.{ltb-yes, ltb-no}
 use Rattle.sets.specs.Set.{has, belowSet}
 use Rattle.sets.specs.SetLaws.{has-half, has-none, has-below}
@@ -113,47 +114,32 @@ gathered-cat P (suc m) n =
     step : (b a x y : ℕ) → y ≡ 2 * x → b + 2 * (a + x) ≡ b + 2 * a + y
     step b a x y e = omega arith
 
--- eight bits in one sum
-pub gathered-eight : (P : ℕ → Bool) {a b c d e f g h : ℕ} → a ≡ bitOf (P 0) → b ≡ bitOf (P 1) → c ≡ bitOf (P 2) → d ≡ bitOf (P 3) → e ≡ bitOf (P 4) → f ≡ bitOf (P 5) → g ≡ bitOf (P 6)
-    → h ≡ bitOf (P 7) → a + 2 * b + 4 * c + 8 * d + 16 * e + 32 * f + 64 * g + 128 * h ≡ gathered P 8
+-- a loop up through 32 numbers: those below k are gathered
+pub record Rising (P : ℕ → Bool) (k met : ℕ) : Type 0 where
+  pub inside : k ≤ 32
+  pub gathered-is : met ≡ gathered P k
+
+pub rising-none : (P : ℕ → Bool) → Rising P 0 0
 unfolding gathered
-gathered-eight P p q r s t u v w = omega arith
+rising-none P = record { inside = omega arith; gathered-is = refl }
 
--- a loop down through the 64 numbers, eight at a time: those from 8 k on are gathered
-pub record Octets (P : ℕ → Bool) (k met : ℕ) : Type 0 where
-  pub inside : k ≤ 8
-  pub gathered-is : met ≡ gathered (λ d. P (8 * k + d)) (64 - 8 * k)
+module _ {P : ℕ → Bool} {k met : ℕ} (R : Rising P k met) where
+  -- n is k at the width of a byte, p the test's answer
+  pub rising-next : {p : Bool} (n : ℕ) {bit : ℕ} → k < 32 → n ≡ k → bit ≡ bitOf p * 2 ^ n → p ≡ P k → Rising P (k + 1) (bitOr met bit)
+  unfolding gathered
+  rising-next {p} n {bit} l w e f = record {
+    inside = omega arith;
+    gathered-is =
+        let g = R .gathered-is in
+        let s = gathered-lt P k in
+        let b : bit ≡ bitOf (P k) * 2 ^ k = e ∙ ap₂ (λ (q : Bool) (j : ℕ). bitOf q * 2 ^ j) f w in
+        let z : k + 0 ≡ k = omega arith in
+        ap (bitOr met) b ∙ or-shifted-r (bitOf (P k)) k met (omega arith) ∙ sum (bitOf (P k)) (2 ^ k) g
+        ∙ sym (gathered-cat P k 1 ∙ ap (λ (j : ℕ). gathered P k + 2 ^ k * (bitOf (P j) + 0)) z);
+  }
+    where
+      sum : (q m : ℕ) {g : ℕ} → met ≡ g → q * m + met ≡ g + m * (q + 0)
+      sum q m {g} e = rw (mul-comm q m) (omega arith)
 
-pub octets-none : (P : ℕ → Bool) → Octets P 8 0
-unfolding gathered
-octets-none P = record { inside = omega arith; gathered-is = refl }
-
-module _ {P : ℕ → Bool} {k met : ℕ} (O : Octets P k met) where
-  pub octets-end : k ≡ 0 → KeptBy P (belowSet 64) met
-  octets-end e =
-      let m : met ≡ gathered (λ d. P (8 * 0 + d)) 64 = rw e at (O .gathered-is) in
-      let s = gathered-same (λ d. P (8 * 0 + d)) P 64 (λ d. ap P (omega arith)) in
-      rw (m ∙ s) (gathered-kept P 64)
-
-  module _ (more : 0 < k) where
-    pub octets-small : met < 2 ^ 56
-    octets-small =
-        let g = gathered-lt (λ d. P (8 * k + d)) (64 - 8 * k) in
-        let e = O .gathered-is in
-        let m = pow-mono {i = 64 - 8 * k} {j = 56} (omega arith) in
-        omega arith
-
-    pub octets-next : {octet : ℕ} → octet ≡ gathered (λ d. P (8 * (k - 1) + d)) 8 → Octets P (k - 1) (256 * met + octet)
-    octets-next {octet} o = record {
-      inside = let l = O .inside in omega arith;
-      gathered-is =
-          let l = O .inside in
-          let n : 8 + (64 - 8 * k) ≡ 64 - 8 * (k - 1) = omega arith in
-          let s = gathered-same (λ d. P (8 * k + d)) (λ d. P (8 * (k - 1) + (8 + d))) (64 - 8 * k) (λ d. ap P (omega arith)) in
-          let c = gathered-cat (λ d. P (8 * (k - 1) + d)) 8 (64 - 8 * k) in
-          sum met octet (gathered (λ d. P (8 * (k - 1) + d)) 8) (gathered (λ d. P (8 * (k - 1) + (8 + d))) (64 - 8 * k)) (gathered (λ d. P (8 * (k - 1) + d)) (8 + (64 - 8 * k))) (O .gathered-is ∙ s) o c
-          ∙ ap (gathered (λ d. P (8 * (k - 1) + d))) n;
-    }
-      where
-        sum : (x y u v z : ℕ) → x ≡ v → y ≡ u → z ≡ u + 256 * v → 256 * x + y ≡ z
-        sum x y u v z e f g = omega arith
+  pub rising-end : 32 ≤ k → met ≡ gathered P 32
+  rising-end l = let i = R .inside in let e : k ≡ 32 = omega arith in R .gathered-is ∙ ap (gathered P) e

@@ -5,7 +5,7 @@ ghost use lib.ListN.{length};
 ghost use Rattle.words.specs.Words.{wordAt};
 
 // The first or the second half of a word.
-fn half_at(b: &[u8], at: usize) -> u64
+pub fn half_at(b: &[u8], at: usize) -> u64
     requires { ⌜ at + 4 ≤ length (now b) ⌝ }
     ensures { λ r. ⌜ (r ≡ wordAt (now (b .entry)) at 4) × (r < 2 ^ 32) ⌝ }
 {

@@ -1,0 +1,68 @@
+-- `above` meets its contract: the bytes are put in order.
+use Prim.Native.Nat.{_/_}
+use native.Mathlib.Omega.{arith}
+use mathlib.Core.Path.{refl}
+use lib.Bits.{and-le-r}
+use Rattle.scan.proofs.Halves.{in-order}
+use borrow.Author.Needs.{needs}
+use Rattle.scan.proofs.number.above.Statement.{statement}
+use Rattle.scan.proofs.number.above.Tie as tie
+
+half-at-requires : tie.Need-half-at-requires
+half-at-requires c κs = search needs
+
+cast-x : tie.Need-cast-x
+cast-x c = search needs
+
+mul-y : tie.Need-mul-y
+mul-y c = let l = and-le-r (c .half-at .result) 16711935 in omega arith
+
+cast-y : tie.Need-cast-y
+cast-y c = search needs
+
+shr-y : tie.Need-shr-y
+shr-y c = search needs
+
+add-y : tie.Need-add-y
+add-y c = let l = and-le-r (c .half-at .result) 16711935 in let m = and-le-r (c .half-at .result / 256) 16711935 in omega arith
+
+cast-wrapping-sub-u32 : tie.Need-cast-wrapping-sub-u32
+cast-wrapping-sub-u32 c = search needs
+
+shl-wrapping-sub-u32 : tie.Need-shl-wrapping-sub-u32
+shl-wrapping-sub-u32 c = search needs
+
+wrapping-sub-u32-requires : tie.Need-wrapping-sub-u32-requires
+wrapping-sub-u32-requires c κs = search needs
+
+cast-wrapping-add-u32 : tie.Need-cast-wrapping-add-u32
+cast-wrapping-add-u32 c = search needs
+
+shr-wrapping-add-u32 : tie.Need-shr-wrapping-add-u32
+shr-wrapping-add-u32 c = search needs
+
+wrapping-add-u32-requires : tie.Need-wrapping-add-u32-requires
+wrapping-add-u32-requires c κs = search needs
+
+returns : tie.Need-returns
+returns c =
+    let a = c .before .before .before .before .args in
+    (in-order (a .b .now) (a .at) (λ k. c .before .before .before .shared-slice-known .given k .fits) _ (a .low) (c .before .before .half-at .ensures .0) refl (c .before .wrapping-sub-u32 .ensures) (c .wrapping-add-u32 .ensures), omega arith)
+
+pub above-spec : {M : Type 1} → statement M
+above-spec =
+    tie.close
+    (tie.spec
+    half-at-requires
+    cast-x
+    mul-y
+    cast-y
+    shr-y
+    add-y
+    cast-wrapping-sub-u32
+    shl-wrapping-sub-u32
+    wrapping-sub-u32-requires
+    cast-wrapping-add-u32
+    shr-wrapping-add-u32
+    wrapping-add-u32-requires
+    returns)
