@@ -1,21 +1,24 @@
--- The check for an earlier payload: byte by byte, and predicate by predicate.
+-- The check for an earlier payload: word by word and byte by byte, and predicate by predicate.
 use Prim.Native.Nat.{ℕ, zero, suc, _+_, _-_, _*_, _≤_, _<_}
 use native.Mathlib.Numerals.{add-one}
 use native.Mathlib.Omega.{arith}
 use mathlib.Core.Path.{_≡_, refl, sym, ap, ap₂, _∙_}
-use mathlib.Core.Bool.{Bool, true, false, _&&_, _||_, and-false, or-false, or-assoc}
+use mathlib.Core.Bool.{Bool, true, false, _&&_, _||_, and-false, and-assoc, or-false, or-assoc}
 use mathlib.Core.Logic.{_⊎_, inl, inr}
 use mathlib.Core.List.{List, [], _∷_, _++_}
 use lib.ListN.{length, getD, take, drop, drop-of-length-le}
 use lib.Seq.{drop-cons}
-use lib.Dec.{eqb}
-use borrow.Author.Tests.{eq-eqb, ne-eqb}
-use Rattle.bools.specs.Bools.{same?, or-left, or-right}
+use lib.Dec.{eqb, leb}
+use borrow.Author.Tests.{eq-eqb, ne-eqb, eqb-true, leb-true, leb-false}
+use Rattle.bools.specs.Bools.{same?, or-left, or-right, both, and-parts, iff-eq}
+use Rattle.fields.specs.Numbers.{Bytes}
+use Rattle.words.specs.Words.{wordAt}
 use Rattle.predicate.specs.Meaning.{Predicate, same}
 use Rattle.predicate.specs.Payload.{payloadHead}
 use Rattle.query.specs.Decode.{payloadAt, payloadOf, isRepeated}
 use Rattle.records.specs.Offsets.{startAt, endAt, HasPayload}
 use Rattle.records.specs.Table.{recordAt, predicateIn, predicatesAt}
+use Rattle.members.specs.Heads.{headAt, OtherHeads}
 use Rattle.query.proofs.PayloadBytes.{payload-byte, payload-length, payload-parts}
 use Rattle.records.proofs.Records.{record-shows}
 
@@ -27,6 +30,10 @@ same-sizes [] (y ∷ b) n = refl
 same-sizes (x ∷ a) [] n = refl
 same-sizes (x ∷ a) (y ∷ b) n = rw (same-sizes a b (λ e. n (ap suc e))) (and-false (eqb x y))
 
+same-at : (a b : List ℕ) (i : ℕ) → length a ≡ length b → i < length a → same (drop i a) (drop i b) ≡ (eqb (getD a i 0) (getD b i 0) && same (drop (i + 1) a) (drop (i + 1) b))
+unfolding same
+same-at a b i sizes l = rw (add-one, drop-cons a i 0 l, drop-cons b i 0 (omega arith))
+
 -- a loop over the bytes: what is left to compare from place i on
 module _ (a b : List ℕ) (i : ℕ) (so-far : same a b ≡ same (drop i a) (drop i b)) (sizes : length a ≡ length b) where
   pub same-end : length a ≤ i → true ≡ same a b
@@ -34,8 +41,7 @@ module _ (a b : List ℕ) (i : ℕ) (so-far : same a b ≡ same (drop i a) (drop
   same-end l = rw (so-far, drop-of-length-le a l, drop-of-length-le b {i = i} (omega arith))
 
   same-step : i < length a → same a b ≡ (eqb (getD a i 0) (getD b i 0) && same (drop (i + 1) a) (drop (i + 1) b))
-  unfolding same
-  same-step l = rw (so-far, add-one, drop-cons a i 0 l, drop-cons b i 0 (omega arith))
+  same-step l = so-far ∙ same-at a b i sizes l
 
   pub same-differ : i < length a → (getD a i 0 ≡ getD b i 0 → ⊥) → false ≡ same a b
   same-differ l n = rw (same-step l, ne-eqb _ _ n)
@@ -43,7 +49,43 @@ module _ (a b : List ℕ) (i : ℕ) (so-far : same a b ≡ same (drop i a) (drop
   pub same-more : i < length a → getD a i 0 ≡ getD b i 0 → same a b ≡ same (drop (i + 1) a) (drop (i + 1) b)
   same-more l e = rw (same-step l, eq-eqb _ _ e)
 
+-- the same by words of k bytes
+word-tells : (x y u v : ℕ) → x < 256 → y < 256 → eqb (x + 256 * u) (y + 256 * v) ≡ (eqb x y && eqb u v)
+word-tells x y u v l m = iff-eq (eqb (x + 256 * u) (y + 256 * v)) (eqb x y && eqb u v) to from
+  where
+    to : eqb (x + 256 * u) (y + 256 * v) ≡ true → (eqb x y && eqb u v) ≡ true
+    to t = let e = eqb-true (x + 256 * u) (y + 256 * v) t in both (eq-eqb x y (omega arith)) (eq-eqb u v (omega arith))
+
+    from : (eqb x y && eqb u v) ≡ true → eqb (x + 256 * u) (y + 256 * v) ≡ true
+    from t =
+        let p = and-parts (eqb x y) (eqb u v) t in
+        let e = eqb-true x y (p .0) in
+        let f = eqb-true u v (p .1) in
+        eq-eqb (x + 256 * u) (y + 256 * v) (omega arith)
+
+module _ (a b : List ℕ) (sa : Bytes a) (sb : Bytes b) (sizes : length a ≡ length b) where
+  same-run : (i k : ℕ) → i + k ≤ length a → same (drop i a) (drop i b) ≡ (eqb (wordAt a i k) (wordAt b i k) && same (drop (i + k) a) (drop (i + k) b))
+  unfolding wordAt
+  same-run i zero l = let z : i + 0 ≡ i = omega arith in rw z
+  same-run i (suc k) l =
+      let z : i + suc k ≡ i + 1 + k = omega arith in
+      same-at a b i sizes (omega arith) ∙ ap (_&&_ (eqb (getD a i 0) (getD b i 0))) (same-run (i + 1) k (omega arith))
+      ∙ sym (and-assoc (eqb (getD a i 0) (getD b i 0)) (eqb (wordAt a (i + 1) k) (wordAt b (i + 1) k)) (same (drop (i + 1 + k) a) (drop (i + 1 + k) b)))
+      ∙ ap₂ _&&_ (sym (word-tells (getD a i 0) (getD b i 0) (wordAt a (i + 1) k) (wordAt b (i + 1) k) (sa i) (sb i))) (ap (λ (j : ℕ). same (drop j a) (drop j b)) (sym z))
+
+  module _ (i : ℕ) (so-far : same a b ≡ same (drop i a) (drop i b)) (l : 8 ≤ length a - i) (inside : i ≤ length a) where
+    pub words-differ : (wordAt a i 8 ≡ wordAt b i 8 → ⊥) → false ≡ same a b
+    words-differ n = rw (so-far, same-run i 8 (omega arith), ne-eqb (wordAt a i 8) (wordAt b i 8) n)
+
+    pub words-more : wordAt a i 8 ≡ wordAt b i 8 → same a b ≡ same (drop (i + 8) a) (drop (i + 8) b)
+    words-more e = rw (so-far, same-run i 8 (omega arith), eq-eqb (wordAt a i 8) (wordAt b i 8) e)
+
 -- a payload against the bytes from `start` up to `end`
+
+pub same-part : (payload q : List ℕ) (start end : ℕ) (r : Bool) → r ≡ same payload (take (end - start) (drop start q)) → r ≡ same payload (payloadAt q start end)
+unfolding payloadAt
+same-part payload q start end r e = e
+
 module _ (payload q : List ℕ) (start end : ℕ) (some : 2 ≤ length payload) (two : start + payloadHead ≤ end) (inside : end ≤ length q) where
   abbrev here : List ℕ
   here = payloadAt q start end
@@ -73,10 +115,6 @@ module _ (payload q : List ℕ) (start end : ℕ) (some : 2 ≤ length payload) 
       go : (getD payload 0 0 ≡ getD q start 0) ⊎ (getD payload 0 0 ≡ getD q start 0 → ⊥) → (column && after) ≡ false
       go (inl e) = rw (other-kind e) (and-false column)
       go (inr m) = rw (ne-eqb (getD payload 0 0) (getD q start 0) m)
-
-  pub same-part : (r : Bool) → r ≡ same payload (take (end - start) (drop start q)) → r ≡ same payload (payloadAt q start end)
-  unfolding payloadAt
-  same-part r e = e
 
 -- the payload at a predicate's offset is its own
 module _ (q os : List ℕ) (c : ℕ) (has : HasPayload q os c) where
@@ -123,3 +161,26 @@ module _ (payload q os : List ℕ) (r : Bool) (c : ℕ) (r-is : r ≡ same paylo
       go : (d ≡ c) ⊎ (d ≡ c → ⊥) → same payload (payloadOf (predicateIn q (recordAt q os d))) ≡ false
       go (inl z) = rw z (sym r-is ∙ e)
       go (inr z) = h d (omega arith) j
+
+-- predicates with another head are unlike, and so are those passed over
+pub unlike-passed : (payload q os : List ℕ) (h n left next : ℕ) → 2 ≤ length payload → h ≡ headAt payload 0 → ((d : ℕ) → d < n → HasPayload q os d) → left ≤ n → OtherHeads h q os next left
+    → Unlike payload q os left n → Unlike payload q os next n
+unlike-passed payload q os h n left next some h-is has l other U d i j = go (leb left d) refl
+  where
+    go : (p : Bool) → leb left d ≡ p → same payload (payloadOf (predicateIn q (recordAt q os d))) ≡ false
+    go true e = U d (leb-true left d e) j
+    go false e =
+        let m : d < left = leb-false left d e in
+        sym (same-shown q os d (has d j) payload false (other-head payload q (startAt os d) (endAt q os d) some (has d j .0) (has d j .1) h (headAt q (startAt os d)) h-is refl (λ z. other d i m (sym z))))
+
+-- and one predicate more that has another; none is left
+module _ (h : ℕ) (q os : List ℕ) (n left : ℕ) where
+  pub other-more : 0 < left → OtherHeads h q os left n → (headAt q (startAt os (left - 1)) ≡ h → ⊥) → OtherHeads h q os (left - 1) n
+  other-more l other ne d i j e = go (same? d (left - 1))
+    where
+      go : (d ≡ left - 1) ⊎ (d ≡ left - 1 → ⊥) → ⊥
+      go (inl z) = ne (rw z at e)
+      go (inr z) = other d (omega arith) j e
+
+  pub other-none : left ≤ 0 → OtherHeads h q os left n → OtherHeads h q os 0 n
+  other-none l other d i j e = other d (omega arith) j e
