@@ -16,7 +16,7 @@ use Rattle.strategy.specs.LiveLaws.{inSpan-yes, inSpan-of, inSpan-no, meets-giv
 use Rattle.strategy.specs.Propagation.{Ancestor}
 use Rattle.sets.specs.Set.{has, setMinus}
 use Rattle.sets.specs.SetLaws.{has-and, has-or, has-none, minus-has, minus-and}
-use Rattle.blocks.specs.Block.{rowLive, rowStep, TakenOut, SettledRows, Passed}
+use Rattle.blocks.specs.Block.{rowLive, rowStep, TakenOut, NoneLive, SettledRows, Passed}
 
 -- THE LOOP OVER THE WORDS OF A GROUP
 
@@ -81,6 +81,56 @@ module _ (a c gone left x : ℕ) (L N : List ℕ) (l : a ≤ c) (h : c < length 
 pub out-end : (a c e gone left : ℕ) (L N : List ℕ) → c ≡ e → TakenOut a (c - a) gone left L N → TakenOut a (e - a) gone left L N
 out-end a c e gone left L N x T = rw (← x) T
 
+-- THE SAME WHERE NO ROW IS TAKEN OUT
+
+meets-more : (a c : ℕ) (l : Live) → a ≤ c → meets a (c + 1 - a) l ≡ (meets a (c - a) l || l c)
+meets-more a c l h =
+    iff-eq (meets a (c + 1 - a) l) (meets a (c - a) l || l c)
+    (λ y. (let r = meets-gives a (c + 1 - a) l y in from (r .0) (r .1) (r .2) (same? (r .0) c)))
+    (λ y. to (or-cases (meets a (c - a) l) (l c) y))
+  where
+    from : (k : ℕ) → InSpan a (c + 1 - a) k → l k ≡ true → (k ≡ c) ⊎ (k ≡ c → ⊥) → (meets a (c - a) l || l c) ≡ true
+    from k i y (inl z) = or-right (meets a (c - a) l) (ap l (sym z) ∙ y)
+    from k i y (inr ne) = or-left (l c) (meets-yes a (c - a) l k (omega arith) y)
+
+    to : (meets a (c - a) l ≡ true) ⊎ (l c ≡ true) → meets a (c + 1 - a) l ≡ true
+    to (inl y) = let r = meets-gives a (c - a) l y in let i = r .1 in meets-yes a (c + 1 - a) l (r .0) (omega arith) (r .2)
+    to (inr y) = meets-yes a (c + 1 - a) l c (omega arith) y
+
+pub none-yet : (a c active : ℕ) (L : List ℕ) → c ≡ a → NoneLive a (c - a) active active L
+none-yet a c active L e d = sym (ap (λ (b : Bool). cond b false (has active d)) (meets-no a (c - a) (rowLive L d) (λ k r. absurd (omega arith))))
+
+pub none-next : (a c active left next : ℕ) (L : List ℕ) → a ≤ c → next ≡ setMinus left (getD L c 0) → NoneLive a (c - a) active left L → NoneLive a (c + 1 - a) active next L
+none-next a c active left next L h e T d =
+    ap (λ (z : ℕ). has z d) e ∙ minus-has left (getD L c 0) d ∙ ap (cond (rowLive L d c) false) (T d)
+    ∙ both-out (meets a (c - a) (rowLive L d)) (rowLive L d c) (has active d) ∙ ap (λ (b : Bool). cond b false (has active d)) (sym (meets-more a c (rowLive L d) h))
+  where
+    both-out : (p q r : Bool) → cond q false (cond p false r) ≡ cond (p || q) false r
+    both-out true true r = refl
+    both-out true false r = refl
+    both-out false true r = refl
+    both-out false false r = refl
+
+-- where no row is left, none is at the end
+pub none-early : (a c e active left : ℕ) (L : List ℕ) → c ≤ e → left ≡ 0 → NoneLive a (c - a) active left L → NoneLive a (e - a) active 0 L
+none-early a c e active left L h z T d = has-none d ∙ sym (go (meets a (c - a) (rowLive L d)) refl)
+  where
+    out : (p : Bool) → cond p false false ≡ false
+    out true = refl
+    out false = refl
+
+    go : (p : Bool) → meets a (c - a) (rowLive L d) ≡ p → cond (meets a (e - a) (rowLive L d)) false (has active d) ≡ false
+    go true y =
+        let r = meets-gives a (c - a) (rowLive L d) y in
+        let i = r .1 in
+        ap (λ (b : Bool). cond b false (has active d)) (meets-yes a (e - a) (rowLive L d) (r .0) (omega arith) (r .2))
+    go false y =
+        let f : has active d ≡ false = sym (T d ∙ ap (λ (b : Bool). cond b false (has active d)) y) ∙ ap (λ (x : ℕ). has x d) z ∙ has-none d in
+        ap (cond (meets a (e - a) (rowLive L d)) false) f ∙ out (meets a (e - a) (rowLive L d))
+
+pub none-end : (a c e active left : ℕ) (L : List ℕ) → c ≡ e → NoneLive a (c - a) active left L → NoneLive a (e - a) active left L
+none-end a c e active left L x T = rw (← x) T
+
 -- THE ROWS THAT A GROUP SETTLES
 
 pub settled-any : (k : Bool) (active met : ℕ) → k ≡ true → SettledRows k active met (bitAnd active met)
@@ -91,23 +141,20 @@ settled-all k active met r e f d = rw (e, f) (minus-and active met d)
 
 -- ONE GROUP, AT EVERY ROW
 
-module _ (g : Ancestor) (active met settled left next : ℕ) (L N : List ℕ) (S : SettledRows (g .settling) active met settled)
-    (T : TakenOut (g .first) (g .count) settled left L N) (n : next ≡ setMinus active left) where
-  next-bit : (d : ℕ) → has next d ≡ cond (has left d) false (has active d)
-  next-bit d = ap (λ (z : ℕ). has z d) n ∙ minus-has active left d
-
+-- the settled rows are taken out of its words, and it goes on where none of these is live
+module _ (g : Ancestor) (active met settled next : ℕ) (L N : List ℕ) (S : SettledRows (g .settling) active met settled) (size : length N ≡ length L)
+    (words : (c d : ℕ) → has (getD N c 0) d ≡ cond (inSpan (g .first) (g .count) c && has settled d) false (has (getD L c 0) d)) (next-bit : NoneLive (g .first) (g .count) active next N) where
   -- nothing of the group is live where it is settled
-  none-left : (d : ℕ) → has settled d ≡ true → has left d ≡ false
+  none-left : (d : ℕ) → has settled d ≡ true → meets (g .first) (g .count) (rowLive N d) ≡ false
   none-left d s =
-      T .meeting d
-      ∙ meets-no (g .first) (g .count) (rowLive N d) (λ c r. T .words c d ∙ ap₂ (λ (p q : Bool). cond (p && q) false (rowLive L d c)) (inSpan-yes (g .first) (g .count) c r) s)
+      meets-no (g .first) (g .count) (rowLive N d) (λ c r. words c d ∙ ap₂ (λ (p q : Bool). cond (p && q) false (rowLive L d c)) (inSpan-yes (g .first) (g .count) c r) s)
 
   steps : {l m : Live} {s t : Bool} → l ≡ m → s ≡ t → _≡_ {A = Step} (record { live = l; settled = s }) (record { live = m; settled = t })
   steps e f = ap₂ (λ (l : Live) (s : Bool). record { live = l; settled = s }) e f
 
   -- the words of the group at a row that it settles, and at any other
   untouched : (d : ℕ) → has settled d ≡ false → rowLive N d ≡ rowLive L d
-  untouched d e = fun-ext (λ c. T .words c d ∙ ap (λ (b : Bool). cond (inSpan (g .first) (g .count) c && b) false (rowLive L d c)) e ∙ off (inSpan (g .first) (g .count) c) (rowLive L d c))
+  untouched d e = fun-ext (λ c. words c d ∙ ap (λ (b : Bool). cond (inSpan (g .first) (g .count) c && b) false (rowLive L d c)) e ∙ off (inSpan (g .first) (g .count) c) (rowLive L d c))
     where
       off : (p q : Bool) → cond (p && false) false q ≡ q
       off true q = refl
@@ -115,7 +162,7 @@ module _ (g : Ancestor) (active met settled left next : ℕ) (L N : List ℕ) (S
 
   emptied : (d : ℕ) → has settled d ≡ true → rowLive N d ≡ without (g .first) (g .count) (rowLive L d)
   unfolding without
-  emptied d e = fun-ext (λ c. T .words c d ∙ ap (λ (b : Bool). cond (inSpan (g .first) (g .count) c && b) false (rowLive L d c)) e ∙ on (inSpan (g .first) (g .count) c) (rowLive L d c))
+  emptied d e = fun-ext (λ c. words c d ∙ ap (λ (b : Bool). cond (inSpan (g .first) (g .count) c && b) false (rowLive L d c)) e ∙ on (inSpan (g .first) (g .count) c) (rowLive L d c))
     where
       on : (p q : Bool) → cond (p && true) false q ≡ cond p false q
       on true q = refl
@@ -130,8 +177,8 @@ module _ (g : Ancestor) (active met settled left next : ℕ) (L N : List ℕ) (S
   row d (inl p) (inr v) =
       let s : has settled d ≡ false = S d ∙ ap₂ (λ (x y : Bool). x && y) p v in
       steps (untouched d s)
-      (next-bit d ∙ ap (cond (has left d) false) p ∙ other (has left d)
-      ∙ ap not (T .meeting d ∙ ap (meets (g .first) (g .count)) (untouched d s)))
+      (next-bit d ∙ ap (cond (meets (g .first) (g .count) (rowLive N d)) false) p ∙ other (meets (g .first) (g .count) (rowLive N d))
+      ∙ ap not (ap (meets (g .first) (g .count)) (untouched d s)))
       ∙ sym (through-asks (g .settling) (has met d) (g .first) (g .count) (rowStep L active d) p (settles-no (g .settling) (has met d) v))
     where
       other : (p : Bool) → cond p false true ≡ not p
@@ -139,12 +186,27 @@ module _ (g : Ancestor) (active met settled left next : ℕ) (L N : List ℕ) (S
       other false = refl
   row d (inr p) v =
       let s : has settled d ≡ false = S d ∙ ap (λ (b : Bool). b && settles (g .settling) (has met d)) p in
-      steps (untouched d s) (next-bit d ∙ ap (cond (has left d) false) p ∙ none (has left d) ∙ sym p)
+      steps (untouched d s) (next-bit d ∙ ap (cond (meets (g .first) (g .count) (rowLive N d)) false) p ∙ none (meets (g .first) (g .count) (rowLive N d)) ∙ sym p)
       ∙ sym (through-stopped (g .settling) (has met d) (g .first) (g .count) (rowStep L active d) p)
     where
       none : (p : Bool) → cond p false false ≡ false
       none true = refl
       none false = refl
 
-  pub group-passed : Passed g met active next L N
-  group-passed = record { size = T .size; rows = λ d. row d (which (has active d)) (which (settles (g .settling) (has met d))) }
+  passed : Passed g met active next L N
+  passed = record { size = size; rows = λ d. row d (which (has active d)) (which (settles (g .settling) (has met d))) }
+
+module _ (g : Ancestor) (active met settled : ℕ) (L : List ℕ) (S : SettledRows (g .settling) active met settled) where
+  pub group-passed : (left next : ℕ) (N : List ℕ) → TakenOut (g .first) (g .count) settled left L N → next ≡ setMinus active left → Passed g met active next L N
+  group-passed left next N T n =
+      passed g active met settled next L N S (T .size) (T .words)
+      (λ d. ap (λ (z : ℕ). has z d) n ∙ minus-has active left d ∙ ap (λ (b : Bool). cond b false (has active d)) (T .meeting d))
+
+  pub unchanged-passed : (next : ℕ) → settled ≡ 0 → NoneLive (g .first) (g .count) active next L → Passed g met active next L L
+  unchanged-passed next e T =
+      passed g active met settled next L L S refl
+      (λ c d. sym (ap (λ (b : Bool). cond (inSpan (g .first) (g .count) c && b) false (rowLive L d c)) (ap (λ (z : ℕ). has z d) e ∙ has-none d) ∙ off (inSpan (g .first) (g .count) c) (rowLive L d c))) T
+    where
+      off : (p q : Bool) → cond (p && false) false q ≡ q
+      off true q = refl
+      off false q = refl
