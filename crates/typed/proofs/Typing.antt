@@ -1,7 +1,7 @@
 -- Typing a question, path by path: the first check that fails, or the bytes of the question at the output's front.
 use Prim.Native.Nat.{ℕ, _^_, _≤_, _<_}
 use native.Mathlib.Omega.{arith}
-use mathlib.Core.Path.{_≡_, sym, _∙_}
+use mathlib.Core.Path.{_≡_, refl, sym, _∙_}
 use mathlib.Core.List.{List}
 use lib.ListN.{length, take}
 use lib.Seq.{length-take-le}
@@ -30,6 +30,7 @@ use Rattle.answers.specs.Written.{Written, written}
 use Rattle.answers.specs.Refusals.{textMisspelled, typedOutputTooShort}
 use Rattle.answers.specs.Checks.{checked}
 use Rattle.demands.specs.Typed.{questionTyped, textTyped, takenText, catalogueTyped, typedOf}
+use Rattle.typed.specs.Typing.{tagsTyped}
 
 -- what a call leaves is what the definition says, and its results have room in the word
 abbrev Leaves : Answer → (new : List ℕ) → Written → Type 0
@@ -79,20 +80,28 @@ module _ (b : List ℕ) (l : Layout) (text old : List ℕ) where
     pub text-long : LaidOut b l (decodeCatalogue b) → typedLimit < length text → Leaves (Refused textMisspelled) old (typedOf b text old)
     text-long h m = of-catalogue (Refused textMisspelled) old h (λ C w. (rw (lt-leb (length text) typedLimit m), omega arith))
 
-    module _ (short : length text ≤ typedLimit) where
-      pub text-misspelled : LaidOut b l (decodeCatalogue b) → questionOf (take (l .columns) (l .tags)) text ≡ misspelled
-          → Leaves (Refused textMisspelled) old (typedOf b text old)
-      text-misspelled h e = of-catalogue (Refused textMisspelled) old h (λ C w. (rw (le-leb (length text) typedLimit short, ← laid-tags w, e), omega arith))
+    pub text-typed : length text ≤ typedLimit → (a : Answer) (new : List ℕ) → LaidOut b l (decodeCatalogue b)
+        → Leaves a new (tagsTyped (take (l .columns) (l .tags)) (questionOf (take (l .columns) (l .tags)) text) old) → Leaves a new (typedOf b text old)
+    unfolding decodeQuery
+    text-typed short a new h v = of-catalogue a new h (λ C w.
+        let e : written (packed a) new ≡ tagsTyped (tagsOf C) (questionOf (tagsOf C) text) old = rw (laid-tags w) at (v .0) in
+        (rw (le-leb (length text) typedLimit short) (e ∙ of-tags C (questionOf (tagsOf C) text)), v .1))
+      where
+        of-tags : (C : Catalogue) (whole : Typed) → tagsTyped (tagsOf C) whole old ≡ textTyped C whole old
+        of-tags C misspelled = refl
+        of-tags C (typed q) = refl
 
-      pub text-typed : {size : ℕ} {own : List ℕ} (a : Answer) (new : List ℕ) → LaidOut b l (decodeCatalogue b)
-          → QuestionTo (questionOf (take (l .columns) (l .tags)) text) size own
-          → Leaves a new (questionTyped (decodeTagged (take (l .columns) (l .tags)) (take size own)) (take size own) old) → Leaves a new (typedOf b text old)
-      unfolding decodeQuery
-      text-typed {size} {own} a new h Q v = of-catalogue a new h (λ C w.
-          let e : questionOf (tagsOf C) text ≡ typed (take size own) = rw (laid-tags w, sym (Q .front .begins)) at (Q .gives) in
-          let u : written (packed a) new ≡ questionTyped (decodeTagged (tagsOf C) (take size own)) (take size own) old = rw (laid-tags w) at (v .0) in
-          (rw (le-leb (length text) typedLimit short, e) u, v .1))
+-- THE TEXT
+module _ (tags text old : List ℕ) where
+  pub text-misspelled : questionOf tags text ≡ misspelled → Leaves (Refused textMisspelled) old (tagsTyped tags (questionOf tags text) old)
+  text-misspelled e = (rw e, omega arith)
+
+  pub text-read : {size : ℕ} {own : List ℕ} (a : Answer) (new : List ℕ) → QuestionTo (questionOf tags text) size own
+      → Leaves a new (questionTyped (decodeTagged tags (take size own)) (take size own) old) → Leaves a new (tagsTyped tags (questionOf tags text) old)
+  text-read {size} {own} a new Q v =
+      let e : questionOf tags text ≡ typed (take size own) = rw (sym (Q .front .begins)) at (Q .gives) in
+      (rw e (v .0), v .1)
 
 -- a question in a table of its own is short enough for the word
-pub question-few : {size : ℕ} {own : List ℕ} {whole : Typed} → QuestionTo whole size own → length own ≡ 24592 → length (take size own) < 2 ^ 24
+pub question-few : {size : ℕ} {own : List ℕ} {whole : Typed} → QuestionTo whole size own → length own < 2 ^ 24 → length (take size own) < 2 ^ 24
 question-few {size} {own} Q e = omega (arith, length-take-le size own (Q .front .inside), Q .front .inside)

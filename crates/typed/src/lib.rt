@@ -12,8 +12,21 @@ ghost use mathlib.Core.Path.{_≡_};
 ghost use Rattle.query.specs.Decode.{decodeTagged};
 ghost use Rattle.answers.specs.Word.{packed, FitsWord};
 ghost use Rattle.answers.specs.Written.{written};
+ghost use Rattle.syntax.specs.Machine.{questionOf};
+ghost use Rattle.parser.specs.Reading.{Fits};
 ghost use Rattle.demands.specs.Typed.{questionTyped};
 ghost use Rattle.demands.specs.Calls.{TypedGives};
+ghost use Rattle.typed.specs.Typing.{tagsTyped};
+
+// A text that is short, as most are: clearing a table for the longest would take longer than reading it.
+pub struct ShortText;
+
+impl ShortText {
+    pub const LIMIT: usize = 1024;
+
+    // Room as TypedText::ROOM has it.
+    pub const ROOM: usize = 1552;
+}
 
 // The checks of the question's own bytes, then the output's; the bytes written.
 fn give_question(tags: &[u8], question: &[u8], output: &mut [u8]) -> Answer
@@ -40,6 +53,17 @@ fn give_question(tags: &[u8], question: &[u8], output: &mut [u8]) -> Answer
     }
 }
 
+// The text read into a lent table, and what its question gives.
+fn type_text(tags: &[u8], text: &[u8], own: &mut [u8], output: &mut [u8]) -> Answer
+    requires { ⌜ Fits (now text) (now own) × (length (now own) < 2 ^ 24) ⌝ }
+    ensures { λ r. ⌜ (written (packed r) (now (output .exit)) ≡ tagsTyped (now (tags .entry)) (questionOf (now (tags .entry)) (now (text .entry))) (now (output .entry))) × FitsWord r ⌝ }
+{
+    match parser::whole::read_text(tags, text, own) {
+        Question::Misspelled => Answer::Refused(Refusal::TEXT_MISSPELLED),
+        Question::Read { size } => give_question(tags, &own[..size], output),
+    }
+}
+
 // The catalogue's checks, the text's, and those of the question that it spells.
 pub fn type_question(catalogue: &[u8], text: &[u8], output: &mut [u8]) -> Answer
     ensures { λ r. ⌜ TypedGives (now (catalogue .entry)) (now (text .entry)) (now (output .entry)) (packed r) (now (output .exit)) × FitsWord r ⌝ }
@@ -54,9 +78,10 @@ pub fn type_question(catalogue: &[u8], text: &[u8], output: &mut [u8]) -> Answer
     if TypedText::LIMIT < text.len() {
         return Answer::Refused(Refusal::TEXT_MISSPELLED);
     }
-    let mut own = [0u8; TypedText::ROOM];
-    match parser::whole::read_text(&tags[..columns], text, &mut own) {
-        Question::Misspelled => Answer::Refused(Refusal::TEXT_MISSPELLED),
-        Question::Read { size } => give_question(&tags[..columns], &own[..size], output),
+    if text.len() <= ShortText::LIMIT {
+        let mut short = [0u8; ShortText::ROOM];
+        return type_text(&tags[..columns], text, &mut short, output);
     }
+    let mut own = [0u8; TypedText::ROOM];
+    type_text(&tags[..columns], text, &mut own, output)
 }

@@ -1,10 +1,9 @@
--- `type_question` meets its contract: the first check that fails, or what its question gives.
+-- `type_question` meets its contract: the first check that fails, or what its text gives, in a short table or in the longest.
 use native.Mathlib.Omega.{arith}
-use mathlib.Core.Path.{refl, sym}
-use lib.Seq.{length-take-le}
+use mathlib.Core.Path.{refl}
 use Rattle.catalogue.specs.Decode.{decodeCatalogue}
 use Rattle.input.proofs.Inputs.{laid-columns-few, laid-tags-length}
-use Rattle.typed.proofs.Typing.{catalogue-refused, text-long, text-misspelled, text-typed, question-few}
+use Rattle.typed.proofs.Typing.{catalogue-refused, text-long, text-typed}
 use borrow.Author.Needs.{needs}
 use Rattle.typed.proofs.type_question.Statement.{statement}
 use Rattle.typed.proofs.type_question.Tie as tie
@@ -26,85 +25,59 @@ returns-2 c =
 
 array-share-prefix-tags : tie.Need-array-share-prefix-tags
 array-share-prefix-tags c =
-    let lay-out = c .before .before .before .lay-out in
-    let a = c .before .before .before .before .before .before .before .args in
-    laid-columns-few _ (lay-out .result) (decodeCatalogue (a .catalogue .now)) (lay-out .ensures)
-
-slice-aggregate-read-text : tie.Need-slice-aggregate-read-text
-slice-aggregate-read-text c =
     let lay-out = c .before .before .before .before .lay-out in
-    let b = c .before .before .before .before .before .before .before .before in
-    let a = b .args in
-    laid-tags-length _ (lay-out .result) (decodeCatalogue (a .catalogue .now)) (lay-out .ensures)
-
-slice-aggregate-read-text-2 : tie.Need-slice-aggregate-read-text-2
-slice-aggregate-read-text-2 c = refl
-
-read-text-requires : tie.Need-read-text-requires
-read-text-requires c κs = (c .before .before .if2 .left, omega arith)
-
-enum-told : tie.Need-enum-told
-enum-told c = search needs
-
-enum-known-size : tie.Need-enum-known-size
-enum-known-size c = search needs
-
-array-share-prefix-tags-2 : tie.Need-array-share-prefix-tags-2
-array-share-prefix-tags-2 c =
-    let b = c .before .before .before .before .before .before .before .before .before .before in
-    let lay-out = b .lay-out in
-    let a = b .before .before .before .before .args in
+    let a = c .before .before .before .before .before .before .before .before .args in
     laid-columns-few _ (lay-out .result) (decodeCatalogue (a .catalogue .now)) (lay-out .ensures)
 
-slice-aggregate-give-question : tie.Need-slice-aggregate-give-question
-slice-aggregate-give-question c =
-    let b = c .before .before .before .before .before .before .before .before .before .before .before in
-    let lay-out = b .lay-out in
-    let a = b .before .before .before .before .args in
+slice-aggregate-type-text : tie.Need-slice-aggregate-type-text
+slice-aggregate-type-text c =
+    let lay-out = c .before .before .before .before .before .lay-out in
+    let a = c .before .before .before .before .before .before .before .before .before .args in
     laid-tags-length _ (lay-out .result) (decodeCatalogue (a .catalogue .now)) (lay-out .ensures)
 
-array-share-prefix-own : tie.Need-array-share-prefix-own
-array-share-prefix-own c = (rw (c .before .before .size .given .1) at (c .before .before .before .before .before .read-text .ensures)) .front .inside
+slice-aggregate-type-text-2 : tie.Need-slice-aggregate-type-text-2
+slice-aggregate-type-text-2 c = refl
 
-slice-aggregate-give-question-2 : tie.Need-slice-aggregate-give-question-2
-slice-aggregate-give-question-2 c =
-    let size = c .before .before .before .size in
-    let read-text = c .before .before .before .before .before .before .read-text in
-    sym (length-take-le _ _ ((rw (size .given .1) at (read-text .ensures)) .front .inside))
-
-give-question-requires : tie.Need-give-question-requires
-give-question-requires c κs =
-    let size = c .before .before .before .before .size in
-    let read-text = c .before .before .before .before .before .before .before .read-text in
-    question-few (rw (size .given .1) at (read-text .ensures)) (read-text .kept .1 .1 .0)
-
-returns-3 : tie.Need-returns-3
-returns-3 c =
-    let read-text = c .before .before .before .read-text in
-    let if2 = c .before .before .before .before .before .before .if2 in
-    let if1 = c .before .before .before .before .before .before .before .if1 in
-    let b = c .before .before .before .before .before .before .before .before .before in
-    let lay-out = b .lay-out in
-    let a = b .before .before .before .before .args in
-    text-misspelled (a .catalogue .now) (lay-out .result) (a .text .now) (a .output .now) (if1 .left) (if2 .left) (lay-out .ensures)
-    (rw (c .enum-told .given .1) at (read-text .ensures))
+type-text-requires : tie.Need-type-text-requires
+type-text-requires c κs = ((c .before .before .before .before .if2 .left, omega (arith, c .before .before .before .if3 .taken)), omega arith)
 
 same-length : tie.Need-same-length
 same-length c = search needs
 
+returns-3 : tie.Need-returns-3
+returns-3 c =
+    let type-text = c .before .before .before .type-text in
+    let lay-out = c .before .before .before .before .before .before .before .before .before .before .before .lay-out in
+    let a = c .before .before .before .before .before .before .before .before .before .before .before .before .before .before .before .args in
+    text-typed (a .catalogue .now) (lay-out .result) (a .text .now) (a .output .now) (c .before .before .before .before .before .before .before .before .before .if1 .left) (c .before .before .before .before .before .before .before .before .if2 .left) (type-text .result) _ (lay-out .ensures) (type-text .ensures)
+
+array-share-prefix-tags-2 : tie.Need-array-share-prefix-tags-2
+array-share-prefix-tags-2 c =
+    let lay-out = c .before .before .before .before .lay-out in
+    let a = c .before .before .before .before .before .before .before .before .args in
+    laid-columns-few _ (lay-out .result) (decodeCatalogue (a .catalogue .now)) (lay-out .ensures)
+
+slice-aggregate-type-text-3 : tie.Need-slice-aggregate-type-text-3
+slice-aggregate-type-text-3 c =
+    let lay-out = c .before .before .before .before .before .lay-out in
+    let a = c .before .before .before .before .before .before .before .before .before .args in
+    laid-tags-length _ (lay-out .result) (decodeCatalogue (a .catalogue .now)) (lay-out .ensures)
+
+slice-aggregate-type-text-4 : tie.Need-slice-aggregate-type-text-4
+slice-aggregate-type-text-4 c = refl
+
+type-text-requires-2 : tie.Need-type-text-requires-2
+type-text-requires-2 c κs = ((c .before .before .before .before .if2 .left, omega (arith, c .before .before .before .before .if2 .left)), omega arith)
+
+same-length-2 : tie.Need-same-length-2
+same-length-2 c = search needs
+
 returns-4 : tie.Need-returns-4
 returns-4 c =
-    let give-question = c .before .before .give-question in
-    let size = c .before .before .before .before .before .before .before .size in
-    let b = c .before .before .before .before .before .before .before .before .before .before in
-    let read-text = b .read-text in
-    let if2 = b .before .before .before .if2 in
-    let if1 = b .before .before .before .before .if1 in
-    let lay-out = b .before .before .before .before .before .before .lay-out in
-    let b2 = b .before .before .before .before .before .before .before .before .before .before in
-    let a = b2 .args in
-    text-typed (a .catalogue .now) (lay-out .result) (a .text .now) (a .output .now) (if1 .left) (if2 .left) (give-question .result) _ (lay-out .ensures)
-    (rw (size .given .1) at (read-text .ensures)) (give-question .ensures)
+    let type-text = c .before .before .before .type-text2 in
+    let lay-out = c .before .before .before .before .before .before .before .before .before .before .before .lay-out in
+    let a = c .before .before .before .before .before .before .before .before .before .before .before .before .before .before .before .args in
+    text-typed (a .catalogue .now) (lay-out .result) (a .text .now) (a .output .now) (c .before .before .before .before .before .before .before .before .before .if1 .left) (c .before .before .before .before .before .before .before .before .if2 .left) (type-text .result) _ (lay-out .ensures) (type-text .ensures)
 
 pub type-question-spec : {M : Type 1} → statement M
 type-question-spec =
@@ -114,16 +87,14 @@ type-question-spec =
     returns
     returns-2
     array-share-prefix-tags
-    slice-aggregate-read-text
-    slice-aggregate-read-text-2
-    read-text-requires
-    enum-told
-    enum-known-size
-    array-share-prefix-tags-2
-    slice-aggregate-give-question
-    array-share-prefix-own
-    slice-aggregate-give-question-2
-    give-question-requires
-    returns-3
+    slice-aggregate-type-text
+    slice-aggregate-type-text-2
+    type-text-requires
     same-length
+    returns-3
+    array-share-prefix-tags-2
+    slice-aggregate-type-text-3
+    slice-aggregate-type-text-4
+    type-text-requires-2
+    same-length-2
     returns-4)
