@@ -8,6 +8,7 @@ ghost use mathlib.Core.Path.{_≡_};
 ghost use Prim.Native.Nat.{_≤_};
 ghost use lib.ListN.{length};
 ghost use Rattle.fields.specs.Header.{headerAt};
+ghost use Rattle.slots.specs.Words.{Limits};
 ghost use Rattle.catalogue.specs.Format.{numberTag, textTag, rowLimit};
 ghost use Rattle.catalogue.specs.Decode.{columnOf};
 ghost use Rattle.catalogue.specs.Sound.{SoundColumn};
@@ -20,8 +21,9 @@ pub enum ColumnField {
     Texts { start: usize, end: usize },
 }
 
-pub fn read_column(b: &[u8], rows: usize, at: usize) -> ColumnField
-    requires { ⌜ (at ≤ length (now b)) × (rows ≤ rowLimit) ⌝ }
+// The table of limits is lent by the caller, once for all columns.
+pub fn read_column(limits: &[u64], b: &[u8], rows: usize, at: usize) -> ColumnField
+    requires { ⌜ Limits (now limits) × (at ≤ length (now b)) × (rows ≤ rowLimit) ⌝ }
     ensures { λ r. ⌜ (r ≡ columnOf (now (b .entry)) rows (headerAt (now (b .entry)) at (length (now (b .entry))))) × SoundColumn (now (b .entry)) rows r ⌝ }
 {
     match fields::header::read_header(b, at, b.len()) {
@@ -35,7 +37,7 @@ pub fn read_column(b: &[u8], rows: usize, at: usize) -> ColumnField
             }
             if tag == Column::TEXT_TAG {
                 if end - start == Text::SLOT_SIZE * rows {
-                    if slots::slot::slots_are_valid(b, start, rows) {
+                    if slots::slot::slots_are_valid(limits, b, start, rows) {
                         return ColumnField::Texts { start, end };
                     }
                     return ColumnField::Refused(Refusal::BAD_SLOT);

@@ -50,10 +50,11 @@ fn lay_out_columns(b: &[u8], rows: usize, columns: usize, first: usize) -> Colum
 {
     let mut tags = [0u8; Column::LIMIT];
     let mut starts = [0usize; Column::LIMIT];
+    let limits = slots::limits::limit_table();
     let mut at = first;
     let mut i: usize = 0;
     while i < columns {
-        match catalogue::column::read_column(b, rows, at) {
+        match catalogue::column::read_column(&limits, b, rows, at) {
             ColumnField::Refused(e) => {
                 return ColumnsLayout {
                     refusal: e,

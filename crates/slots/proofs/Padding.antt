@@ -1,122 +1,166 @@
--- A slot's padding, by three words.
-use Prim.Native.Nat.{ℕ, zero, suc, _+_, _-_, _*_, _^_, _≤_, _<_, min}
+-- A slot is valid just where none of its three words has a forbidden bit.
+use Prim.Native.Nat.{ℕ, zero, suc, _+_, _-_, _*_, _/_, _%_, _^_, _≤_, _<_}
 use native.Mathlib.Omega.{arith}
-use mathlib.Core.Path.{_≡_, refl, sym, ap, _∙_}
-use mathlib.Core.Bool.{Bool, true, false, _&&_, and-assoc}
+use mathlib.Core.Path.{_≡_, refl, sym, ap, ap₂, _∙_}
+use mathlib.Core.Bool.{Bool, true, false, _&&_, cond, and-assoc}
 use mathlib.Core.List.{List}
 use lib.ListN.{getD}
 use lib.Dec.{eqb, leb}
-use borrow.Author.Tests.{leb-true, leb-false, le-leb, lt-leb, ne-eqb}
+use lib.Pow.{shr-mod}
+use lib.Bits.{bitAnd, bitOr, and-block, and-mask, and-high, and-zero-r, and-le-l, and-le-r, or-add-and}
+use borrow.Author.Tests.{eq-eqb, ne-eqb, eqb-true, leb-true, leb-false, le-leb, lt-leb}
+use Rattle.bools.specs.Bools.{iff-eq, both, and-parts}
+use Rattle.fields.specs.Numbers.{Bytes}
 use Rattle.words.specs.Words.{wordAt}
 use Rattle.slots.specs.Slots.{zerosAt, validSlot}
-use Rattle.slots.specs.Words.{limitOf}
+use Rattle.slots.specs.Words.{forbidden, forbiddenWord, Limits}
 
-pow-pos : (k : ℕ) → 0 < 256 ^ k
-pow-pos zero = omega arith
-pow-pos (suc k) = let h : 0 < 256 ^ k = pow-pos k in omega arith
+-- nothing is in a sum, or in two sets of bits, just where nothing is in either part
 
-leb-zero : (x w : ℕ) → leb (x + 256 * w) 0 ≡ (eqb x 0 && leb w 0)
-leb-zero zero zero = refl
-leb-zero zero (suc w) = rw (lt-leb (0 + 256 * suc w) 0 (omega arith), lt-leb (suc w) 0 (omega arith))
-leb-zero (suc x) w = rw (lt-leb (suc x + 256 * w) 0 (omega arith), ne-eqb (suc x) 0 (λ e. omega arith))
+sum-none : (x w : ℕ) → eqb (w * 256 + x) 0 ≡ (eqb x 0 && eqb w 0)
+sum-none zero zero = refl
+sum-none zero (suc w) = rw (ne-eqb (suc w * 256 + 0) 0 (λ e. omega arith), ne-eqb (suc w) 0 (λ e. omega arith))
+sum-none (suc x) w = rw (ne-eqb (w * 256 + suc x) 0 (λ e. omega arith), ne-eqb (suc x) 0 (λ e. omega arith))
 
-leb-step : (x w l p m : ℕ) → x < 256 → l + 1 ≡ 256 * p → m + 1 ≡ p → leb (x + 256 * w) l ≡ leb w m
-leb-step x w l p m h e f = go (leb w m) refl
+pub or-none : (x y : ℕ) → eqb (bitOr x y) 0 ≡ (eqb x 0 && eqb y 0)
+or-none x y = iff-eq (eqb (bitOr x y) 0) (eqb x 0 && eqb y 0) to from
   where
-    go : (r : Bool) → leb w m ≡ r → leb (x + 256 * w) l ≡ leb w m
-    go true q = let z : w ≤ m = leb-true w m q in le-leb (x + 256 * w) l (omega arith) ∙ sym q
-    go false q = let z : m < w = leb-false w m q in lt-leb (x + 256 * w) l (omega arith) ∙ sym q
+    to : eqb (bitOr x y) 0 ≡ true → (eqb x 0 && eqb y 0) ≡ true
+    to t =
+        let e = eqb-true (bitOr x y) 0 t in
+        both (eq-eqb x 0 (omega (arith, or-add-and x y, and-le-r x y))) (eq-eqb y 0 (omega (arith, or-add-and x y, and-le-l x y)))
 
-zeros-zero : (b : List ℕ) (p m : ℕ) → leb (wordAt b p m) 0 ≡ zerosAt b p m
-unfolding zerosAt wordAt
-zeros-zero b p zero = refl
-zeros-zero b p (suc m) = leb-zero (getD b p 0) (wordAt b (p + 1) m) ∙ ap (_&&_ (eqb (getD b p 0) 0)) (zeros-zero b (p + 1) m)
+    from : (eqb x 0 && eqb y 0) ≡ true → eqb (bitOr x y) 0 ≡ true
+    from t =
+        let p = and-parts (eqb x 0) (eqb y 0) t in
+        let e = eqb-true x 0 (p .0) in
+        let f = eqb-true y 0 (p .1) in
+        eq-eqb (bitOr x y) 0 (omega (arith, or-add-and x y))
 
--- a word is small where its later bytes are zeros
-word-limit : (b : List ℕ) → ((i : ℕ) → getD b i 0 < 256) → (k m p : ℕ) → k ≤ m → leb (wordAt b p m) (256 ^ k - 1) ≡ zerosAt b (p + k) (m - k)
-unfolding wordAt
-word-limit b s zero m p l = let z : m - 0 ≡ m = omega arith in let y : p + 0 ≡ p = omega arith in rw (z, y) (zeros-zero b p m)
-word-limit b s (suc k) zero p l = absurd (omega arith)
-word-limit b s (suc k) (suc m) p l =
-    let z : suc m - suc k ≡ m - k = omega arith in
-    let y : p + suc k ≡ p + 1 + k = omega arith in
-    let q : 0 < 256 ^ k = pow-pos k in
-    leb-step (getD b p 0) (wordAt b (p + 1) m) (256 ^ suc k - 1) (256 ^ k) (256 ^ k - 1) (s p) (omega arith) (omega arith) ∙ word-limit b s k m (p + 1) (omega arith) ∙ rw (z, y)
+forbidden-small : (n i : ℕ) → forbidden n i < 256
+unfolding forbidden
+forbidden-small n i = go (leb n 23) (eqb i 0) (leb i n)
+  where
+    go : (p q r : Bool) → cond p (cond q 224 (cond r 0 255)) 255 < 256
+    go true true r = omega arith
+    go true false true = omega arith
+    go true false false = omega arith
+    go false q r = omega arith
 
-zeros-split : (b : List ℕ) (m n p : ℕ) → zerosAt b p (m + n) ≡ (zerosAt b p m && zerosAt b (p + m) n)
-unfolding zerosAt
-zeros-split b zero n p = let z : 0 + n ≡ n = omega arith in let y : p + 0 ≡ p = omega arith in rw (z, y)
-zeros-split b (suc m) n p =
-    let z : suc m + n ≡ suc (m + n) = omega arith in
-    let y : p + suc m ≡ p + 1 + m = omega arith in
-    rw (z, y, zeros-split b m n (p + 1)) (sym (and-assoc (eqb (getD b p 0) 0) (zerosAt b (p + 1) m) (zerosAt b (p + 1 + m) n)))
+-- of the bytes from `at` on, which are those from place i on of a slot, none has a forbidden bit
+unfoldable clearAt : List ℕ → (n at i width : ℕ) → Bool
+clearAt b n at i zero = true
+clearAt b n at i (suc k) = eqb (bitAnd (getD b at 0) (forbidden n i)) 0 && clearAt b n (at + 1) (i + 1) k
 
-zeros-nil : (b : List ℕ) (p : ℕ) → zerosAt b p 0 ≡ true
-unfolding zerosAt
-zeros-nil b p = refl
+clear-split : (b : List ℕ) (n at i k m : ℕ) → clearAt b n at i (k + m) ≡ (clearAt b n at i k && clearAt b n (at + k) (i + k) m)
+unfolding clearAt
+clear-split b n at i zero m = let z : 0 + m ≡ m = omega arith in let y : at + 0 ≡ at = omega arith in let x : i + 0 ≡ i = omega arith in rw (z, y, x)
+clear-split b n at i (suc k) m =
+    let z : suc k + m ≡ suc (k + m) = omega arith in
+    let y : at + suc k ≡ at + 1 + k = omega arith in
+    let x : i + suc k ≡ i + 1 + k = omega arith in
+    rw (z, y, x, clear-split b n (at + 1) (i + 1) k m) (sym (and-assoc (eqb (bitAnd (getD b at 0) (forbidden n i)) 0) (clearAt b n (at + 1) (i + 1) k) (clearAt b n (at + 1 + k) (i + 1 + k) m)))
 
-module _ (b : List ℕ) (s : (i : ℕ) → getD b i 0 < 256) (at n : ℕ) (l : n ≤ 23) where
-  within : (p j k q r : ℕ) → min 8 (j - 16) ≡ k → k ≤ 8 → p + k ≡ q → 8 - k ≡ r → leb (wordAt b p 8) (limitOf j) ≡ zerosAt b q r
-  within p j k q r e h x y = rw (e, ← x, ← y) (word-limit b s k 8 p h)
+word-clear : (b : List ℕ) → Bytes b → (n at i k : ℕ) → eqb (bitAnd (wordAt b at k) (forbiddenWord n i k)) 0 ≡ clearAt b n at i k
+unfolding clearAt wordAt forbiddenWord
+word-clear b s n at i zero = refl
+word-clear b s n at i (suc k) =
+    ap (λ (z : ℕ). eqb z 0) (joined (getD b at 0) (wordAt b (at + 1) k) (forbidden n i) (forbiddenWord n (i + 1) k) (s at) (forbidden-small n i))
+    ∙ sum-none (bitAnd (getD b at 0) (forbidden n i)) (bitAnd (wordAt b (at + 1) k) (forbiddenWord n (i + 1) k))
+    ∙ ap (_&&_ (eqb (bitAnd (getD b at 0) (forbidden n i)) 0)) (word-clear b s n (at + 1) (i + 1) k)
+  where
+    joined : (x w f v : ℕ) → x < 256 → f < 256 → bitAnd (x + 256 * w) (f + 256 * v) ≡ bitAnd w v * 256 + bitAnd x f
+    joined x w f v l m = ap₂ bitAnd (turn x w) (turn f v) ∙ and-block 8 w v x f l m
+      where
+        turn : (x w : ℕ) → x + 256 * w ≡ w * 2 ^ 8 + x
+        turn x w = omega arith
 
-  -- a word of the text, and one of the padding
-  taken : (p j q : ℕ) → 24 ≤ j → p + 8 ≡ q → leb (wordAt b p 8) (limitOf j) ≡ true
-  taken p j q h e = within p j 8 q 0 (omega arith) (omega arith) e refl ∙ zeros-nil b q
+-- the bytes of the text, those after it, and the length byte
 
-  unused : (p j : ℕ) → j ≤ 16 → leb (wordAt b p 8) (limitOf j) ≡ zerosAt b p 8
-  unused p j h = within p j 0 p 8 (omega arith) (omega arith) (omega arith) refl
+module _ (b : List ℕ) (n : ℕ) (short : n ≤ 23) where
+  text-clear : (at i k : ℕ) → 0 < i → i + k ≤ n + 1 → clearAt b n at i k ≡ true
+  unfolding clearAt forbidden
+  text-clear at i zero l m = refl
+  text-clear at i (suc k) l m =
+      rw (le-leb n 23 short, ne-eqb i 0 (λ e. omega arith), le-leb i n (omega arith), and-zero-r (getD b at 0)) (text-clear (at + 1) (i + 1) k (omega arith) (omega arith))
 
-  -- n + 1 to 24 in parts
-  parts : (p c q m : ℕ) → p + c ≡ q → zerosAt b p (c + m) ≡ (zerosAt b p c && zerosAt b q m)
-  parts p c q m e = rw (← e) (zeros-split b c m p)
-
-  abbrev Words : Bool
-  Words = leb (wordAt b at 8) (limitOf (n + 17)) && (leb (wordAt b (at + 8) 8) (limitOf (n + 9)) && leb (wordAt b (at + 16) 8) (limitOf (n + 1)))
-
-  in-first : n ≤ 7 → zerosAt b (at + 1 + n) (23 - n) ≡ Words
-  in-first h =
-      let c : 23 - n ≡ (7 - n) + (8 + 8) = omega arith in
-      rw (within at (n + 17) (n + 1) (at + 1 + n) (7 - n) (omega arith) (omega arith) (omega arith) (omega arith), unused (at + 8) (n + 9) (omega arith), unused (at + 16) (n + 1) (omega arith), c)
-      (parts (at + 1 + n) (7 - n) (at + 8) (8 + 8) (omega arith) ∙ ap (_&&_ (zerosAt b (at + 1 + n) (7 - n))) (parts (at + 8) 8 (at + 16) 8 (omega arith)))
-
-  in-second : 7 < n → n ≤ 15 → zerosAt b (at + 1 + n) (23 - n) ≡ Words
-  in-second h i =
-      let c : 23 - n ≡ (15 - n) + 8 = omega arith in
-      rw (taken at (n + 17) (at + 8) (omega arith) refl, within (at + 8) (n + 9) (n - 7) (at + 1 + n) (15 - n) (omega arith) (omega arith) (omega arith) (omega arith), unused (at + 16) (n + 1) (omega arith), c)
-      (parts (at + 1 + n) (15 - n) (at + 16) 8 (omega arith))
-
-  in-third : 15 < n → zerosAt b (at + 1 + n) (23 - n) ≡ Words
-  in-third h =
-      rw (
-        taken at (n + 17) (at + 8) (omega arith) refl,
-        taken (at + 8) (n + 9) (at + 16) (omega arith) (omega arith),
-        within (at + 16) (n + 1) (n - 15) (at + 1 + n) (23 - n) (omega arith) (omega arith) (omega arith) (omega arith),
-      )
-
-  slot-words : zerosAt b (at + 1 + n) (23 - n) ≡ Words
-  slot-words = go (leb n 7) refl (leb n 15) refl
+  padding-clear : Bytes b → (at i k : ℕ) → n < i → clearAt b n at i k ≡ zerosAt b at k
+  unfolding clearAt forbidden zerosAt
+  padding-clear s at i zero l = refl
+  padding-clear s at i (suc k) l =
+      rw (le-leb n 23 short, ne-eqb i 0 (λ e. omega arith), lt-leb i n l, and-mask (getD b at 0) 8, padding-clear s (at + 1) (i + 1) k (omega arith))
+      (ap (λ (z : ℕ). eqb z 0 && zerosAt b (at + 1) k) (small (getD b at 0) (s at)))
     where
-      go : (x : Bool) → leb n 7 ≡ x → (y : Bool) → leb n 15 ≡ y → zerosAt b (at + 1 + n) (23 - n) ≡ Words
-      go true p y q = in-first (leb-true _ _ p)
-      go false p true q = in-second (leb-false _ _ p) (leb-true _ _ q)
-      go false p false q = in-third (leb-false _ _ q)
+      small : (x : ℕ) → x < 256 → x % 2 ^ 8 ≡ x
+      small x l = omega arith
 
-  module _ (e : n ≡ getD b at 0) where
-    slot-is : validSlot b at ≡ zerosAt b (at + 1 + n) (23 - n)
-    unfolding validSlot
-    slot-is = rw (← e, le-leb n 23 l)
+length-clear : (x : ℕ) → x < 256 → eqb (bitAnd x 224) 0 ≡ leb x 31
+length-clear x l = iff-eq (eqb (bitAnd x 224) 0) (leb x 31) to from
+  where
+    high : bitAnd x 224 ≡ x / 32 * 32
+    high = and-high x 3 5 ∙ ap (λ (z : ℕ). z * 32) (shr-mod {n = x} 3 5 l)
 
-    module _ (x : Bool) (first : x ≡ leb (wordAt b at 8) (limitOf (n + 17))) where
-      pub slot-first : x ≡ false → false ≡ validSlot b at
-      slot-first h = rw (slot-is, slot-words, ← first, h)
+    to : eqb (bitAnd x 224) 0 ≡ true → leb x 31 ≡ true
+    to t = let e : x / 32 * 32 ≡ 0 = sym high ∙ eqb-true (bitAnd x 224) 0 t in le-leb x 31 (omega arith)
 
-      module _ (h : x ≡ true) (y : Bool) (second : y ≡ leb (wordAt b (at + 8) 8) (limitOf (n + 9))) where
-        pub slot-second : y ≡ false → false ≡ validSlot b at
-        slot-second i = rw (slot-is, slot-words, ← first, h, ← second, i)
+    from : leb x 31 ≡ true → eqb (bitAnd x 224) 0 ≡ true
+    from t = let m : x ≤ 31 = leb-true x 31 t in eq-eqb (bitAnd x 224) 0 (high ∙ omega arith)
 
-        pub slot-third : y ≡ true → (z : Bool) → z ≡ leb (wordAt b (at + 16) 8) (limitOf (n + 1)) → z ≡ validSlot b at
-        slot-third i z third = rw (slot-is, slot-words, ← first, h, ← second, i, ← third)
+-- the whole slot
+module _ (b : List ℕ) (s : Bytes b) (at n : ℕ) (e : n ≡ getD b at 0 % 32) where
+  first : (f : ℕ) → forbidden n 0 ≡ f → clearAt b n at 0 24 ≡ (eqb (bitAnd (getD b at 0) f) 0 && clearAt b n (at + 1) 1 23)
+  unfolding clearAt
+  first f g = ap (λ (m : ℕ). eqb (bitAnd (getD b at 0) m) 0 && clearAt b n (at + 1) 1 23) g
 
-pub slot-long : (b : List ℕ) (at n : ℕ) → n ≡ getD b at 0 → 23 < n → false ≡ validSlot b at
-unfolding validSlot
-slot-long b at n e h = rw (← e, lt-leb n 23 h)
+  bad-length : 23 < getD b at 0 → validSlot b at ≡ false
+  unfolding validSlot
+  bad-length l = rw (lt-leb (getD b at 0) 23 l)
+
+  -- a number over the limit in the five bits
+  no-length : 23 < n → clearAt b n at 0 24 ≡ validSlot b at
+  unfolding forbidden
+  no-length l =
+      first 255 (rw (lt-leb n 23 l)) ∙ ap (λ (m : ℕ). eqb m 0 && clearAt b n (at + 1) 1 23) (and-mask (getD b at 0) 8)
+      ∙ ap (λ (q : Bool). q && clearAt b n (at + 1) 1 23) (ne-eqb (getD b at 0 % 2 ^ 8) 0 (λ z. omega (arith, s at))) ∙ sym (bad-length (omega (arith, s at)))
+
+  is-length : n ≤ 23 → (q : Bool) → leb (getD b at 0) 31 ≡ q → (q && clearAt b n (at + 1) 1 23) ≡ validSlot b at
+  unfolding validSlot
+  is-length l false t = let m : 31 < getD b at 0 = leb-false (getD b at 0) 31 t in sym (bad-length (omega arith))
+  is-length l true t =
+      let m : getD b at 0 ≤ 31 = leb-true (getD b at 0) 31 t in
+      let z : getD b at 0 ≡ n = omega arith in
+      let c : 23 ≡ n + (23 - n) = omega arith in
+      let i : 1 + n ≡ n + 1 = omega arith in
+      rw (z, le-leb n 23 l)
+      (ap (clearAt b n (at + 1) 1) c ∙ clear-split b n (at + 1) 1 n (23 - n)
+      ∙ ap₂ _&&_ (text-clear b n l (at + 1) 1 n (omega arith) (omega arith)) (padding-clear b n l s (at + 1 + n) (1 + n) (23 - n) (omega arith)))
+
+  whole : clearAt b n at 0 24 ≡ validSlot b at
+  unfolding forbidden
+  whole = go (leb n 23) refl
+    where
+      go : (q : Bool) → leb n 23 ≡ q → clearAt b n at 0 24 ≡ validSlot b at
+      go true t =
+          let l : n ≤ 23 = leb-true n 23 t in
+          first 224 (rw (le-leb n 23 l)) ∙ ap (λ (q : Bool). q && clearAt b n (at + 1) 1 23) (length-clear (getD b at 0) (s at)) ∙ is-length l (leb (getD b at 0) 31) refl
+      go false t = no-length (leb-false n 23 t)
+
+  by-words : validSlot b at ≡ (eqb (bitAnd (wordAt b at 8) (forbiddenWord n 0 8)) 0 && (eqb (bitAnd (wordAt b (at + 8) 8) (forbiddenWord n 8 8)) 0 && eqb (bitAnd (wordAt b (at + 16) 8) (forbiddenWord n 16 8)) 0))
+  by-words =
+      let z : at + 8 + 8 ≡ at + 16 = omega arith in
+      sym whole ∙ clear-split b n at 0 8 16
+      ∙ ap₂ _&&_ (sym (word-clear b s n at 0 8))
+      (clear-split b n (at + 8) 8 8 8 ∙ ap₂ _&&_ (sym (word-clear b s n (at + 8) 8 8)) (ap (λ (p : ℕ). clearAt b n p 16 8) z ∙ sym (word-clear b s n (at + 16) 16 8)))
+
+-- as the code has it: w is the length byte, j the place of its entries, x, y and z the three words
+pub slot-seen : (t b : List ℕ) → Limits t → Bytes b → (at w : ℕ) {j x y z : ℕ} → w ≡ getD b at 0 → j ≡ 3 * (w % 32) → x ≡ wordAt b at 8 → y ≡ wordAt b (at + 8) 8 → z ≡ wordAt b (at + 16) 8
+    → validSlot b at ≡ (eqb (bitAnd x (getD t j 0)) 0 && (eqb (bitAnd y (getD t (j + 1) 0)) 0 && eqb (bitAnd z (getD t (j + 2) 0)) 0))
+slot-seen t b L s at w {j} {x} {y} {z} e f ex ey ez =
+    by-words b s at (w % 32) (ap (λ (v : ℕ). v % 32) e)
+    ∙ ap₂ _&&_ (word ex (entry 0 j (omega arith) (omega arith) (omega arith))) (ap₂ _&&_ (word ey (entry 1 (j + 1) (omega arith) (omega arith) (omega arith))) (word ez (entry 2 (j + 2) (omega arith) (omega arith) (omega arith))))
+  where
+    word : {u v m k : ℕ} → u ≡ v → k ≡ m → eqb (bitAnd v m) 0 ≡ eqb (bitAnd u k) 0
+    word g h = ap₂ (λ (p q : ℕ). eqb (bitAnd p q) 0) (sym g) (sym h)
+
+    entry : (i k : ℕ) → k < 96 → k / 3 ≡ w % 32 → k % 3 ≡ i → getD t k 0 ≡ forbiddenWord (w % 32) (8 * i) 8
+    entry i k l g h = L .rule k l ∙ ap₂ (λ (p q : ℕ). forbiddenWord p (8 * q) 8) g h

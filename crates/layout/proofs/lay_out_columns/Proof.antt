@@ -9,16 +9,22 @@ use Rattle.layout.proofs.lay_out_columns.Statement.{statement}
 use Rattle.layout.proofs.lay_out_columns.Tie as tie
 
 abbrev Inv-loop : tie.InvT-loop
-Inv-loop b rows columns first tags₀ starts₀ at₀ i₀ tags starts at i = Reading b rows columns first tags starts at i
+Inv-loop b rows columns first tags₀ starts₀ limits₀ at₀ i₀ tags starts at i = Reading b rows columns first tags starts at i
 
 abbrev μ-loop : tie.MeasureT-loop
-μ-loop b rows columns first tags₀ starts₀ at₀ i₀ tags starts at i = columns - i
+μ-loop b rows columns first tags₀ starts₀ limits₀ at₀ i₀ tags starts at i = columns - i
+
+limit-table-requires : tie.Need-limit-table-requires Inv-loop μ-loop
+limit-table-requires c κs = search needs
 
 loop-holds : tie.Need-loop-holds Inv-loop μ-loop
 loop-holds c = reading-none _ _ _ _ _ _ refl refl (omega arith) (omega arith)
 
+slice-aggregate-read-column : tie.Need-slice-aggregate-read-column Inv-loop μ-loop
+slice-aggregate-read-column c = search needs
+
 read-column-requires : tie.Need-read-column-requires Inv-loop μ-loop
-read-column-requires c κs = search needs
+read-column-requires c κs = (c .before .before .before .limit-table .ensures, omega arith, omega arith)
 
 enum-known-e : tie.Need-enum-known-e Inv-loop μ-loop
 enum-known-e c = search needs
@@ -26,7 +32,7 @@ enum-known-e c = search needs
 returns : tie.Need-returns Inv-loop μ-loop
 returns c =
     let read = c .before .before .before .read-column .ensures in
-    reading-refused _ _ _ _ _ _ _ _ (c .before .before .before .before .before .loop .inv) _ (read .0) (read .1) (omega arith) _ _ (c .before .e .given .1) refl
+    reading-refused _ _ _ _ _ _ _ _ (c .before .before .before .before .before .before .loop .inv) _ (read .0) (read .1) (omega arith) _ _ (c .before .e .given .1) refl
 
 enum-known-start : tie.Need-enum-known-start Inv-loop μ-loop
 enum-known-start c = search needs
@@ -60,7 +66,7 @@ loop-less c = search needs
 
 loop-again : tie.Need-loop-again Inv-loop μ-loop
 loop-again c =
-    let inv = c .before .before .before .loop .inv in
+    let inv = c .before .before .before .before .loop .inv in
     let read = c .before .read-column .ensures in
     ⊎-elim
     (λ w. reading-numbers _ _ _ _ _ _ _ _ inv _ (read .0) (read .1) (omega arith) _ _ _ _ _ (w .1 .given .1) (w .3) (w .4) (w .5))
@@ -76,7 +82,9 @@ lay-out-columns-spec =
     (tie.spec
     Inv-loop
     μ-loop
+    limit-table-requires
     loop-holds
+    slice-aggregate-read-column
     read-column-requires
     enum-known-e
     returns

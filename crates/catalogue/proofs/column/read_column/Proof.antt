@@ -42,7 +42,10 @@ mul-if4 : tie.Need-mul-if4
 mul-if4 c = search needs
 
 slots-are-valid-requires : tie.Need-slots-are-valid-requires
-slots-are-valid-requires c κs = let o = rw (c .before .before .before .before .tag .given .1) at (c .before .before .before .before .before .before .read-header .ensures .1) in omega (arith, o)
+slots-are-valid-requires c κs =
+    let r = c .before .before .before .before .before .before in
+    let o = rw (c .before .before .before .before .tag .given .1) at (r .read-header .ensures .1) in
+    (r .before .before .before .pre .0, omega (arith, o))
 
 returns-3 : tie.Need-returns-3
 unfolding columnOf
