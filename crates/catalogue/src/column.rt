@@ -8,7 +8,7 @@ ghost use mathlib.Core.Path.{_≡_};
 ghost use Prim.Native.Nat.{_≤_};
 ghost use lib.ListN.{length};
 ghost use Rattle.fields.specs.Header.{headerAt};
-ghost use Rattle.slots.specs.Words.{Limits};
+ghost use Rattle.slots.specs.Limits.{Limits};
 ghost use Rattle.catalogue.specs.Format.{numberTag, textTag, rowLimit};
 ghost use Rattle.catalogue.specs.Decode.{columnOf};
 ghost use Rattle.catalogue.specs.Sound.{SoundColumn};
@@ -22,7 +22,7 @@ pub enum ColumnField {
 }
 
 // The table of limits is lent by the caller, once for all columns.
-pub fn read_column(limits: &[u64], b: &[u8], rows: usize, at: usize) -> ColumnField
+pub fn read_column(limits: &[u8], b: &[u8], rows: usize, at: usize) -> ColumnField
     requires { ⌜ Limits (now limits) × (at ≤ length (now b)) × (rows ≤ rowLimit) ⌝ }
     ensures { λ r. ⌜ (r ≡ columnOf (now (b .entry)) rows (headerAt (now (b .entry)) at (length (now (b .entry))))) × SoundColumn (now (b .entry)) rows r ⌝ }
 {

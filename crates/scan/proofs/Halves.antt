@@ -1,6 +1,6 @@
 -- The number of four bytes from the number of the same bytes with the least significant first, and a block from its halves.
 use Prim.Native.Nat.{ℕ, _+_, _*_, _/_, _%_, _^_, _≤_, _<_}
-use native.Mathlib.Nat.{zero-mul}
+use native.Mathlib.Nat.{zero-mul, mod-add-mod, add-mod-mod}
 use native.Mathlib.Omega.{arith}
 use mathlib.Core.Path.{_≡_, refl, sym, ap, ap₂, _∙_}
 use mathlib.Core.Bool.{Bool, true, false}
@@ -59,7 +59,7 @@ turned h l y s low r lh ll e f g = wrapped s low r (f ∙ up) (g ∙ ap (λ (z :
     wrapped : (s low r : ℕ) → (s + low) % 2 ^ 32 ≡ 65536 * h → r ≡ (s + l) % 2 ^ 32 → (r + low) % 2 ^ 32 ≡ 65536 * h + l
     wrapped s low r f g = omega (arith, lh, ll)
 
-pub in-order : (b : List ℕ) (p : ℕ) → Bytes b → (s low : ℕ) {x y r : ℕ} → x ≡ wordAt b p 4 → y ≡ bitAnd x 16711935 * 256 + bitAnd (x / 2 ^ 8) 16711935
+in-order : (b : List ℕ) (p : ℕ) → Bytes b → (s low : ℕ) {x y r : ℕ} → x ≡ wordAt b p 4 → y ≡ bitAnd x 16711935 * 256 + bitAnd (x / 2 ^ 8) 16711935
     → (s + low) % 2 ^ 32 ≡ y * 2 ^ 16 % 2 ^ 32 → r ≡ (s + y / 2 ^ 16) % 2 ^ 32 → (r + low) % 2 ^ 32 ≡ numberAt b p 4
 in-order b p bytes s low {x} {y} {r} ex ey es er =
     go _ _ _ _ (bytes p) (bytes (p + 1)) (bytes (p + 2)) (bytes (p + 3)) (ex ∙ word-four b p) ∙ sym (number-four b p)
@@ -73,6 +73,17 @@ in-order b p bytes s low {x} {y} {r} ex ey es er =
         turned (a1 + 256 * a0) (a3 + 256 * a2) y s low r (omega (arith, l0, l1)) (omega (arith, l2, l3))
         (sums a0 a1 a2 a3 (bitAnd x 16711935) (bitAnd (x / 256) 16711935) y (pairs-of a0 a1 a2 a3 x l0 l1 l2 (e ∙ omega arith)) (pairs-of a1 a2 a3 0 (x / 256) l1 l2 l3 d) ey) es er
         ∙ omega arith
+
+-- the same with 2^31 taken off `low` and off the sum
+pub in-order-signed : (b : List ℕ) (p : ℕ) → Bytes b → (turned s low r : ℕ) {x y sum : ℕ} → x ≡ wordAt b p 4 → y ≡ bitAnd x 16711935 * 256 + bitAnd (x / 2 ^ 8) 16711935
+    → (turned + 2 ^ 31) % 2 ^ 32 ≡ low → (s + turned) % 2 ^ 32 ≡ y * 2 ^ 16 % 2 ^ 32 → sum ≡ (s + y / 2 ^ 16) % 2 ^ 32 → (r + 2 ^ 31) % 2 ^ 32 ≡ sum
+    → (r + low) % 2 ^ 32 ≡ numberAt b p 4
+in-order-signed b p bytes turned s low r {sum = sum} ex ey el es et er =
+    ap (λ (z : ℕ). (r + z) % 2 ^ 32) (sym el) ∙ add-mod-mod r (turned + 2 ^ 31) (2 ^ 32) ∙ ap (λ (z : ℕ). z % 2 ^ 32) swap ∙ sym (mod-add-mod (r + 2 ^ 31) (2 ^ 32) turned)
+    ∙ ap (λ (z : ℕ). (z + turned) % 2 ^ 32) er ∙ in-order b p bytes s turned ex ey es et
+  where
+    swap : r + (turned + 2 ^ 31) ≡ r + 2 ^ 31 + turned
+    swap = omega arith
 
 -- a number of four bytes is the blank from either end
 pub blank-either : (b : List ℕ) (p : ℕ) → Bytes b → {x : ℕ} → x ≡ wordAt b p 4 → eqb x blankNumber ≡ numberBlank (numberAt b p 4)

@@ -23,13 +23,16 @@ fn is_within(low: u32, width: u32, n: u32) -> bool
 
 // The number at a place less low, wrapping. The four bytes are read with the least significant first, and low is taken away between the
 // two steps that put them in order: a reversal that the compiler sees as one instruction would keep the loop over it from vector code.
+// Lanes are compared as signed numbers: with 2^31 taken off low and off the sum, none needs its top bit turned for that.
 fn above(b: &[u8], at: usize, low: u32) -> u32
     requires { ⌜ at + numberSize ≤ length (now b) ⌝ }
     ensures { λ r. ⌜ ((r + low) % 2 ^ 32 ≡ numberAt (now (b .entry)) at numberSize) × (r < 2 ^ 32) ⌝ }
 {
     let x = words::half_at(b, at) as u32;
     let y = (x & 0xff_00ff) * 256 + (x >> 8u8 & 0xff_00ff);
-    std::num::wrapping_add_u32(std::num::wrapping_sub_u32(y << 16u8, low), y >> 16u8)
+    let turned = std::num::wrapping_sub_u32(low, 0x8000_0000);
+    let first = std::num::wrapping_sub_u32(y << 16u8, turned);
+    std::num::wrapping_sub_u32(std::num::wrapping_add_u32(first, y >> 16u8), 0x8000_0000)
 }
 
 // Whether the number at a place is among those.

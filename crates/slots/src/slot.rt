@@ -4,7 +4,7 @@ ghost use mathlib.Core.Path.{_≡_};
 ghost use Prim.Native.Nat.{_+_, _*_, _≤_};
 ghost use lib.ListN.{length};
 ghost use Rattle.slots.specs.Slots.{slotSize, validSlots};
-ghost use Rattle.slots.specs.Words.{Limits};
+ghost use Rattle.slots.specs.Limits.{Limits};
 
 pub struct Text;
 
@@ -16,7 +16,7 @@ impl Text {
 
 // The slots of so many rows from a place on, by the table of limits that is lent. The stray bits of all slots are gathered, those of the
 // first, the second and the third words apart, and asked for once: with no branch in it, the loop works on two words at a time.
-pub fn slots_are_valid(limits: &[u64], b: &[u8], at: usize, n: usize) -> bool
+pub fn slots_are_valid(limits: &[u8], b: &[u8], at: usize, n: usize) -> bool
     requires { ⌜ Limits (now limits) × (at + slotSize * n ≤ length (now b)) ⌝ }
     ensures { λ r. ⌜ r ≡ validSlots (now (b .entry)) at n ⌝ }
 {
@@ -26,10 +26,10 @@ pub fn slots_are_valid(limits: &[u64], b: &[u8], at: usize, n: usize) -> bool
     let mut p = at;
     let mut left = n;
     while 0 < left {
-        let j = 3 * (fields::number::widen(b[p]) % 32);
-        x = x | words::word_at(b, p) & limits[j];
-        y = y | words::word_at(b, p + 8) & limits[j + 1];
-        z = z | words::word_at(b, p + 16) & limits[j + 2];
+        let k = 255 - fields::number::widen(b[p]);
+        x = x | words::word_at(b, p) & words::word_at(limits, k);
+        y = y | words::word_at(b, p + 8) & words::word_at(limits, k + 8);
+        z = z | words::word_at(b, p + 16) & words::word_at(limits, k + 16);
         p += Text::SLOT_SIZE;
         left -= 1;
     }

@@ -1,8 +1,8 @@
 -- `slots_are_valid` meets its contract. The invariant: the stray bits seen and the slots left from p on decide the answer.
 use native.Mathlib.Omega.{arith}
-use Prim.Native.Nat.{_+_, _*_, _%_, _≤_}
+use Prim.Native.Nat.{_+_, _*_, _≤_}
 use mathlib.Core.Path.{refl}
-use lib.ListN.{length, getD}
+use lib.ListN.{length}
 use lib.Bits.{bitAnd}
 use borrow.Author.Needs.{needs}
 use Rattle.slots.specs.Slots.{slotSize}
@@ -26,47 +26,38 @@ shared-slice-read-widen c = search needs
 widen-requires : tie.Need-widen-requires Inv-loop μ-loop
 widen-requires c κs = search needs
 
-mul-j : tie.Need-mul-j Inv-loop μ-loop
-mul-j c = search needs
+sub-k : tie.Need-sub-k Inv-loop μ-loop
+sub-k c = search needs
 
 word-at-requires : tie.Need-word-at-requires Inv-loop μ-loop
 word-at-requires c κs = search needs
 
-mul-x : tie.Need-mul-x Inv-loop μ-loop
-mul-x c = search needs
-
-shared-slice-read-x : tie.Need-shared-slice-read-x Inv-loop μ-loop
-shared-slice-read-x c = search needs
+word-at-requires-2 : tie.Need-word-at-requires-2 Inv-loop μ-loop
+word-at-requires-2 c κs = search needs
 
 add-word-at : tie.Need-add-word-at Inv-loop μ-loop
 add-word-at c = search needs
 
-word-at-requires-2 : tie.Need-word-at-requires-2 Inv-loop μ-loop
-word-at-requires-2 c κs = search needs
-
-add-y : tie.Need-add-y Inv-loop μ-loop
-add-y c = search needs
-
-mul-y : tie.Need-mul-y Inv-loop μ-loop
-mul-y c = search needs
-
-shared-slice-read-y : tie.Need-shared-slice-read-y Inv-loop μ-loop
-shared-slice-read-y c = search needs
+word-at-requires-3 : tie.Need-word-at-requires-3 Inv-loop μ-loop
+word-at-requires-3 c κs = search needs
 
 add-word-at-2 : tie.Need-add-word-at-2 Inv-loop μ-loop
 add-word-at-2 c = search needs
 
-word-at-requires-3 : tie.Need-word-at-requires-3 Inv-loop μ-loop
-word-at-requires-3 c κs = search needs
+word-at-requires-4 : tie.Need-word-at-requires-4 Inv-loop μ-loop
+word-at-requires-4 c κs = search needs
 
-add-z : tie.Need-add-z Inv-loop μ-loop
-add-z c = search needs
+add-word-at-3 : tie.Need-add-word-at-3 Inv-loop μ-loop
+add-word-at-3 c = search needs
 
-mul-z : tie.Need-mul-z Inv-loop μ-loop
-mul-z c = search needs
+word-at-requires-5 : tie.Need-word-at-requires-5 Inv-loop μ-loop
+word-at-requires-5 c κs = search needs
 
-shared-slice-read-z : tie.Need-shared-slice-read-z Inv-loop μ-loop
-shared-slice-read-z c = search needs
+add-word-at-4 : tie.Need-add-word-at-4 Inv-loop μ-loop
+add-word-at-4 c = search needs
+
+word-at-requires-6 : tie.Need-word-at-requires-6 Inv-loop μ-loop
+word-at-requires-6 c κs = search needs
 
 add-p : tie.Need-add-p Inv-loop μ-loop
 add-p c = search needs
@@ -79,18 +70,22 @@ loop-less c = search needs
 
 loop-again : tie.Need-loop-again Inv-loop μ-loop
 loop-again c =
-    let k = c .before .before .before .before .before .before in
+    let w = c .before .before .before .before .before in
+    let k = w .before in
     let l = k .before .before .before in
     let a = l .before .before .before in
-    let table = a .args .limits .now in
-    let j = 3 * (k .widen .result % 32) in
-    let first = c .before .before .before .before .before .word-at in
-    let second = c .before .before .before .word-at2 in
-    let third = c .before .word-at3 in
-    let seen = slot-seen table (a .args .b .now) (a .pre .0) (λ i. l .before .shared-slice-known2 .given i .fits) (l .loop .p) (k .widen .result) (k .widen .ensures .0) refl (first .ensures) (second .ensures) (third .ensures) in (
+    let known = l .before in
+    let first = w .word-at in
+    let second = c .before .before .before .word-at3 in
+    let third = c .before .word-at5 in
+    let first-limits = c .before .before .before .before .word-at2 in
+    let second-limits = c .before .before .word-at4 in
+    let third-limits = c .word-at6 in
+    let seen = slot-seen (a .args .limits .now) (a .args .b .now) (a .pre .0) (λ i. known .before .shared-slice-known .given i .fits) (λ i. known .shared-slice-known2 .given i .fits) (l .loop .p) (k .widen .result)
+    (k .widen .ensures .0) (first .ensures) (second .ensures) (third .ensures) (first-limits .ensures) (second-limits .ensures) (third-limits .ensures) in (
       omega arith,
       slots-next (a .args .b .now) (a .args .at) (a .args .n) (l .loop .p) (l .loop .left) (l .loop .x) (l .loop .y) (l .loop .z) (l .loop .inv .1)
-          (bitAnd (first .result) (getD table j 0)) (bitAnd (second .result) (getD table (j + 1) 0)) (bitAnd (third .result) (getD table (j + 2) 0)) (omega arith) seen,
+          (bitAnd (first .result) (first-limits .result)) (bitAnd (second .result) (second-limits .result)) (bitAnd (third .result) (third-limits .result)) (omega arith) seen,
     )
 
 returns : tie.Need-returns Inv-loop μ-loop
@@ -105,20 +100,17 @@ slots-are-valid-spec =
     loop-holds
     shared-slice-read-widen
     widen-requires
-    mul-j
+    sub-k
     word-at-requires
-    mul-x
-    shared-slice-read-x
-    add-word-at
     word-at-requires-2
-    add-y
-    mul-y
-    shared-slice-read-y
-    add-word-at-2
+    add-word-at
     word-at-requires-3
-    add-z
-    mul-z
-    shared-slice-read-z
+    add-word-at-2
+    word-at-requires-4
+    add-word-at-3
+    word-at-requires-5
+    add-word-at-4
+    word-at-requires-6
     add-p
     sub-left
     loop-less

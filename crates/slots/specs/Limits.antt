@@ -1,0 +1,20 @@
+-- How the code looks at a slot's length and padding: a table of the bits that may not stand in a byte.
+use Prim.Native.Nat.{ℕ, _+_, _-_, _<_}
+use mathlib.Core.Path.{_≡_}
+use mathlib.Core.Bool.{_&&_, cond}
+use mathlib.Core.List.{List}
+use lib.ListN.{length, getD}
+use lib.Dec.{leb, ltb}
+use Rattle.slots.specs.Slots.{slotSize, textLimit}
+
+-- Byte i of a slot of length n is held to entry 255 - n + i. Entries 232 to 255 forbid nothing, all others every bit: so of a length up to 23
+-- the length byte and the text are free and the bytes after it are not, and of a greater one the length byte itself is not.
+abbrev pub limitOf : ℕ → ℕ
+limitOf k = cond (leb (255 - textLimit) k && ltb k 256) 0 255
+
+abbrev pub limitCount : ℕ
+limitCount = 255 + slotSize
+
+pub record Limits (table : List ℕ) : Type 0 where
+  pub size : length table ≡ limitCount
+  pub rule : (k : ℕ) → k < limitCount → getD table k 0 ≡ limitOf k
