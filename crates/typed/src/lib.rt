@@ -24,7 +24,7 @@ pub struct ShortText;
 impl ShortText {
     pub const LIMIT: usize = 1024;
 
-    // Room as TypedText::ROOM has it.
+    // Room as TypedText::ROOM has it: half as many bytes again, and 16.
     pub const ROOM: usize = 1552;
 }
 
@@ -56,7 +56,9 @@ fn give_question(tags: &[u8], question: &[u8], output: &mut [u8]) -> Answer
 // The text read into a lent table, and what its question gives.
 fn type_text(tags: &[u8], text: &[u8], own: &mut [u8], output: &mut [u8]) -> Answer
     requires { ⌜ Fits (now text) (now own) × (length (now own) < 2 ^ 24) ⌝ }
-    ensures { λ r. ⌜ (written (packed r) (now (output .exit)) ≡ tagsTyped (now (tags .entry)) (questionOf (now (tags .entry)) (now (text .entry))) (now (output .entry))) × FitsWord r ⌝ }
+    ensures { λ r. ⌜ (written (packed r) (now (output .exit))
+        ≡ tagsTyped (now (tags .entry)) (questionOf (now (tags .entry)) (now (text .entry))) (now (output .entry)))
+        × FitsWord r ⌝ }
 {
     match parser::whole::read_text(tags, text, own) {
         Question::Misspelled => Answer::Refused(Refusal::TEXT_MISSPELLED),
