@@ -1,15 +1,21 @@
 -- A head put together byte by byte: every slot that starts as the operand asks passes.
 use Prim.Native.Nat.{ℕ, zero, suc, _+_, _-_, _*_, _%_, _^_, _≤_, _<_}
-use native.Mathlib.Nat.{pow-suc}
+use native.Mathlib.Nat.{add-zero, pow-suc}
 use native.Mathlib.Omega.{arith}
 use mathlib.Core.Path.{_≡_, refl, sym, ap, ap₂, _∙_}
+use mathlib.Core.Bool.{Bool, true, false, _&&_, _||_, xor}
+use mathlib.Core.Logic.{_⊎_, inl, inr}
 use mathlib.Core.List.{List}
 use lib.ListN.{length, getD}
-use lib.Bits.{bitAnd, bitOr, or-zero-r, or-add-and, and-mask, or-block}
+use lib.Dec.{eqb, ltb}
+use lib.Pow.{pow-pos}
+use lib.Bits.{bitAnd, bitOr, bitXor, or-zero-r, xor-zero-r, and-le-r, xor-lt, and-mask, or-block}
 use borrow.Author.Tests.{eq-eqb}
-use Rattle.bools.specs.Bools.{eqb-eq, iff-eq}
-use Rattle.fields.specs.Numbers.{numberAt}
+use Rattle.bools.specs.Bools.{which, eqb-eq, ltb-le}
+use Rattle.words.specs.Words.{wordAt}
 use Rattle.slots.specs.Slots.{textLimit}
+use Rattle.sets.specs.Set.{has, belowSet}
+use Rattle.sets.specs.SetLaws.{has-and, has-or, has-xor, has-none, has-below, has-high, below-lt, same-set}
 use Rattle.predicate.specs.Kinds.{equalsKind}
 use Rattle.predicate.specs.Meaning.{fold}
 use Rattle.heads.specs.declared.byte_test.ByteTest.{ByteTest}
@@ -42,89 +48,94 @@ module _ (kind : ℕ) (o : List ℕ) where
         K .passes (getD b (p + j) 0) (S .bytes (p + j)) f;
   }
 
--- the first j bytes are put together
-pub record Heading (kind : ℕ) (o : List ℕ) (j mask value : ℕ) : Type 0 where
-  pub inside : j ≤ headSize
-  pub mask-small : mask < 256 ^ j
-  pub value-small : value < 256 ^ j
-  pub passes : (b : List ℕ) (p : ℕ) → Starts kind o b p → bitOr (numberAt b p j) mask ≡ value
+-- x and x with the bits of m set differ in no other bit
+asked : (n x m : ℕ) → m < 2 ^ n → bitAnd (bitXor x (bitOr x m)) (bitXor (belowSet n) m) ≡ 0
+unfolding xor
+asked n x m small =
+    same-set n _ 0 (omega (arith, and-le-r (bitXor x (bitOr x m)) (bitXor (belowSet n) m), xor-lt n (belowSet n) m (below-lt n) small)) (pow-pos n)
+    (λ d. has-and _ _ d ∙ ap₂ (λ (p q : Bool). p && q) (has-xor x _ d ∙ ap (xor (has x d)) (has-or x m d)) (has-xor (belowSet n) m d) ∙ none d (which (ltb d n)) ∙ sym (has-none d))
+  where
+    in-mask : (p q : Bool) → (xor p (p || q) && xor true q) ≡ false
+    in-mask true true = refl
+    in-mask true false = refl
+    in-mask false true = refl
+    in-mask false false = refl
 
-pub heading-none : (kind : ℕ) (o : List ℕ) → Heading kind o 0 0 0
-unfolding numberAt
-heading-none kind o = record { inside = omega arith; mask-small = omega arith; value-small = omega arith; passes = λ b p S. refl }
+    beyond : (p t : Bool) → (xor p (p || false) && xor t false) ≡ false
+    beyond true t = refl
+    beyond false t = refl
+
+    none : (d : ℕ) → (ltb d n ≡ true) ⊎ (ltb d n ≡ false) → (xor (has x d) (has x d || has m d) && xor (has (belowSet n) d) (has m d)) ≡ false
+    none d (inl e) = rw (has-below n d ∙ e) (in-mask (has x d) (has m d))
+    none d (inr e) = rw (has-high n m d small (ltb-le d n e)) (beyond (has x d) (has (belowSet n) d))
+
+-- the bytes from j on are put together; the bits of `free` are left open
+pub record Heading (kind : ℕ) (o : List ℕ) (j free value : ℕ) : Type 0 where
+  pub inside : j ≤ headSize
+  pub free-small : free < 256 ^ (headSize - j)
+  pub value-small : value < 256 ^ (headSize - j)
+  pub passes : (b : List ℕ) (p : ℕ) → Starts kind o b p → bitOr (wordAt b (p + j) (headSize - j)) free ≡ value
+
+pub heading-none : (kind : ℕ) (o : List ℕ) → Heading kind o headSize 0 0
+unfolding wordAt
+heading-none kind o = record { inside = omega arith; free-small = omega arith; value-small = omega arith; passes = λ b p S. refl }
 
 -- three bytes at most are no more than 2^24
-short : (j : ℕ) → j < headSize → 256 ^ j ≤ 16777216
+short : (n : ℕ) → n < headSize → 256 ^ n ≤ 16777216
 short zero h = omega arith
 short (suc zero) h = omega arith
 short (suc (suc zero)) h = omega arith
 short (suc (suc (suc zero))) h = omega arith
-short (suc (suc (suc (suc j)))) h = absurd (omega arith)
+short (suc (suc (suc (suc n)))) h = absurd (omega arith)
 
-module _ {kind : ℕ} {o : List ℕ} {j mask value : ℕ} (H : Heading kind o j mask value) where
-  module _ (more : j < headSize) where
-    pub heading-small : (mask < 16777216) × (value < 16777216)
+module _ {kind : ℕ} {o : List ℕ} {j free value : ℕ} (H : Heading kind o j free value) where
+  module _ (more : 0 < j) where
+    pub heading-small : (free < 16777216) × (value < 16777216)
     heading-small =
-        let l = short j more in
-        let m = H .mask-small in
+        let l = short (headSize - j) (omega arith) in
+        let m = H .free-small in
         let v = H .value-small in
         (omega arith, omega arith)
 
-    pub heading-next : {k : ByteTest} {m v : ℕ} → TestFor kind o j k → m ≡ k .mask → v ≡ k .value → Heading kind o (j + 1) (256 * mask + m) (256 * value + v)
-    unfolding numberAt
+    pub heading-next : {k : ByteTest} {m v : ℕ} → TestFor kind o (j - 1) k → m ≡ k .mask → v ≡ k .value → Heading kind o (j - 1) (256 * free + m) (256 * value + v)
+    unfolding wordAt
     heading-next {k} {m} {v} K me ve = record {
-      inside = omega arith;
-      mask-small = below mask m (H .mask-small) (rw me (K .mask-small));
+      inside = let l = H .inside in omega arith;
+      free-small = below free m (H .free-small) (rw me (K .mask-small));
       value-small = below value v (H .value-small) (rw ve (K .value-small));
       passes = λ b p S. step b p S;
     }
       where
-        below : (x y : ℕ) → x < 256 ^ j → y < 256 → 256 * x + y < 256 ^ (j + 1)
-        below x y h l = let e : 256 ^ suc j ≡ 256 ^ j * 256 = pow-suc 256 j in let n : j + 1 ≡ suc j = omega arith in rw n (omega arith)
+        n : ℕ
+        n = headSize - j
 
-        step : (b : List ℕ) (p : ℕ) → Starts kind o b p → bitOr (numberAt b p (j + 1)) (256 * mask + m) ≡ 256 * value + v
+        one-more : headSize - (j - 1) ≡ suc n
+        one-more = let l = H .inside in omega arith
+
+        below : (x y : ℕ) → x < 256 ^ n → y < 256 → 256 * x + y < 256 ^ (headSize - (j - 1))
+        below x y h l = let e : 256 ^ suc n ≡ 256 ^ n * 256 = pow-suc 256 n in rw one-more (omega arith)
+
+        step : (b : List ℕ) (p : ℕ) → Starts kind o b p → bitOr (wordAt b (p + (j - 1)) (headSize - (j - 1))) (256 * free + m) ≡ 256 * value + v
         step b p S =
-            let n : j + 1 ≡ suc j = omega arith in
-            let x = getD b (p + j) 0 in
+            let x = getD b (p + (j - 1)) 0 in
+            let z : p + (j - 1) + 1 ≡ p + j = omega arith in
+            let w : x + 256 * wordAt b (p + j) n ≡ wordAt b (p + j) n * 2 ^ 8 + x = omega arith in
             let c : bitOr x (k .mask) ≡ k .value = eqb-eq (bitOr x (k .mask)) (k .value) (K .passes b p S) in
-            let e : 256 * mask + m ≡ mask * 2 ^ 8 + k .mask = omega (arith, me) in
+            let e : 256 * free + m ≡ free * 2 ^ 8 + k .mask = omega (arith, me) in
             let f : value * 2 ^ 8 + k .value ≡ 256 * value + v = omega (arith, ve) in
-            rw (n, e) (or-block 8 (numberAt b p j) mask x (k .mask) (S .bytes (p + j)) (K .mask-small) ∙ rw (H .passes b p S, c) f)
+            rw (one-more, z, w, e) (or-block 8 (wordAt b (p + j) n) free x (k .mask) (S .bytes (p + (j - 1))) (K .mask-small) ∙ rw (H .passes b p S, c) f)
 
-  pub heading-end : headSize ≤ j → HeadFor kind o (record { mask = mask; value = value })
+  pub heading-end : j ≤ 0 → HeadFor kind o (record { mask = bitXor 4294967295 free; value = value })
   heading-end h b p S =
-      let l = H .inside in
-      let e : j ≡ headSize = omega arith in
-      eq-eqb _ _ (rw e at (H .passes b p S))
+      let e : j ≡ 0 = omega arith in
+      let small : free < 2 ^ 32 = rw e at (H .free-small) in
+      let whole : bitOr (wordAt b p headSize) free ≡ value = rw (e, add-zero p) at (H .passes b p S) in
+      eq-eqb _ _ (ap (λ (v : ℕ). bitAnd (bitXor (wordAt b p headSize) v) (bitXor 4294967295 free)) (sym whole) ∙ asked 32 (wordAt b p headSize) free small)
 
--- with its last three bytes filled up, a head shows its length alone
-pub blank-head : BlankHeadIs (record { mask = 16777215; value = 16777215 })
-unfolding numberAt
-blank-head b p h = iff-eq _ _ (λ e. eq-eqb n 0 (there (eqb-eq _ _ e))) (λ e. eq-eqb _ _ (back (eqb-eq n 0 e)))
+-- where the first byte alone is asked for, a head shows its length
+pub blank-head : BlankHeadIs (record { mask = 255; value = 0 })
+unfolding wordAt
+blank-head b p h = ap (λ (x : ℕ). eqb x 0) (ap (λ (x : ℕ). bitAnd x 255) (xor-zero-r (wordAt b p headSize)) ∙ and-mask (wordAt b p headSize) 8 ∙ length-byte)
   where
-    n : ℕ
-    n = getD b p 0
-
-    rest : ℕ
-    rest = (getD b (p + 1) 0 * 256 + getD b (p + 2) 0) * 256 + getD b (p + 3) 0
-
-    small : rest < 2 ^ 24
-    small = omega (arith, h (p + 1), h (p + 2), h (p + 3))
-
-    parts : numberAt b p headSize ≡ n * 2 ^ 24 + rest
-    parts = let z : p + 0 ≡ p = omega arith in rw z (omega arith)
-
-    filled : bitOr rest 16777215 ≡ 16777215
-    filled =
-        let s = or-add-and rest 16777215 in
-        let m : bitAnd rest 16777215 ≡ rest % 2 ^ 24 = and-mask rest 24 in
-        omega (arith, small)
-
-    shown : bitOr (numberAt b p headSize) 16777215 ≡ n * 2 ^ 24 + 16777215
-    shown = ap (λ (x : ℕ). bitOr x 16777215) parts ∙ or-block 24 n 0 rest 16777215 small (omega arith) ∙ ap₂ (λ (x y : ℕ). x * 2 ^ 24 + y) (or-zero-r n) filled
-
-    there : bitOr (numberAt b p headSize) 16777215 ≡ 16777215 → n ≡ 0
-    there e = let s = sym shown ∙ e in omega arith
-
-    back : n ≡ 0 → bitOr (numberAt b p headSize) 16777215 ≡ 16777215
-    back e = shown ∙ ap (λ (x : ℕ). x * 2 ^ 24 + 16777215) e
+    length-byte : wordAt b p headSize % 2 ^ 8 ≡ getD b p 0
+    length-byte = omega (arith, h p)

@@ -1,12 +1,13 @@
--- The filter of equals and begins: a slot's head as one number, most significant byte first.
+-- The filter of equals and begins: a slot's head as one number, least significant byte first.
 use Prim.Native.Nat.{ℕ, _+_, _<_}
 use mathlib.Core.Path.{_≡_}
 use mathlib.Core.Bool.{Bool, true}
 use mathlib.Core.List.{List}
 use lib.ListN.{length, getD}
 use lib.Dec.{eqb}
-use lib.Bits.{bitOr}
-use Rattle.fields.specs.Numbers.{numberAt, Bytes}
+use lib.Bits.{bitAnd, bitXor}
+use Rattle.fields.specs.Numbers.{Bytes}
+use Rattle.words.specs.Words.{wordAt}
 use Rattle.predicate.specs.Kinds.{equalsKind}
 use Rattle.predicate.specs.Meaning.{fold}
 use Rattle.heads.specs.declared.byte_test.ByteTest.{ByteTest}
@@ -17,8 +18,9 @@ use Rattle.heads.specs.ByteTest.{testPasses}
 abbrev pub headSize : ℕ
 headSize = 4
 
+-- the mask has the bits that are asked for: a head passes where it differs from the value in none of them
 abbrev pub headPasses : List ℕ → (p : ℕ) → Head → Bool
-headPasses b p k = eqb (bitOr (numberAt b p headSize) (k .mask)) (k .value)
+headPasses b p k = eqb (bitAnd (bitXor (wordAt b p headSize) (k .value)) (k .mask)) 0
 
 -- a slot that starts as an operand asks: its text has the operand's bytes, folded, and for equals its length
 pub record Starts (kind : ℕ) (o b : List ℕ) (p : ℕ) : Type 0 where

@@ -1,4 +1,5 @@
-// What equals and begins ask of a slot's head: its length and the first three bytes of its text, as one number.
+// What equals and begins ask of a slot's head: its length and the first three bytes of its text, as one number with the least significant
+// byte first.
 use crate::byte_test::ByteTest;
 use predicate::kind::Kind;
 ghost use mathlib.Core.Path.{_≡_};
@@ -8,7 +9,7 @@ ghost use Rattle.slots.specs.Slots.{textLimit};
 ghost use Rattle.predicate.specs.Outcome.{Folds};
 ghost use Rattle.heads.specs.Head.{headSize, headPasses, TestFor, HeadFor, BlankHeadIs};
 
-// A slot passes where its head, with the mask's bits set, is the value.
+// The mask has the bits that are asked for: a slot passes where its head has the value's in all of them.
 pub struct Head {
     pub mask: u32,
     pub value: u32,
@@ -41,20 +42,24 @@ fn test_at(table: &[u8], kind: u8, operand: &[u8], j: usize) -> ByteTest
     crate::byte_test::loose_test(c)
 }
 
+// The tests of the four bytes as one, the last byte's first: what they leave open is not asked for.
 pub fn head_of(table: &[u8], kind: u8, operand: &[u8]) -> Head
     requires { ⌜ Folds (now table) × (length (now operand) ≤ textLimit) ⌝ }
     ensures { λ r. ⌜ HeadFor kind (now (operand .entry)) r ⌝ }
 {
-    let mut mask: u32 = 0;
+    let mut left_open: u32 = 0;
     let mut value: u32 = 0;
-    let mut j: usize = 0;
-    while j < Head::SIZE {
+    let mut j = Head::SIZE;
+    while 0 < j {
+        j -= 1;
         let next = test_at(table, kind, operand, j);
-        mask = 256 * mask + next.mask as u32;
+        left_open = 256 * left_open + next.mask as u32;
         value = 256 * value + next.value as u32;
-        j += 1;
     }
-    Head { mask, value }
+    Head {
+        mask: 0xffff_ffff ^ left_open,
+        value,
+    }
 }
 
 // The head that blanks have, and no others: a length of 0.
@@ -62,8 +67,8 @@ pub fn blank_head() -> Head
     ensures { λ r. ⌜ BlankHeadIs r ⌝ }
 {
     Head {
-        mask: 0xff_ffff,
-        value: 0xff_ffff,
+        mask: 0xff,
+        value: 0,
     }
 }
 
@@ -72,5 +77,5 @@ pub fn head_passes(b: &[u8], p: usize, k: Head) -> bool
     requires { ⌜ p + headSize ≤ length (now b) ⌝ }
     ensures { λ r. ⌜ r ≡ headPasses (now (b .entry)) p k ⌝ }
 {
-    fields::number::four_bytes(b, p) | k.mask == k.value
+    (words::half_at(b, p) as u32 ^ k.value) & k.mask == 0
 }

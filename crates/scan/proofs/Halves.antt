@@ -1,13 +1,12 @@
--- The number of four bytes from the number of the same bytes with the least significant first, and a block from its halves.
+-- The number of four bytes from the number of the same bytes with the least significant first, and where a block's numbers lie.
 use Prim.Native.Nat.{ℕ, _+_, _*_, _/_, _%_, _^_, _≤_, _<_}
-use native.Mathlib.Nat.{zero-mul, mod-add-mod, add-mod-mod}
+use native.Mathlib.Nat.{mod-add-mod, add-mod-mod}
 use native.Mathlib.Omega.{arith}
 use mathlib.Core.Path.{_≡_, refl, sym, ap, ap₂, _∙_}
-use mathlib.Core.Bool.{Bool, true, false}
+use mathlib.Core.Bool.{true}
 use mathlib.Core.List.{List}
 use lib.ListN.{length, getD}
-use lib.Dec.{eqb, lit<}
-use lib.Pow.{shl-exact}
+use lib.Dec.{eqb}
 use lib.Bits.{bitAnd, and-mask, and-mod, and-shr}
 use Rattle.bools.specs.Bools.{iff-eq}
 use borrow.Author.Tests.{eq-eqb, eqb-true}
@@ -20,8 +19,6 @@ use Rattle.predicate.specs.Meaning.{numberBlank}
 use Rattle.sets.specs.Set.{belowSet}
 use Rattle.sets.specs.SetLaws.{below-has}
 use Rattle.heads.specs.Block.{HasDueRows}
-use Rattle.sets.specs.Kept.{KeptBy}
-use Rattle.sets.specs.Gathered.{bitOf, gathered, gathered-cat, gathered-same, gathered-kept}
 
 -- the first byte and the third
 pub pairs : (x : ℕ) → bitAnd x 16711935 ≡ x % 256 + 65536 * (x / 65536 % 256)
@@ -95,22 +92,6 @@ blank-either b p bytes {x} e = iff-eq (eqb x blankNumber) (numberBlank (numberAt
     from : numberAt b p 4 ≡ blankNumber → eqb x blankNumber ≡ true
     from t = eq-eqb x blankNumber (omega (arith, word-four b p, number-four b p, bytes p, bytes (p + 1), bytes (p + 2), bytes (p + 3)))
 
--- bit d, as the code has it
-pub bit-yes : (test : Bool) (d : ℕ) → test ≡ true → d < 32 → 1 * 2 ^ d % 2 ^ 32 ≡ bitOf test * 2 ^ d
-bit-yes test d e h = shl-exact {a = 1} 1 d 32 (lit< tt) (omega arith) ∙ ap (λ (p : Bool). bitOf p * 2 ^ d) (sym e)
-
-pub bit-no : (test : Bool) (d : ℕ) → test ≡ false → 0 ≡ bitOf test * 2 ^ d
-bit-no test d e = sym (zero-mul (2 ^ d)) ∙ ap (λ (p : Bool). bitOf p * 2 ^ d) (sym e)
-
--- the two halves of a block, whose numbers stand from `start` on
-pub halves-kept : (T : ℕ → Bool) (start base : ℕ) {x y : ℕ} → x ≡ gathered (λ d. T (start + 4 * base + 4 * d)) 32 → y ≡ gathered (λ d. T (start + 4 * base + 128 + 4 * d)) 32
-    → KeptBy (λ d. T (start + 4 * (base + d))) (belowSet 64) (x + 4294967296 * y)
-halves-kept T start base {x} {y} e f =
-    let s = e ∙ gathered-same _ (λ d. T (start + 4 * (base + d))) 32 (λ d. ap T (omega arith)) in
-    let t = f ∙ gathered-same _ (λ d. T (start + 4 * (base + (32 + d)))) 32 (λ d. ap T (omega arith)) in
-    let z : x + 4294967296 * y ≡ gathered (λ d. T (start + 4 * (base + d))) 64 = ap₂ (λ (p q : ℕ). p + 4294967296 * q) s t ∙ sym (gathered-cat (λ d. T (start + 4 * (base + d))) 32 32) in
-    rw z (gathered-kept (λ d. T (start + 4 * (base + d))) 64)
-
--- and they lie in the bytes
+-- the numbers of a block whose rows are all due lie in the bytes
 pub block-numbers : (b : List ℕ) (start base : ℕ) → HasDueRows b numberTag start base (belowSet 64) → start + 4 * base + 256 ≤ length b
 block-numbers b start base D = let h = has-number b start (base + 63) (D 63 (below-has 64 63 (omega arith))) in omega arith

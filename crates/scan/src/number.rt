@@ -8,7 +8,7 @@ ghost use Rattle.catalogue.specs.Format.{numberTag, numberSize};
 ghost use Rattle.predicate.specs.Meaning.{numberBlank};
 ghost use Rattle.sets.specs.Set.{belowSet};
 ghost use Rattle.sets.specs.Kept.{KeptBy};
-ghost use Rattle.sets.specs.Gathered.{bitOf, gathered};
+ghost use Rattle.sets.specs.Gathered.{gathered};
 ghost use Rattle.heads.specs.Block.{HasDueRows};
 ghost use Rattle.scan.specs.Met.{within};
 
@@ -51,14 +51,6 @@ fn is_blank_at(b: &[u8], at: usize) -> bool
     words::half_at(b, at) as u32 == Number::BLANK
 }
 
-// Bit d where a test passes, else 0.
-fn bit_at(test: bool, d: u8) -> u32
-    requires { ⌜ d < 32 ⌝ }
-    ensures { λ r. ⌜ r ≡ bitOf test * 2 ^ d ⌝ }
-{
-    if test { 1u32 << d } else { 0 }
-}
-
 // The 32 numbers from a place on. No bit waits for another.
 fn half_within(b: &[u8], at: usize, low: u32, width: u32) -> u32
     requires { ⌜ (at + numberSize * 32 ≤ length (now b)) × (low + width < 2 ^ 32) ⌝ }
@@ -68,7 +60,7 @@ fn half_within(b: &[u8], at: usize, low: u32, width: u32) -> u32
     let mut d: usize = 0;
     while d < 32 {
         let passes = is_within_at(b, at + Number::SIZE * d, low, width);
-        met = met | bit_at(passes, fields::number::narrow(d));
+        met = met | sets::bit_at(passes, fields::number::narrow(d));
         d += 1;
     }
     met
@@ -82,7 +74,7 @@ fn half_blank(b: &[u8], at: usize) -> u32
     let mut d: usize = 0;
     while d < 32 {
         let passes = is_blank_at(b, at + Number::SIZE * d);
-        met = met | bit_at(passes, fields::number::narrow(d));
+        met = met | sets::bit_at(passes, fields::number::narrow(d));
         d += 1;
     }
     met

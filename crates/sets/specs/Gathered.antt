@@ -1,11 +1,11 @@
 -- The numbers below n that a test keeps, gathered into one number: bit d is number d.
 use Prim.Native.Nat.{ℕ, zero, suc, _+_, _-_, _*_, _/_, _%_, _^_, _≤_, _<_}
-use native.Mathlib.Nat.{zero-add, suc-add, one-mul, mul-comm, mul-assoc, pow-suc}
+use native.Mathlib.Nat.{zero-add, suc-add, zero-mul, one-mul, mul-comm, mul-assoc, mul-add, pow-suc}
 use native.Mathlib.Omega.{arith}
 use mathlib.Core.Path.{_≡_, refl, sym, ap, ap₂, _∙_}
 use mathlib.Core.Bool.{Bool, true, false, _&&_, cond}
-use lib.Dec.{eqb, ltb, leb·suc-suc}
-use lib.Pow.{pow-mono}
+use lib.Dec.{eqb, ltb, leb·suc-suc, lit<}
+use lib.Pow.{pow-mono, shl-exact}
 use lib.Bits.{bitOr, or-shifted-r}
 use Rattle.bools.specs.Bools.{ltb-yes, ltb-no}
 use Rattle.sets.specs.Set.{has, belowSet}
@@ -18,6 +18,13 @@ bitOf p = cond p 1 0
 unfoldable pub gathered : (P : ℕ → Bool) → (n : ℕ) → ℕ
 gathered P zero = 0
 gathered P (suc n) = bitOf (P 0) + 2 * gathered (λ d. P (suc d)) n
+
+-- bit d, as the code has it
+pub bit-yes : (test : Bool) (d : ℕ) → test ≡ true → d < 32 → 1 * 2 ^ d % 2 ^ 32 ≡ bitOf test * 2 ^ d
+bit-yes test d e h = shl-exact {a = 1} 1 d 32 (lit< tt) (omega arith) ∙ ap (λ (p : Bool). bitOf p * 2 ^ d) (sym e)
+
+pub bit-no : (test : Bool) (d : ℕ) → test ≡ false → 0 ≡ bitOf test * 2 ^ d
+bit-no test d e = sym (zero-mul (2 ^ d)) ∙ ap (λ (p : Bool). bitOf p * 2 ^ d) (sym e)
 
 bit-small : (p : Bool) → bitOf p < 2
 bit-small true = omega arith
@@ -143,3 +150,13 @@ module _ {P : ℕ → Bool} {k met : ℕ} (R : Rising P k met) where
 
   pub rising-end : 32 ≤ k → met ≡ gathered P 32
   rising-end l = let i = R .inside in let e : k ≡ 32 = omega arith in R .gathered-is ∙ ap (gathered P) e
+
+-- a block from its halves: what T tests stands from `start` on, `size` bytes for each row
+pub halves-kept : (T : ℕ → Bool) (size start base : ℕ) {x y : ℕ} → x ≡ gathered (λ d. T (start + size * base + size * d)) 32 → y ≡ gathered (λ d. T (start + size * base + size * 32 + size * d)) 32
+    → KeptBy (λ d. T (start + size * (base + d))) (belowSet 64) (x + 4294967296 * y)
+halves-kept T size start base {x} {y} e f =
+    let s = e ∙ gathered-same _ (λ d. T (start + size * (base + d))) 32 (λ d. ap T (omega (arith, mul-add size base d))) in
+    let t = f ∙ gathered-same _ (λ d. T (start + size * (base + (32 + d)))) 32 (λ d. ap T (omega (arith, mul-add size base (32 + d), mul-add size 32 d))) in
+    let z : x + 4294967296 * y ≡ gathered (λ d. T (start + size * (base + d))) 64 =
+    ap₂ (λ (p q : ℕ). p + 4294967296 * q) s t ∙ sym (gathered-cat (λ d. T (start + size * (base + d))) 32 32) in
+    rw z (gathered-kept (λ d. T (start + size * (base + d))) 64)

@@ -2,9 +2,10 @@
 // A loop over the numbers of a set x takes first(x) and goes on with rest(x).
 ghost use mathlib.Core.Path.{_≡_};
 ghost use mathlib.Core.Bool.{cond};
-ghost use Prim.Native.Nat.{_≤_, _<_};
+ghost use Prim.Native.Nat.{_*_, _^_, _≤_, _<_};
 ghost use Rattle.sets.specs.Set.{has, oneSet, belowSet, setMinus, setWith};
 ghost use Rattle.sets.specs.Kept.{FirstIs, RestIs};
+ghost use Rattle.sets.specs.Gathered.{bitOf};
 
 // Is d in the set.
 pub fn has(x: u64, d: u8) -> bool
@@ -70,6 +71,14 @@ pub fn bit(test: bool) -> u64
     ensures { λ r. ⌜ (r ≡ cond test 1 0) × (r ≤ 1) ⌝ }
 {
     if test { 1 } else { 0 }
+}
+
+// Bit d where a test passes, else 0.
+pub fn bit_at(test: bool, d: u8) -> u32
+    requires { ⌜ d < 32 ⌝ }
+    ensures { λ r. ⌜ r ≡ bitOf test * 2 ^ d ⌝ }
+{
+    if test { 1u32 << d } else { 0 }
 }
 
 // The set x where a test passes, else none. A loop over a set hands on the bit that the set loses, left ^ rest(left): a bit shifted to

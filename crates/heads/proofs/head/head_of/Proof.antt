@@ -1,5 +1,4 @@
--- `head_of` meets its contract: the bytes put together one after the other.
-use Prim.Native.Nat.{_-_}
+-- `head_of` meets its contract: the bytes put together, the last one first.
 use native.Mathlib.Omega.{arith}
 use mathlib.Core.Path.{refl}
 use Rattle.heads.proofs.Heads.{Heading, heading-none, heading-small, heading-next, heading-end}
@@ -7,25 +6,28 @@ use Rattle.heads.proofs.head.head_of.Statement.{statement}
 use Rattle.heads.proofs.head.head_of.Tie as tie
 
 abbrev Inv-loop : tie.InvT-loop
-Inv-loop table kind operand mask₀ value₀ j₀ mask value j = Heading kind operand j mask value
+Inv-loop table kind operand free₀ value₀ j₀ free value j = Heading kind operand j free value
 
 abbrev μ-loop : tie.MeasureT-loop
-μ-loop table kind operand mask₀ value₀ j₀ mask value j = 4 - j
+μ-loop table kind operand free₀ value₀ j₀ free value j = j
 
 loop-holds : tie.Need-loop-holds Inv-loop μ-loop
 loop-holds c = heading-none _ _
 
+sub-j : tie.Need-sub-j Inv-loop μ-loop
+sub-j c = omega arith
+
 test-at-requires : tie.Need-test-at-requires Inv-loop μ-loop
 test-at-requires c κs = c .before .before .before .before .pre
 
-mul-mask : tie.Need-mul-mask Inv-loop μ-loop
-mul-mask c = let s = heading-small (c .before .before .loop .inv) (omega arith) .0 in omega arith
+mul-left-open : tie.Need-mul-left-open Inv-loop μ-loop
+mul-left-open c = let s = heading-small (c .before .before .loop .inv) (omega arith) .0 in omega arith
 
-cast-mask : tie.Need-cast-mask Inv-loop μ-loop
-cast-mask c = omega arith
+cast-left-open : tie.Need-cast-left-open Inv-loop μ-loop
+cast-left-open c = omega arith
 
-add-mask : tie.Need-add-mask Inv-loop μ-loop
-add-mask c = let s = heading-small (c .before .before .before .loop .inv) (omega arith) .0 in let k = c .before .test-at .ensures .mask-small in omega arith
+add-left-open : tie.Need-add-left-open Inv-loop μ-loop
+add-left-open c = let s = heading-small (c .before .before .before .loop .inv) (omega arith) .0 in let k = c .before .test-at .ensures .mask-small in omega arith
 
 mul-value : tie.Need-mul-value Inv-loop μ-loop
 mul-value c = let s = heading-small (c .before .before .before .loop .inv) (omega arith) .1 in omega arith
@@ -35,9 +37,6 @@ cast-value c = omega arith
 
 add-value : tie.Need-add-value Inv-loop μ-loop
 add-value c = let s = heading-small (c .before .before .before .before .loop .inv) (omega arith) .1 in let k = c .before .before .test-at .ensures .value-small in omega arith
-
-add-j : tie.Need-add-j Inv-loop μ-loop
-add-j c = omega arith
 
 loop-less : tie.Need-loop-less Inv-loop μ-loop
 loop-less c = omega arith
@@ -55,14 +54,14 @@ head-of-spec =
     Inv-loop
     μ-loop
     loop-holds
+    sub-j
     test-at-requires
-    mul-mask
-    cast-mask
-    add-mask
+    mul-left-open
+    cast-left-open
+    add-left-open
     mul-value
     cast-value
     add-value
-    add-j
     loop-less
     loop-again
     returns)

@@ -3,7 +3,8 @@ use native.Mathlib.Omega.{arith}
 use Rattle.fields.specs.Numbers.{numberAt}
 use Rattle.catalogue.specs.Format.{numberSize}
 use Rattle.predicate.specs.Meaning.{numberBlank}
-use Rattle.scan.proofs.Halves.{halves-kept, block-numbers}
+use Rattle.sets.specs.Gathered.{halves-kept}
+use Rattle.scan.proofs.Halves.{block-numbers}
 use borrow.Author.Needs.{needs}
 use Rattle.scan.proofs.number.all_blank.Statement.{statement}
 use Rattle.scan.proofs.number.all_blank.Tie as tie
@@ -36,7 +37,7 @@ add-result : tie.Need-add-result
 add-result c = search needs
 
 returns : tie.Need-returns
-returns c = let a = c .before .before .before .args in halves-kept (λ p. numberBlank (numberAt (a .b .now) p numberSize)) (a .start) (a .base) (c .before .half-blank .ensures) (c .half-blank2 .ensures)
+returns c = let a = c .before .before .before .args in halves-kept (λ p. numberBlank (numberAt (a .b .now) p numberSize)) numberSize (a .start) (a .base) (c .before .half-blank .ensures) (c .half-blank2 .ensures)
 
 pub all-blank-spec : {M : Type 1} → statement M
 all-blank-spec =

@@ -3,7 +3,8 @@ use native.Mathlib.Omega.{arith}
 use Rattle.fields.specs.Numbers.{numberAt}
 use Rattle.catalogue.specs.Format.{numberSize}
 use Rattle.scan.specs.Met.{within}
-use Rattle.scan.proofs.Halves.{halves-kept, block-numbers}
+use Rattle.sets.specs.Gathered.{halves-kept}
+use Rattle.scan.proofs.Halves.{block-numbers}
 use borrow.Author.Needs.{needs}
 use Rattle.scan.proofs.number.all_within.Statement.{statement}
 use Rattle.scan.proofs.number.all_within.Tie as tie
@@ -36,7 +37,7 @@ add-result : tie.Need-add-result
 add-result c = search needs
 
 returns : tie.Need-returns
-returns c = let a = c .before .before .before .args in halves-kept (λ p. within (a .low) (a .width) (numberAt (a .b .now) p numberSize)) (a .start) (a .base) (c .before .half-within .ensures) (c .half-within2 .ensures)
+returns c = let a = c .before .before .before .args in halves-kept (λ p. within (a .low) (a .width) (numberAt (a .b .now) p numberSize)) numberSize (a .start) (a .base) (c .before .half-within .ensures) (c .half-within2 .ensures)
 
 pub all-within-spec : {M : Type 1} → statement M
 all-within-spec =

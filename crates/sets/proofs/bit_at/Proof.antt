@@ -1,8 +1,8 @@
 -- `bit_at` meets its contract: one shifted by less than 32 loses no bit.
-use Rattle.scan.proofs.Halves.{bit-yes, bit-no}
+use Rattle.sets.specs.Gathered.{bit-yes, bit-no}
 use borrow.Author.Needs.{needs}
-use Rattle.scan.proofs.number.bit_at.Statement.{statement}
-use Rattle.scan.proofs.number.bit_at.Tie as tie
+use Rattle.sets.proofs.bit_at.Statement.{statement}
+use Rattle.sets.proofs.bit_at.Tie as tie
 
 shl-result : tie.Need-shl-result
 shl-result c = search needs
