@@ -1,4 +1,3 @@
 pub mod Ranges
 mod Blanks
 pub mod Shown
-mod Halves

@@ -1,5 +1,5 @@
 -- From the rows as they lie in the bytes to the column that they show.
-use Prim.Native.Nat.{ℕ, _+_, _-_, _*_, _≤_, _<_}
+use Prim.Native.Nat.{ℕ, _+_, _-_, _≤_, _<_}
 use native.Mathlib.Omega.{arith}
 use mathlib.Core.Path.{_≡_, refl, sym, ap, _∙_}
 use mathlib.Core.Bool.{Bool, true, false, _&&_, _||_, and-false, and-true}
@@ -9,11 +9,10 @@ use lib.Dec.{leb, eqb}
 use lib.Bits.{bitOr, bitXor}
 use borrow.Author.Tests.{lt-ltb, le-ltb, le-leb, lt-leb, leb-true}
 use Rattle.bools.specs.Bools.{and-parts, eqb-eq}
-use Rattle.fields.specs.Numbers.{numberAt}
-use Rattle.catalogue.specs.Format.{numberTag, numberSize, textTag}
+use Rattle.catalogue.specs.Format.{numberTag, textTag}
 use Rattle.catalogue.specs.Catalogue.{Column, numbers, texts}
 use Rattle.slots.specs.Slots.{textLimit, textAt}
-use Rattle.catalogue.specs.InPlace.{Shows, HasRow, NumberIs, TextIs}
+use Rattle.catalogue.specs.InPlace.{Shows, HasRow, TextIs}
 use Rattle.catalogue.proofs.Rows.{number-is, text-is}
 use Rattle.predicate.specs.declared.outcome.Outcome.{Outcome}
 use Rattle.predicate.specs.Kinds.{rangeKind, numberBlankKind, containsKind, textBlankKind, oppositeFrom, plainKind, asksContent}
@@ -28,12 +27,10 @@ use Rattle.sets.specs.Kept.{KeptBy, Sifted}
 use Rattle.sets.specs.KeptLaws.{sift-kept, kept-same, kept-others, kept-either}
 use Rattle.heads.specs.Block.{HasDueRows, slotOf, textOf}
 use Rattle.scan.specs.declared.range.Range.{Range}
-use Rattle.scan.specs.Met.{RangeFor, ShownRows, HasRows, MetFor, PlainMetFor, BlankFor, within}
+use Rattle.numbers.specs.Within.{numberOf, within}
+use Rattle.scan.specs.Met.{RangeFor, ShownRows, HasRows, MetFor, PlainMetFor, BlankFor}
 use Rattle.scan.proofs.Ranges.{text-fits, range-means}
 use Rattle.scan.proofs.Blanks.{number-truth, text-truth}
-
-abbrev pub numberOf : List ℕ → (start row : ℕ) → ℕ
-numberOf b start row = numberAt b (start + numberSize * row) numberSize
 
 -- a row's value in the bytes is that of the column
 
@@ -45,10 +42,6 @@ text-shown b start row rows ts s l =
     ap (λ (k : ℕ). take k (drop (at + 1) b)) n ∙ text-is b start row at (getD b at 0) refl refl rows ts s l
 
 module _ {b : List ℕ} {start row : ℕ} where
-  pub number-value : HasRow b numberTag start row → (n : ℕ) → NumberIs b start row n → n ≡ numberOf b start row
-  number-value (rows, numbers ns, s, l) n value = value rows ns s l ∙ sym (number-is b start row (numberOf b start row) refl rows ns s l)
-  number-value (rows, texts ts, s, l) n value = let z : numberTag ≡ textTag = s .0 in absurd (omega arith)
-
   pub text-value : HasRow b textTag start row → (t : List ℕ) → TextIs b start row t → t ≡ textOf b start row
   text-value (rows, numbers ns, s, l) t value = let z : textTag ≡ numberTag = s .0 in absurd (omega arith)
   text-value (rows, texts ts, s, l) t value = value rows ts s l ∙ sym (text-shown b start row rows ts s l)

@@ -1,9 +1,8 @@
 -- One predicate at the due rows of a block of 64: what is lent, and what is answered. Bit d is row base + d.
 use Prim.Native.Nat.{ℕ, _+_, _-_, _<_}
 use mathlib.Core.Path.{_≡_}
-use mathlib.Core.Bool.{Bool, true, _&&_}
+use mathlib.Core.Bool.{Bool, true}
 use mathlib.Core.List.{List}
-use lib.Dec.{leb}
 use Rattle.catalogue.specs.Catalogue.{Column}
 use Rattle.catalogue.specs.InPlace.{Shows}
 use Rattle.predicate.specs.declared.outcome.Outcome.{Outcome}
@@ -53,7 +52,3 @@ abbrev pub PlainMetFor : List ℕ → (start base kind : ℕ) → (operand : Lis
 PlainMetFor b start base kind o due r =
     (rows tag : ℕ) (c : Column) → ShownRows b start base kind o due rows tag c →
     KeptBy (λ d. truth (plainOf c (plainKind kind) o (base + d))) due r
-
--- n is low or one of the so many numbers after it
-abbrev pub within : (low width n : ℕ) → Bool
-within low width n = leb low n && leb n (low + width)

@@ -1,5 +1,4 @@
 // The outcomes of one predicate at the due rows of a block of 64 rows, as a word: bit d is row base + d.
 pub mod met;
-pub mod number;
 pub mod range;
 pub mod text;

@@ -19,10 +19,10 @@ fn plain_met_at(
     let plain = predicate::kind::plain_kind(kind);
     if plain == Kind::RANGE {
         let range = crate::range::range_of(operand);
-        return crate::number::numbers_within(b, start, base, range.low, range.width, due);
+        return numbers::numbers_within(b, start, base, range.low, range.width, due);
     }
     if plain == Kind::NUMBER_BLANK {
-        return crate::number::numbers_blank(b, start, base, due);
+        return numbers::numbers_blank(b, start, base, due);
     }
     if plain == Kind::TEXT_BLANK {
         return crate::text::texts_blank(b, start, base, due);
@@ -41,7 +41,7 @@ pub fn blank_at(b: &[u8], start: usize, base: usize, kind: u8, due: u64) -> u64
         return 0;
     }
     if plain <= Kind::NUMBER_BLANK {
-        return crate::number::numbers_blank(b, start, base, due);
+        return numbers::numbers_blank(b, start, base, due);
     }
     crate::text::texts_blank(b, start, base, due)
 }

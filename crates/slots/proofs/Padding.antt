@@ -12,7 +12,7 @@ use Rattle.bools.specs.Bools.{iff-eq, both, and-parts, ltb-yes, ltb-no}
 use Rattle.fields.specs.Numbers.{Bytes}
 use Rattle.words.specs.Words.{wordAt}
 use Rattle.slots.specs.Slots.{zerosAt, validSlot}
-use Rattle.slots.specs.Limits.{limitOf, limitCount, Limits}
+use Rattle.slots.specs.Limits.{limitCount, Limits}
 
 -- nothing is in a sum, or in two sets of bits, just where nothing is in either part
 

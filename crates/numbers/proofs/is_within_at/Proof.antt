@@ -1,8 +1,8 @@
 -- `is_within_at` meets its contract: the distance from low, wrapped, is not over the width.
-use Rattle.scan.proofs.Ranges.{within-wraps}
+use Rattle.numbers.proofs.Within.{within-wraps}
 use borrow.Author.Needs.{needs}
-use Rattle.scan.proofs.number.is_within_at.Statement.{statement}
-use Rattle.scan.proofs.number.is_within_at.Tie as tie
+use Rattle.numbers.proofs.is_within_at.Statement.{statement}
+use Rattle.numbers.proofs.is_within_at.Tie as tie
 
 above-requires : tie.Need-above-requires
 above-requires c κs = search needs

@@ -3,10 +3,10 @@ use Prim.Native.Nat.{_+_, _-_, _*_}
 use native.Mathlib.Omega.{arith}
 use Rattle.fields.specs.Numbers.{numberAt}
 use Rattle.catalogue.specs.Format.{numberSize}
-use Rattle.scan.specs.Met.{within}
+use Rattle.numbers.specs.Within.{within}
 use Rattle.sets.specs.Gathered.{Rising, rising-none, rising-next, rising-end}
-use Rattle.scan.proofs.number.half_within.Statement.{statement}
-use Rattle.scan.proofs.number.half_within.Tie as tie
+use Rattle.numbers.proofs.half_within.Statement.{statement}
+use Rattle.numbers.proofs.half_within.Tie as tie
 
 abbrev Inv-loop : tie.InvT-loop
 Inv-loop b at low width met₀ d₀ met d = Rising (λ i. within low width (numberAt b (at + numberSize * i) numberSize)) d met

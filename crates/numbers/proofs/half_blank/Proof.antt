@@ -5,8 +5,8 @@ use Rattle.fields.specs.Numbers.{numberAt}
 use Rattle.catalogue.specs.Format.{numberSize}
 use Rattle.predicate.specs.Meaning.{numberBlank}
 use Rattle.sets.specs.Gathered.{Rising, rising-none, rising-next, rising-end}
-use Rattle.scan.proofs.number.half_blank.Statement.{statement}
-use Rattle.scan.proofs.number.half_blank.Tie as tie
+use Rattle.numbers.proofs.half_blank.Statement.{statement}
+use Rattle.numbers.proofs.half_blank.Tie as tie
 
 abbrev Inv-loop : tie.InvT-loop
 Inv-loop b at met₀ d₀ met d = Rising (λ i. numberBlank (numberAt b (at + numberSize * i) numberSize)) d met

@@ -4,10 +4,10 @@ use Rattle.fields.specs.Numbers.{numberAt}
 use Rattle.catalogue.specs.Format.{numberSize}
 use Rattle.predicate.specs.Meaning.{numberBlank}
 use Rattle.sets.specs.Gathered.{halves-kept}
-use Rattle.scan.proofs.Halves.{block-numbers}
+use Rattle.numbers.proofs.Halves.{block-numbers}
 use borrow.Author.Needs.{needs}
-use Rattle.scan.proofs.number.all_blank.Statement.{statement}
-use Rattle.scan.proofs.number.all_blank.Tie as tie
+use Rattle.numbers.proofs.all_blank.Statement.{statement}
+use Rattle.numbers.proofs.all_blank.Tie as tie
 
 mul-at : tie.Need-mul-at
 mul-at c = let h = block-numbers _ _ _ (c .before .pre) in omega arith

@@ -2,8 +2,8 @@
 use native.Mathlib.Omega.{arith}
 use mathlib.Core.Path.{_≡_}
 use Rattle.sets.specs.Set.{belowSet}
-use Rattle.scan.proofs.number.numbers_within.Statement.{statement}
-use Rattle.scan.proofs.number.numbers_within.Tie as tie
+use Rattle.numbers.proofs.numbers_within.Statement.{statement}
+use Rattle.numbers.proofs.numbers_within.Tie as tie
 
 below-requires : tie.Need-below-requires
 below-requires c κs = omega arith

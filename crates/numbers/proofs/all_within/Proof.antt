@@ -2,12 +2,12 @@
 use native.Mathlib.Omega.{arith}
 use Rattle.fields.specs.Numbers.{numberAt}
 use Rattle.catalogue.specs.Format.{numberSize}
-use Rattle.scan.specs.Met.{within}
+use Rattle.numbers.specs.Within.{within}
 use Rattle.sets.specs.Gathered.{halves-kept}
-use Rattle.scan.proofs.Halves.{block-numbers}
+use Rattle.numbers.proofs.Halves.{block-numbers}
 use borrow.Author.Needs.{needs}
-use Rattle.scan.proofs.number.all_within.Statement.{statement}
-use Rattle.scan.proofs.number.all_within.Tie as tie
+use Rattle.numbers.proofs.all_within.Statement.{statement}
+use Rattle.numbers.proofs.all_within.Tie as tie
 
 mul-at : tie.Need-mul-at
 mul-at c = let h = block-numbers _ _ _ (c .before .pre .0) in omega arith

@@ -1,9 +1,9 @@
 -- `is_within` meets its contract: one comparison is two.
 use native.Mathlib.Omega.{arith}
-use Rattle.scan.proofs.Ranges.{within-wraps}
+use Rattle.numbers.proofs.Within.{within-wraps}
 use borrow.Author.Needs.{needs}
-use Rattle.scan.proofs.number.is_within.Statement.{statement}
-use Rattle.scan.proofs.number.is_within.Tie as tie
+use Rattle.numbers.proofs.is_within.Statement.{statement}
+use Rattle.numbers.proofs.is_within.Tie as tie
 
 wrapping-sub-u32-requires : tie.Need-wrapping-sub-u32-requires
 wrapping-sub-u32-requires c κs = search needs

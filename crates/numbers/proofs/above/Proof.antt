@@ -3,10 +3,10 @@ use Prim.Native.Nat.{_/_}
 use native.Mathlib.Omega.{arith}
 use mathlib.Core.Path.{refl}
 use lib.Bits.{and-le-r}
-use Rattle.scan.proofs.Halves.{in-order-signed}
+use Rattle.numbers.proofs.Halves.{in-order-signed}
 use borrow.Author.Needs.{needs}
-use Rattle.scan.proofs.number.above.Statement.{statement}
-use Rattle.scan.proofs.number.above.Tie as tie
+use Rattle.numbers.proofs.above.Statement.{statement}
+use Rattle.numbers.proofs.above.Tie as tie
 
 half-at-requires : tie.Need-half-at-requires
 half-at-requires c κs = search needs

@@ -1,8 +1,8 @@
 -- `is_blank_at` meets its contract: four bytes of 255 are the blank from either end.
-use Rattle.scan.proofs.Halves.{blank-either}
+use Rattle.numbers.proofs.Halves.{blank-either}
 use borrow.Author.Needs.{needs}
-use Rattle.scan.proofs.number.is_blank_at.Statement.{statement}
-use Rattle.scan.proofs.number.is_blank_at.Tie as tie
+use Rattle.numbers.proofs.is_blank_at.Statement.{statement}
+use Rattle.numbers.proofs.is_blank_at.Tie as tie
 
 half-at-requires : tie.Need-half-at-requires
 half-at-requires c κs = search needs

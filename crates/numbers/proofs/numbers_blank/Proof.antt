@@ -5,10 +5,10 @@ use mathlib.Core.Path.{_≡_}
 use Rattle.sets.specs.Set.{belowSet}
 use Rattle.sets.specs.KeptLaws.{kept-same}
 use Rattle.predicate.specs.Meaning.{numberBlank}
-use Rattle.scan.proofs.Ranges.{is-blank}
-use Rattle.scan.proofs.Shown.{numberOf}
-use Rattle.scan.proofs.number.numbers_blank.Statement.{statement}
-use Rattle.scan.proofs.number.numbers_blank.Tie as tie
+use Rattle.numbers.proofs.Within.{is-blank}
+use Rattle.numbers.specs.Within.{numberOf}
+use Rattle.numbers.proofs.numbers_blank.Statement.{statement}
+use Rattle.numbers.proofs.numbers_blank.Tie as tie
 
 below-requires : tie.Need-below-requires
 below-requires c κs = omega arith
