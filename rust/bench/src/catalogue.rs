@@ -1,8 +1,8 @@
 use evaluator::{Catalogue, Column};
 use generator::{Pattern, Rng, encode_catalogue, text};
 
-use crate::plain;
 use crate::table::Table;
+use bench::plain;
 
 /// Checking a catalogue: against the plain check, and against one pass that only sums the bytes. With a mark, also against the
 /// engine's own check without.

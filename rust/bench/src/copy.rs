@@ -4,8 +4,8 @@ use searchroom::{COPY_BYTES, Look, copy_of, looks};
 
 use crate::asked::{Asked, at_each_depth, county_with, mixed};
 use crate::places;
-use crate::plain;
 use crate::table::Table;
+use bench::plain;
 
 /// The ratios wanted to the engine's own run, at up to 20 conditions and at 64, and to the plain engine.
 const TO_RUN: f64 = 2.5;

@@ -12,7 +12,6 @@ mod copy;
 mod count;
 mod look;
 mod places;
-mod plain;
 mod question;
 mod run;
 mod sqlite;

@@ -1,8 +1,8 @@
 use evaluator::{Catalogue, Question};
 use generator::{Rng, column, encode_catalogue, encode_question, question_of};
 
-use crate::plain;
 use crate::table::Table;
+use bench::plain;
 
 /// Checking a question and working out one condition, against the plain calls. The catalogue is small, so that the time
 /// is the question's.

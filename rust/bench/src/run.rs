@@ -2,8 +2,8 @@ use evaluator::{Condition, Question, Test, Tree};
 use generator::{Pattern, Rng, question_of};
 
 use crate::asked::{Asked, at_each_depth, county_with, mixed, settled_early};
-use crate::plain;
 use crate::table::Table;
+use bench::plain;
 
 /// The ratios wanted to the engine that works out every outcome, at the most entries and at one block of them.
 const AT_2048: Option<f64> = Some(0.15);

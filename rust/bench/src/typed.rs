@@ -2,8 +2,8 @@ use evaluator::{Catalogue, Column, Question, spelling};
 use generator::{Rng, column, encode_catalogue, encode_question, question_of};
 use searchroom::TYPED_BYTES;
 
-use crate::plain;
 use crate::table::Table;
+use bench::plain;
 
 /// The ratio wanted to the plain reading.
 const TO_PLAIN: Option<f64> = Some(1.0);

@@ -1,5 +1,7 @@
 use searchroom::Answer;
 
+use crate::fold::FOLD;
+
 use super::catalogue::{Catalogue, Column, check_catalogue, field};
 
 /// A question that was checked, its operands still in its bytes.
@@ -175,32 +177,4 @@ fn number(numbers: &[u8], at: usize) -> u32 {
 
 fn begins_with(text: &[u8], operand: &[u8]) -> bool {
     text.len() >= operand.len() && text.iter().zip(operand).all(|(&a, &b)| FOLD[usize::from(a)] == FOLD[usize::from(b)])
-}
-
-static FOLD: [u8; 256] = fold_table();
-
-const fn fold_table() -> [u8; 256] {
-    let mut table = [0; 256];
-    let mut byte = 0;
-    while byte < 256 {
-        table[byte] = fold(byte as u8);
-        byte += 1;
-    }
-    table
-}
-
-/// A letter in lower case and without its accent, every other byte as it is.
-const fn fold(byte: u8) -> u8 {
-    match byte {
-        b'A'..=b'Z' | 198 | 208 | 216 | 222 => byte + 32,
-        192..=197 | 224..=229 => b'a',
-        199 | 231 => b'c',
-        200..=203 | 232..=235 => b'e',
-        204..=207 | 236..=239 => b'i',
-        209 | 241 => b'n',
-        210..=214 | 242..=246 => b'o',
-        217..=220 | 249..=252 => b'u',
-        221 | 253 | 255 => b'y',
-        _ => byte,
-    }
 }
