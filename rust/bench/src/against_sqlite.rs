@@ -3,39 +3,62 @@ use generator::Rng;
 
 use crate::asked::Asked;
 use crate::places;
-use crate::sqlite::Database;
+use crate::sqlite::{Database, Statement};
 use crate::table::Table;
 
-/// Runs against SQLite, which keeps the rows decoded and need not check them again. Its LIKE and NOCASE fold the letters
-/// A to Z alone and take off no accent, so texts and operands hold no other letters. A blank is NULL, which meets neither a
-/// condition nor its NOT, as in the engine.
+/// How SQLite is called in its rows.
+pub const SQLITE: &str = "SQLite, prepared count(*)";
+
+/// So many rows are put into a table by one statement, for speed.
+const ROWS_OF_INSERT: usize = 256;
+
+/// Runs against SQLite, which keeps the rows decoded and need not check them again, and against the engine by hand.
+/// SQLite's LIKE and NOCASE fold the letters A to Z alone and take off no accent, so texts and operands hold no other
+/// letters. A blank is NULL, which meets neither a condition nor its NOT, as in the engine.
 pub fn report(table: &mut Table) {
-    let Some(database) = Database::open() else {
-        println!("SQLite's library (Debian: libsqlite3-0) is not installed: its lines are left out");
-        return;
-    };
     let mut rng = Rng::new(8);
-    let made = places::catalogue(&mut rng);
-    fill(&database, &made);
-    for count in [1, 6, 12, 20] {
+    let made = places::catalogue(&mut rng, 2_048);
+    let database = empty_table();
+    match &database {
+        Some(database) => insert(database, &made),
+        None => println!("SQLite's library (Debian: libsqlite3-0) is not installed: its lines are left out"),
+    }
+    for (count, aim) in [(1, 0.07), (6, 0.06), (12, 0.05), (20, 0.07)] {
         let question = places::question(&mut rng, count);
-        let statement =
-            database.prepare(&format!("SELECT count(*) FROM entries WHERE {}", sql(&question, &question.tree)));
         let asked = Asked::new(&mut rng, &made, &question);
-        let mut engine = asked.engine();
-        assert_eq!(u32::from(engine().found), statement.number(), "SQLite counts other entries");
         let what = format!("run, conditions: {count}, four columns");
-        table.row(&what, "SQLite, prepared count(*)", Some(0.10), engine, || statement.number());
+        if let Some(database) = &database {
+            let statement = counting(database, &question);
+            let mut engine = asked.engine();
+            assert_eq!(u32::from(engine().found), statement.number(), "SQLite counts other entries");
+            table.row(&what, SQLITE, Some(aim), engine, || statement.number());
+        }
+        asked.against_by_hand(table, &what);
     }
 }
 
-fn fill(database: &Database, catalogue: &Catalogue) {
-    database.execute("CREATE TABLE entries (c0 INTEGER, c1 TEXT, c2 INTEGER, c3 TEXT); BEGIN");
-    for entry in 0..catalogue.entries {
+/// A database with a table for years and places, or none where SQLite is not installed.
+pub fn empty_table() -> Option<Database> {
+    let database = Database::open()?;
+    database.execute("CREATE TABLE entries (c0 INTEGER, c1 TEXT, c2 INTEGER, c3 TEXT)");
+    Some(database)
+}
+
+/// Puts the entries of a catalogue into the table.
+pub fn insert(database: &Database, catalogue: &Catalogue) {
+    let row = |entry| {
         let values: Vec<String> = catalogue.columns.iter().map(|column| value(column, entry)).collect();
-        database.execute(&format!("INSERT INTO entries VALUES ({})", values.join(", ")));
+        format!("({})", values.join(", "))
+    };
+    let rows: Vec<String> = (0..catalogue.entries).map(row).collect();
+    for rows in rows.chunks(ROWS_OF_INSERT) {
+        database.execute(&format!("INSERT INTO entries VALUES {}", rows.join(", ")));
     }
-    database.execute("COMMIT");
+}
+
+/// The statement that counts the entries of which a question's tree holds.
+pub fn counting(database: &Database, question: &Question) -> Statement {
+    database.prepare(&format!("SELECT count(*) FROM entries WHERE {}", sql(question, &question.tree)))
 }
 
 fn value(column: &Column, entry: usize) -> String {

@@ -1,78 +1,96 @@
-use evaluator::{Catalogue, Column, Condition, Question, Test, Tree};
-use generator::{Rng, column, county, encode_catalogue, encode_question, question_of, running_order};
-use searchroom::{Counts, Tally};
+use bench::by_hand;
+use evaluator::{Catalogue, Question, Test};
+use generator::{Rng, encode_catalogue, encode_question, running_order};
+use searchroom::{Counts, Refusal, Tally};
+
+use crate::table::{BY_HAND, Table};
+
+/// The ratios wanted of a run to that by hand: of any question, and of one that asks for ranges alone.
+const TO_BY_HAND: f64 = 1.35;
+const TO_BY_HAND_OF_RANGES: f64 = 1.2;
+
+/// The call of a run, as both engines have it.
+pub type Run = fn(&[u8], &[u8], &[u8], u64, &mut [u8], &mut [u8], &mut [u8]) -> Result<Counts, Refusal>;
 
 /// A catalogue and a question with its running order, as bytes.
 pub struct Asked {
     pub catalogue: Vec<u8>,
     pub question: Vec<u8>,
     pub order: Vec<u8>,
+    /// The ratio wanted of its run to that by hand, if one is.
+    to_by_hand: Option<f64>,
+}
+
+/// The tables of a run.
+#[derive(PartialEq)]
+pub struct Tables {
+    listed: [u8; 256],
+    looks: [u8; 16_384],
+    tally: [u8; Tally::BYTES],
 }
 
 impl Asked {
+    /// In any running order.
     pub fn new(rng: &mut Rng, catalogue: &Catalogue, question: &Question) -> Asked {
         let order = running_order(rng, question.conditions.len());
-        Asked { catalogue: encode_catalogue(catalogue), question: encode_question(question), order }
+        Asked::in_order(catalogue, question, order)
+    }
+
+    pub fn in_order(catalogue: &Catalogue, question: &Question, order: Vec<u8>) -> Asked {
+        let is_range = |test: &Test| matches!(test, Test::NumberFrom { .. });
+        let ranges_alone = question.conditions.iter().all(|condition| is_range(&condition.test));
+        let aim = if ranges_alone { TO_BY_HAND_OF_RANGES } else { TO_BY_HAND };
+        Asked {
+            catalogue: encode_catalogue(catalogue),
+            question: encode_question(question),
+            order,
+            // Of a single entry a run has little but what it does once.
+            to_by_hand: (catalogue.entries > 1).then_some(aim),
+        }
     }
 
     /// The engine's run, into tables that stay the same from run to run.
     pub fn engine(&self) -> impl FnMut() -> Counts {
-        let (mut listed, mut looks) = ([0; 256], [0; 16_384]);
-        move || self.run(&mut listed, &mut looks)
+        self.runs(searchroom::run)
     }
 
     /// The listed table of the engine's run.
     pub fn listed(&self) -> [u8; 256] {
-        let mut listed = [0; 256];
-        self.run(&mut listed, &mut [0; 16_384]);
-        listed
+        let mut tables = Tables::new();
+        tables.fill(searchroom::run, &self.catalogue, &self.question, &self.order);
+        tables.listed
     }
 
-    fn run(&self, listed: &mut [u8], looks: &mut [u8]) -> Counts {
-        searchroom::run(&self.catalogue, &self.question, &self.order, 0, listed, looks, &mut [0; Tally::BYTES])
-            .expect("the benchmark's questions are accepted")
+    /// A row of the engine's run beside that by hand.
+    pub fn against_by_hand(&self, table: &mut Table, what: &str) {
+        assert_by_hand(what, &self.catalogue, &self.question, &self.order);
+        table.row(what, BY_HAND, self.to_by_hand, self.engine(), self.runs(by_hand::run));
+    }
+
+    fn runs(&self, run: Run) -> impl FnMut() -> Counts {
+        let mut tables = Tables::new();
+        move || tables.fill(run, &self.catalogue, &self.question, &self.order)
     }
 }
 
-/// The county's 2,048 deeds and its question of twelve conditions, with these deeds withdrawn.
-pub fn county_with(mark: Option<Vec<bool>>) -> Asked {
-    let (catalogue, question, order) = county();
-    let catalogue = Catalogue { mark, ..catalogue };
-    Asked { catalogue: encode_catalogue(&catalogue), question: encode_question(&question), order }
-}
-
-/// Six columns, numbers and texts in turn, an eighth of their values blank.
-pub fn mixed(rng: &mut Rng, entries: usize) -> Catalogue {
-    let mut columns = Vec::new();
-    while columns.len() < 6 {
-        let column = column(rng, entries);
-        if matches!(column, Column::Numbers(_)) == (columns.len() % 2 == 0) {
-            columns.push(column);
-        }
-    }
-    Catalogue::unmarked(entries, columns)
-}
-
-/// Questions of one to 64 conditions over a catalogue, with the number of their conditions and how deep their groups may be.
-pub fn at_each_depth(rng: &mut Rng, catalogue: &Catalogue) -> Vec<(usize, usize, Asked)> {
-    let sizes = [(1, 1), (6, 1), (6, 3), (20, 1), (20, 3), (20, 8), (64, 1), (64, 3), (64, 8)];
-    let asked = |(count, depth)| {
-        let question = question_of(rng, catalogue, count, depth);
-        (count, depth, Asked::new(rng, catalogue, &question))
+/// Sees that a run by hand gives the engine's counts, tables and tally.
+pub fn assert_by_hand(what: &str, catalogue: &[u8], question: &[u8], order: &[u8]) {
+    let ran = |run: Run| {
+        let mut tables = Tables::new();
+        (tables.fill(run, catalogue, question, order), tables)
     };
-    sizes.map(asked).into()
+    assert!(ran(by_hand::run) == ran(searchroom::run), "{what}: the run by hand differs");
 }
 
-/// All of: a year that few entries have, then nineteen texts to be searched.
-pub fn settled_early(rng: &mut Rng) -> Asked {
-    let made = mixed(rng, 2_048);
-    let mut conditions =
-        vec![Condition { column: 0, test: Test::NumberFrom { low: 1_701, high: 1_702 }, opposite: false }];
-    conditions.extend((0..19).map(|n| Condition {
-        column: 1,
-        test: Test::Contains(vec![b'a' + n, b'x']),
-        opposite: true,
-    }));
-    let question = Question { tree: Tree::AllOf((0..20).map(Tree::Condition).collect()), conditions };
-    Asked { order: (0..20).collect(), ..Asked::new(rng, &made, &question) }
+impl Tables {
+    pub fn new() -> Tables {
+        Tables { listed: [0; 256], looks: [0; 16_384], tally: [0; Tally::BYTES] }
+    }
+
+    /// Makes a run with a new tally.
+    pub fn fill(&mut self, run: Run, catalogue: &[u8], question: &[u8], order: &[u8]) -> Counts {
+        self.tally = [0; Tally::BYTES];
+        let Tables { listed, looks, tally } = self;
+        run(catalogue, question, order, 0, listed, looks, tally).expect("the benchmark's questions are accepted")
+    }
 }

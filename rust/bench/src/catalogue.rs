@@ -1,31 +1,46 @@
+use bench::{by_hand, plain};
 use evaluator::{Catalogue, Column};
 use generator::{Pattern, Rng, encode_catalogue, text};
 
-use crate::table::Table;
-use bench::plain;
+use crate::table::{BY_HAND, Table};
 
-/// Checking a catalogue: against the plain check, and against one pass that only sums the bytes. With a mark, also against the
-/// engine's own check without.
+/// How the sum is called in its rows.
+pub const SUM: &str = "one pass summing the bytes";
+
+/// The ratios wanted.
+struct Aims {
+    to_sum: Option<f64>,
+    to_by_hand: Option<f64>,
+}
+
+const AT_2048: Aims = Aims { to_sum: Some(0.33), to_by_hand: Some(1.1) };
+const AT_64: Aims = Aims { to_sum: Some(0.40), to_by_hand: None };
+const NONE: Aims = Aims { to_sum: None, to_by_hand: None };
+
+/// Checking a catalogue: against the plain check, against one pass that only sums the bytes, and against the check by
+/// hand. With a mark, also against the engine's own check without.
 pub fn report(table: &mut Table) {
-    for (columns, entries, aim) in [(16, 2_048, 0.33), (1, 2_048, 0.33), (1, 64, 0.40)] {
+    for (columns, entries, aims) in [(16, 2_048, AT_2048), (1, 2_048, AT_2048), (1, 64, AT_64)] {
         let what = format!("check_catalogue, {entries} entries, text columns: {columns}");
-        against_plain_and_sum(table, &what, Some(aim), &encode_catalogue(&texts(columns, entries)));
+        against_all(table, &what, &aims, &encode_catalogue(&texts(columns, entries)));
     }
     let (what, unmarked) = ("check_catalogue, 64 entries, text columns: 1, mark", texts(1, 64));
     let mark = Some(Pattern::Half.of(&mut Rng::new(2), 64));
     let [with, without] = [Catalogue { mark, ..unmarked.clone() }, unmarked].map(|made| encode_catalogue(&made));
-    against_plain_and_sum(table, what, None, &with);
+    against_all(table, what, &NONE, &with);
     let check = |bytes| move || searchroom::check_catalogue(bytes);
     table.row(what, "the same, no mark", None, check(&with), check(&without));
 }
 
-fn against_plain_and_sum(table: &mut Table, what: &str, aim: Option<f64>, bytes: &[u8]) {
+fn against_all(table: &mut Table, what: &str, aims: &Aims, bytes: &[u8]) {
     let size = searchroom::check_catalogue(bytes).expect("the benchmark's catalogues are sound");
     let plainly = || plain::check_catalogue(bytes).map(|read| (read.entries, read.columns.len()));
     assert_eq!(plainly(), Ok((size.entries.into(), size.columns.into())));
+    assert_eq!(by_hand::check_catalogue(bytes), Ok(size));
     let engine = || searchroom::check_catalogue(bytes);
     table.row(what, "plain Rust check", None, engine, plainly);
-    table.row(what, "one pass summing the bytes", aim, engine, || sum(bytes));
+    table.row(what, SUM, aims.to_sum, engine, || sum(bytes));
+    table.row(what, BY_HAND, aims.to_by_hand, engine, || by_hand::check_catalogue(bytes));
 }
 
 /// A catalogue of text columns alone.
@@ -36,6 +51,6 @@ fn texts(columns: usize, entries: usize) -> Catalogue {
 }
 
 /// A plain pass over the bytes.
-fn sum(bytes: &[u8]) -> u64 {
+pub fn sum(bytes: &[u8]) -> u64 {
     bytes.iter().map(|&byte| u64::from(byte)).sum()
 }

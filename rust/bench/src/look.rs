@@ -1,33 +1,24 @@
 use std::hint::black_box;
 
-use evaluator::{Catalogue, Column, Condition, Question, Test, Tree};
 use generator::{Rng, question_of};
 
-use crate::asked::{Asked, mixed, settled_early};
+use crate::asked::Asked;
 use crate::places;
+use crate::questions::{eight_ranges, kinds, mixed, settled_early, single};
 use crate::timing::medians;
 
-/// What a look costs on top of the checks: the time of a run less that of `check_question`, which checks the catalogue and
-/// the question as a run does first, over the number of looks. What a run does once, whatever its looks, is in it.
+/// What a look costs on top of the checks: the time of a run less that of `check_question`, which checks the catalogue
+/// and the question as a run does first, over the number of looks. What a run does once, whatever its looks, is in it.
 pub fn report() {
     println!("| {:<48} | {:>6} | {:>9} | {:>9} | ns a look |", "run", "looks", "run us", "checks us");
     println!("|---|---|---|---|---|");
     let mut rng = Rng::new(9);
-    let made = places::catalogue(&mut rng);
-    for (name, column, test) in [
-        ("number from low to high", 0, Test::NumberFrom { low: 1_700, high: 1_799 }),
-        ("number blank", 0, Test::NumberBlank),
-        ("equals", 1, Test::Equals(b"kirkby".to_vec())),
-        ("begins with", 1, Test::BeginsWith(b"kirk".to_vec())),
-        ("contains", 1, Test::Contains(b"shb".to_vec())),
-        ("text blank", 1, Test::TextBlank),
-    ] {
-        let conditions = vec![Condition { column, test, opposite: false }];
-        let question = Question { tree: Tree::Condition(0), conditions };
-        row(&format!("one condition: {name}"), &Asked::new(&mut rng, &made, &question));
+    let made = places::catalogue(&mut rng, 2_048);
+    for (name, condition) in kinds() {
+        row(&format!("one condition: {name}"), &Asked::new(&mut rng, &made, &single(condition)));
     }
     for percent in [100, 50, 10] {
-        row(&format!("all of eight ranges, each met at {percent} %"), &ranges(&mut rng, percent));
+        row(&format!("all of eight ranges, each met at {percent} %"), &eight_ranges(&mut rng, percent));
     }
     for count in [6, 12, 20] {
         let question = places::question(&mut rng, count);
@@ -40,15 +31,6 @@ pub fn report() {
         row(&what, &Asked::new(&mut rng, &made, &question));
     }
     row("20 conditions, settled by the first", &settled_early(&mut rng));
-}
-
-/// All of eight ranges, each on a column of its own and met at so many entries of a hundred.
-fn ranges(rng: &mut Rng, percent: u32) -> Asked {
-    let mut column = || Column::Numbers((0..2_048).map(|_| rng.below(100) as u32).collect());
-    let made = Catalogue::unmarked(2_048, (0..8).map(|_| column()).collect());
-    let test = Test::NumberFrom { low: 0, high: percent - 1 };
-    let conditions = (0..8).map(|column| Condition { column, test: test.clone(), opposite: false }).collect();
-    Asked::new(rng, &made, &Question { tree: Tree::AllOf((0..8).map(Tree::Condition).collect()), conditions })
 }
 
 fn row(what: &str, asked: &Asked) {

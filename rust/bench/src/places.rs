@@ -6,12 +6,12 @@ use generator::Rng;
 const PLACES: [&str; 8] = ["Ash", "ASHBY", "Kirkby", "St. Mary", "Newton", "Great Ashfield", "Thorpe", "Kirk Langley"];
 
 /// Two columns of years and two of places, in turn, a tenth of them blank.
-pub fn catalogue(rng: &mut Rng) -> Catalogue {
+pub fn catalogue(rng: &mut Rng, entries: usize) -> Catalogue {
     let column = |rng: &mut Rng, c: usize| match c % 2 {
-        0 => Column::Numbers((0..2_048).map(|_| if rng.chance(10) { BLANK_NUMBER } else { year(rng) }).collect()),
-        _ => Column::Texts((0..2_048).map(|_| if rng.chance(10) { Vec::new() } else { place(rng) }).collect()),
+        0 => Column::Numbers((0..entries).map(|_| if rng.chance(10) { BLANK_NUMBER } else { year(rng) }).collect()),
+        _ => Column::Texts((0..entries).map(|_| if rng.chance(10) { Vec::new() } else { place(rng) }).collect()),
     };
-    Catalogue::unmarked(2_048, (0..4).map(|c| column(rng, c)).collect())
+    Catalogue::unmarked(entries, (0..4).map(|c| column(rng, c)).collect())
 }
 
 fn year(rng: &mut Rng) -> u32 {

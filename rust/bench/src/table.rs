@@ -2,8 +2,11 @@ use std::hint::black_box;
 
 use crate::timing::medians;
 
-/// The table of ratios, printed row by row as docs/BENCHMARKS.md has it. A row may have an aim, the ratio that is wanted at
-/// most; how a row comes out is told and fails nothing, since it depends on the machine.
+/// How the engine by hand is called in the rows with it.
+pub const BY_HAND: &str = "by hand, no proof";
+
+/// The table of ratios, printed row by row as docs/BENCHMARKS.md has it. A row may have an aim, the ratio that is
+/// wanted at most; how a row comes out is told and fails nothing, since it depends on the machine.
 #[derive(Default)]
 pub struct Table {
     met: u32,
@@ -13,7 +16,7 @@ pub struct Table {
 impl Table {
     pub fn with_head() -> Table {
         println!(
-            "| {:<50} | {:<27} | {:>9} | {:>8} | {:>5} | aim |",
+            "| {:<50} | {:<27} | {:>9} | {:>9} | {:>5} | aim |",
             "engine", "compared with", "engine us", "other us", "ratio"
         );
         println!("|---|---|---|---|---|---|");
@@ -32,7 +35,7 @@ impl Table {
         let [engine, with] = medians([&mut || drop(black_box(engine())), &mut || drop(black_box(with()))]);
         let (ratio, [engine, with]) = (engine / with, [engine, with].map(|seconds| seconds * 1e6));
         let told = aim.map_or(String::new(), |aim| self.tell(ratio, aim));
-        println!("| {what:<50} | {other:<27} | {engine:>9.2} | {with:>8.2} | {ratio:>5.3} | {told} |");
+        println!("| {what:<50} | {other:<27} | {engine:>9.2} | {with:>9.2} | {ratio:>5.3} | {told} |");
     }
 
     fn tell(&mut self, ratio: f64, aim: f64) -> String {

@@ -2,14 +2,19 @@ use std::ffi::c_int;
 
 /// Each work is timed so many times.
 const REPETITIONS: usize = 101;
+/// The same where one of the works takes long: few times, so that the whole benchmark does not.
+const REPETITIONS_IF_LONG: usize = 7;
+/// A work of more seconds takes long.
+const LONG: f64 = 0.01;
 /// A timed stretch repeats its work until it takes about so many seconds.
 const STRETCH: f64 = 0.000_5;
 
 /// The median seconds of each of these works, timed in turn.
 pub fn medians<const N: usize>(mut works: [&mut dyn FnMut(); N]) -> [f64; N] {
     let times = works.each_mut().map(|work| rounds(work));
+    let is_long = works.iter_mut().zip(&times).any(|(work, &times)| times == 1 && stretch(work, times) > LONG);
     let mut taken = [const { Vec::new() }; N];
-    for _ in 0..REPETITIONS {
+    for _ in 0..if is_long { REPETITIONS_IF_LONG } else { REPETITIONS } {
         for ((work, &times), taken) in works.iter_mut().zip(&times).zip(&mut taken) {
             taken.push(stretch(work, times));
         }

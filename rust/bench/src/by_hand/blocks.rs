@@ -74,7 +74,8 @@ impl<'p, 'a> Plan<'p, 'a> {
             live[..conditions].fill(self.catalogue.present(block));
             let mut listed = 0;
             for &number in self.order {
-                // SAFETY: the block is one of the catalogue's and the number a condition's; live are entries of it alone.
+                // SAFETY: the block is one of the catalogue's and the number a condition's; live are entries of it
+                // alone.
                 listed |= unsafe { self.take_turn::<MET>(block, number.into(), &mut live, tables) };
             }
             tables.listed[block].write(listed);

@@ -77,7 +77,8 @@ impl Told {
         told
     }
 
-    /// Writes the fields of an entry of the block, given the condition of each turn, and gives what is left of the output.
+    /// Writes the fields of an entry of the block, given the condition of each turn, and gives what is left of the
+    /// output.
     #[inline(always)]
     fn put_entry<'o>(&self, numbers: &[u8; MAX_CONDITIONS], entry: usize, mut output: &'o mut [u8]) -> &'o mut [u8] {
         const YES: u64 = Answer::Yes as u64;

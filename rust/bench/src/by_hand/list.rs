@@ -2,8 +2,8 @@ use std::mem::MaybeUninit;
 use std::ops::{Deref, DerefMut};
 use std::slice;
 
-/// A list with room for `N` items, none of it written before an item is pushed: clearing the room would cost more than a
-/// small call.
+/// A list with room for `N` items, none of it written before an item is pushed: clearing the room would cost more than
+/// a small call.
 #[derive(Clone, Copy)]
 pub struct List<T: Copy, const N: usize> {
     items: [MaybeUninit<T>; N],

@@ -1,4 +1,5 @@
-//! The few vector instructions that are used, all of SSE2, which every x86-64 has: that is why each call of one is sound.
+//! The few vector instructions that are used, all of SSE2, which every x86-64 has: that is why each call of one is
+//! sound.
 
 use std::arch::x86_64::*;
 use std::ops::{BitAnd, BitOr};
