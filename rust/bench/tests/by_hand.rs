@@ -3,7 +3,9 @@
 
 use bench::by_hand;
 use evaluator::{Catalogue, Column, Condition, Question, Test, Tree};
-use generator::{Pattern, Rng, catalogue, catalogue_of, encode_catalogue, near_text, operand, question, running_order};
+use generator::{
+    Pattern, Rng, catalogue, catalogue_of, encode_catalogue, field, near_text, operand, question, running_order,
+};
 use searchroom::Refusal;
 use trials::{Damaged, ENTRIES_AT_ENDS, Lent, READERS, Run, Side, encode_tally, trying};
 
@@ -191,4 +193,24 @@ fn slots_of_every_length() {
     }
     // Of each length the places of its text, and none.
     assert_eq!(accepted, (1..=24).sum());
+}
+
+/// With 64 conditions any further one is too many, whatever else may be wrong with it.
+#[test]
+fn conditions_after_the_last() {
+    let catalogue = encode_catalogue(&Catalogue::unmarked(0, vec![Column::Numbers(Vec::new())]));
+    let range = |high: u8| field(80, &[0, 0, 0, 0, 0, 0, 0, 0, 0, high]);
+    let most: Vec<u8> = (0..64).flat_map(range).collect();
+    for (more, expected) in [
+        (Vec::new(), Ok(64)),
+        (range(64), Err(Refusal::TooManyConditions)),
+        (range(0), Err(Refusal::TooManyConditions)),
+        (field(80, &[9, 0]), Err(Refusal::TooManyConditions)),
+        (field(65, &[]), Err(Refusal::EmptyGroup)),
+        (vec![80], Err(Refusal::QuestionField)),
+    ] {
+        let question = field(79, &[most.as_slice(), &more].concat());
+        assert_eq!(searchroom::check_question(&catalogue, &question), expected, "{more:?}");
+        assert_eq!(by_hand::check_question(&catalogue, &question), expected, "{more:?}");
+    }
 }

@@ -13,10 +13,10 @@ pub type PreparedConditions<'a> = List<Prepared<'a>, MAX_CONDITIONS>;
 
 /// A question over a catalogue and a running order, ready to be worked.
 pub struct Plan<'p, 'a> {
-    pub catalogue: &'p Catalogue<'a>,
+    catalogue: &'p Catalogue<'a>,
     pub conditions: &'p [Prepared<'a>],
     /// Each condition's number once.
-    pub order: &'p [u8],
+    order: &'p [u8],
 }
 
 /// A row of bits, a word for each block. Words of blocks that the catalogue lacks are never written.
@@ -29,8 +29,8 @@ pub struct Tables {
     met: [Row; MAX_CONDITIONS],
 }
 
-/// What was found out: the words of these blocks and conditions are written.
-pub struct Worked<'t> {
+/// What was found out: the words of these blocks and conditions are written, those of `met` only with `MET`.
+pub struct Worked<'t, const MET: bool> {
     tables: &'t Tables,
     blocks: usize,
     conditions: usize,
@@ -65,9 +65,9 @@ impl<'p, 'a> Plan<'p, 'a> {
         Ok(Plan { catalogue, conditions: room, order })
     }
 
-    /// Works every condition out where its look is due. The words of `met` are written only where they are asked for.
+    /// Works every condition out where its look is due.
     #[inline(always)]
-    pub fn work<'t, const MET: bool>(&self, tables: &'t mut Tables) -> Worked<'t> {
+    pub fn work<'t, const MET: bool>(&self, tables: &'t mut Tables) -> Worked<'t, MET> {
         let (blocks, conditions) = (self.catalogue.entries.div_ceil(BLOCK), self.conditions.len());
         let mut live = [0; MAX_CONDITIONS];
         for block in 0..blocks {
@@ -160,7 +160,7 @@ impl Tables {
     }
 }
 
-impl<'t> Worked<'t> {
+impl<'t, const MET: bool> Worked<'t, MET> {
     /// The listed entries, a word for each block.
     #[inline(always)]
     pub fn listed(&self) -> &'t [u64] {
@@ -176,20 +176,19 @@ impl<'t> Worked<'t> {
         unsafe { words(&self.tables.looks[condition], self.blocks) }
     }
 
-    /// The entries at which it answered yes.
-    ///
-    /// # Safety
-    /// The work was done with `MET`.
-    #[inline(always)]
-    pub unsafe fn met(&self, condition: usize) -> &'t [u64] {
-        assert!(condition < self.conditions);
-        // SAFETY: as for the looks.
-        unsafe { words(&self.tables.met[condition], self.blocks) }
-    }
-
     #[inline(always)]
     pub fn look_count(&self) -> u32 {
         (0..self.conditions).map(|condition| ones(self.looks(condition))).sum()
+    }
+}
+
+impl<'t> Worked<'t, true> {
+    /// The entries at which a condition answered yes.
+    #[inline(always)]
+    pub fn met(&self, condition: usize) -> &'t [u64] {
+        assert!(condition < self.conditions);
+        // SAFETY: as for the looks; with `MET` each turn writes these too.
+        unsafe { words(&self.tables.met[condition], self.blocks) }
     }
 }
 

@@ -40,10 +40,8 @@ pub fn copy(catalogue: &[u8], question: &[u8], order: &[u8], output: &mut [u8]) 
     let mut turns = List::<Turn, MAX_CONDITIONS>::new();
     let mut numbers = [0; MAX_CONDITIONS];
     for (&number, at_turn) in order.iter().zip(&mut numbers) {
-        let condition = usize::from(number);
-        // SAFETY: the work was done with the entries that are met.
-        let met = unsafe { worked.met(condition) };
-        turns.push(Turn { condition: &plan.conditions[condition], looks: worked.looks(condition), met });
+        let at = usize::from(number);
+        turns.push(Turn { condition: &plan.conditions[at], looks: worked.looks(at), met: worked.met(at) });
         *at_turn = number;
     }
     for first in (0..catalogue.entries).step_by(BLOCK) {

@@ -49,13 +49,13 @@ pub fn containing(due: Due<Slot>, part: &Part) -> u64 {
     if part.is_loose {
         possible |= due.except(possible).passing(is_beyond_ascii);
     }
-    due.among(possible).each_passing(|slot| contains(slot, part.operand))
+    let initial = FOLD[usize::from(part.operand[0])];
+    due.among(possible).each_passing(|slot| contains(slot, part.operand, initial))
 }
 
-/// Does a slot's text contain the operand?
+/// Does a slot's text contain the operand, whose first byte is folded to this one?
 #[inline(always)]
-fn contains(slot: &Slot, operand: &[u8]) -> bool {
-    let initial = FOLD[usize::from(operand[0])];
+fn contains(slot: &Slot, operand: &[u8], initial: u8) -> bool {
     let mut at = 1;
     while at + operand.len() <= 1 + usize::from(slot[0]) {
         // SAFETY: the text's length was checked, so that its bytes are among the slot's.
