@@ -42,8 +42,8 @@
 /* The release, as text, which the pkg-config file repeats, and as a number for #if: major * 10000 + minor * 100 +
    patch. (Before 0.7.1 there was no number; #if takes it as 0.) Link the archive of the same release. Each call says
    below since which release it is there, and which of its parameters came later. */
-#define SEARCHROOM_VERSION "0.7.1"
-#define SEARCHROOM_VERSION_NUMBER 701
+#define SEARCHROOM_VERSION "0.7.2"
+#define SEARCHROOM_VERSION_NUMBER 702
 
 #ifdef __cplusplus
 extern "C" {
