@@ -16,7 +16,7 @@ use Rattle.strategy.specs.LiveLaws.{inSpan-yes, inSpan-of, inSpan-no, meets-giv
 use Rattle.strategy.specs.Propagation.{Ancestor}
 use Rattle.sets.specs.Set.{has, setMinus}
 use Rattle.sets.specs.SetLaws.{has-and, has-or, has-none, minus-has, minus-and}
-use Rattle.blocks.specs.Block.{rowLive, rowStep, TakenOut, NoneLive, SettledRows, Passed}
+use Rattle.blocks.specs.Block.{rowLive, rowStep, TakenOut, StillActiveIs, SettledRows, Passed}
 
 -- THE LOOP OVER THE WORDS OF A GROUP
 
@@ -97,10 +97,10 @@ meets-more a c l h =
     to (inl y) = let r = meets-gives a (c - a) l y in let i = r .1 in meets-yes a (c + 1 - a) l (r .0) (omega arith) (r .2)
     to (inr y) = meets-yes a (c + 1 - a) l c (omega arith) y
 
-pub none-yet : (a c active : ℕ) (L : List ℕ) → c ≡ a → NoneLive a (c - a) active active L
+pub none-yet : (a c active : ℕ) (L : List ℕ) → c ≡ a → StillActiveIs a (c - a) active active L
 none-yet a c active L e d = sym (ap (λ (b : Bool). cond b false (has active d)) (meets-no a (c - a) (rowLive L d) (λ k r. absurd (omega arith))))
 
-pub none-next : (a c active left next : ℕ) (L : List ℕ) → a ≤ c → next ≡ setMinus left (getD L c 0) → NoneLive a (c - a) active left L → NoneLive a (c + 1 - a) active next L
+pub none-next : (a c active left next : ℕ) (L : List ℕ) → a ≤ c → next ≡ setMinus left (getD L c 0) → StillActiveIs a (c - a) active left L → StillActiveIs a (c + 1 - a) active next L
 none-next a c active left next L h e T d =
     ap (λ (z : ℕ). has z d) e ∙ minus-has left (getD L c 0) d ∙ ap (cond (rowLive L d c) false) (T d)
     ∙ both-out (meets a (c - a) (rowLive L d)) (rowLive L d c) (has active d) ∙ ap (λ (b : Bool). cond b false (has active d)) (sym (meets-more a c (rowLive L d) h))
@@ -111,14 +111,14 @@ none-next a c active left next L h e T d =
     both-out false true r = refl
     both-out false false r = refl
 
+neither : (p : Bool) → cond p false false ≡ false
+neither true = refl
+neither false = refl
+
 -- where no row is left, none is at the end
-pub none-early : (a c e active left : ℕ) (L : List ℕ) → c ≤ e → left ≡ 0 → NoneLive a (c - a) active left L → NoneLive a (e - a) active 0 L
+pub none-early : (a c e active left : ℕ) (L : List ℕ) → c ≤ e → left ≡ 0 → StillActiveIs a (c - a) active left L → StillActiveIs a (e - a) active 0 L
 none-early a c e active left L h z T d = has-none d ∙ sym (go (meets a (c - a) (rowLive L d)) refl)
   where
-    out : (p : Bool) → cond p false false ≡ false
-    out true = refl
-    out false = refl
-
     go : (p : Bool) → meets a (c - a) (rowLive L d) ≡ p → cond (meets a (e - a) (rowLive L d)) false (has active d) ≡ false
     go true y =
         let r = meets-gives a (c - a) (rowLive L d) y in
@@ -126,9 +126,9 @@ none-early a c e active left L h z T d = has-none d ∙ sym (go (meets a (c - a)
         ap (λ (b : Bool). cond b false (has active d)) (meets-yes a (e - a) (rowLive L d) (r .0) (omega arith) (r .2))
     go false y =
         let f : has active d ≡ false = sym (T d ∙ ap (λ (b : Bool). cond b false (has active d)) y) ∙ ap (λ (x : ℕ). has x d) z ∙ has-none d in
-        ap (cond (meets a (e - a) (rowLive L d)) false) f ∙ out (meets a (e - a) (rowLive L d))
+        ap (cond (meets a (e - a) (rowLive L d)) false) f ∙ neither (meets a (e - a) (rowLive L d))
 
-pub none-end : (a c e active left : ℕ) (L : List ℕ) → c ≡ e → NoneLive a (c - a) active left L → NoneLive a (e - a) active left L
+pub none-end : (a c e active left : ℕ) (L : List ℕ) → c ≡ e → StillActiveIs a (c - a) active left L → StillActiveIs a (e - a) active left L
 none-end a c e active left L x T = rw (← x) T
 
 -- THE ROWS THAT A GROUP SETTLES
@@ -143,7 +143,7 @@ settled-all k active met r e f d = rw (e, f) (minus-and active met d)
 
 -- the settled rows are taken out of its words, and it goes on where none of these is live
 module _ (g : Ancestor) (active met settled next : ℕ) (L N : List ℕ) (S : SettledRows (g .settling) active met settled) (size : length N ≡ length L)
-    (words : (c d : ℕ) → has (getD N c 0) d ≡ cond (inSpan (g .first) (g .count) c && has settled d) false (has (getD L c 0) d)) (next-bit : NoneLive (g .first) (g .count) active next N) where
+    (words : (c d : ℕ) → has (getD N c 0) d ≡ cond (inSpan (g .first) (g .count) c && has settled d) false (has (getD L c 0) d)) (next-bit : StillActiveIs (g .first) (g .count) active next N) where
   -- nothing of the group is live where it is settled
   none-left : (d : ℕ) → has settled d ≡ true → meets (g .first) (g .count) (rowLive N d) ≡ false
   none-left d s =
@@ -186,12 +186,8 @@ module _ (g : Ancestor) (active met settled next : ℕ) (L N : List ℕ) (S : Se
       other false = refl
   row d (inr p) v =
       let s : has settled d ≡ false = S d ∙ ap (λ (b : Bool). b && settles (g .settling) (has met d)) p in
-      steps (untouched d s) (next-bit d ∙ ap (cond (meets (g .first) (g .count) (rowLive N d)) false) p ∙ none (meets (g .first) (g .count) (rowLive N d)) ∙ sym p)
+      steps (untouched d s) (next-bit d ∙ ap (cond (meets (g .first) (g .count) (rowLive N d)) false) p ∙ neither (meets (g .first) (g .count) (rowLive N d)) ∙ sym p)
       ∙ sym (through-stopped (g .settling) (has met d) (g .first) (g .count) (rowStep L active d) p)
-    where
-      none : (p : Bool) → cond p false false ≡ false
-      none true = refl
-      none false = refl
 
   passed : Passed g met active next L N
   passed = record { size = size; rows = λ d. row d (which (has active d)) (which (settles (g .settling) (has met d))) }
@@ -202,7 +198,7 @@ module _ (g : Ancestor) (active met settled : ℕ) (L : List ℕ) (S : SettledRo
       passed g active met settled next L N S (T .size) (T .words)
       (λ d. ap (λ (z : ℕ). has z d) n ∙ minus-has active left d ∙ ap (λ (b : Bool). cond b false (has active d)) (T .meeting d))
 
-  pub unchanged-passed : (next : ℕ) → settled ≡ 0 → NoneLive (g .first) (g .count) active next L → Passed g met active next L L
+  pub unchanged-passed : (next : ℕ) → settled ≡ 0 → StillActiveIs (g .first) (g .count) active next L → Passed g met active next L L
   unchanged-passed next e T =
       passed g active met settled next L L S refl
       (λ c d. sym (ap (λ (b : Bool). cond (inSpan (g .first) (g .count) c && b) false (rowLive L d c)) (ap (λ (z : ℕ). has z d) e ∙ has-none d) ∙ off (inSpan (g .first) (g .count) c) (rowLive L d c))) T

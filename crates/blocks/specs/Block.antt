@@ -27,8 +27,8 @@ pub record TakenOut (a n gone left : ℕ) (before after : List ℕ) : Type 0 whe
   pub meeting : (d : ℕ) → has left d ≡ meets a n (rowLive after d)
 
 -- the active rows at which none of the n words from a on is live
-abbrev pub NoneLive : (a n active r : ℕ) → (live : List ℕ) → Type 0
-NoneLive a n active r L = (d : ℕ) → has r d ≡ cond (meets a n (rowLive L d)) false (has active d)
+abbrev pub StillActiveIs : (a n active r : ℕ) → (live : List ℕ) → Type 0
+StillActiveIs a n active r L = (d : ℕ) → has r d ≡ cond (meets a n (rowLive L d)) false (has active d)
 
 -- the active rows at which the outcome settles a group that `k` settles
 abbrev pub SettledRows : (k : Bool) → (active met settled : ℕ) → Type 0

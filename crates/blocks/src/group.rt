@@ -1,7 +1,7 @@
 // What the outcomes of a probe do to one group around it.
 ghost use Prim.Native.Nat.{_-_, _≤_};
 ghost use lib.ListN.{length};
-ghost use Rattle.blocks.specs.Block.{TakenOut, NoneLive, SettledRows, Passed};
+ghost use Rattle.blocks.specs.Block.{TakenOut, StillActiveIs, SettledRows, Passed};
 
 // Takes the rows of gone out of the words from a up to e; the rows at which one of them is live still.
 fn take_out(live: &mut [u64], a: usize, e: usize, gone: u64) -> u64
@@ -22,7 +22,7 @@ fn take_out(live: &mut [u64], a: usize, e: usize, gone: u64) -> u64
 // The active rows at which none of the words from a up to e is live. It ends where no row is left.
 fn still_active(live: &[u64], a: usize, e: usize, active: u64) -> u64
     requires { ⌜ (a ≤ e) × (e ≤ length (now live)) ⌝ }
-    ensures { λ r. ⌜ NoneLive a (e - a) active r (now (live .entry)) ⌝ }
+    ensures { λ r. ⌜ StillActiveIs a (e - a) active r (now (live .entry)) ⌝ }
 {
     let mut left = active;
     let mut c = a;

@@ -69,16 +69,16 @@ asked n x m small =
     none d (inl e) = rw (has-below n d ∙ e) (in-mask (has x d) (has m d))
     none d (inr e) = rw (has-high n m d small (ltb-le d n e)) (beyond (has x d) (has (belowSet n) d))
 
--- the bytes from j on are put together; the bits of `free` are left open
-pub record Heading (kind : ℕ) (o : List ℕ) (j free value : ℕ) : Type 0 where
+-- the bytes from j on are put together; the bits of `leftOpen` are left open
+pub record Heading (kind : ℕ) (o : List ℕ) (j leftOpen value : ℕ) : Type 0 where
   pub inside : j ≤ headSize
-  pub free-small : free < 256 ^ (headSize - j)
+  pub open-small : leftOpen < 256 ^ (headSize - j)
   pub value-small : value < 256 ^ (headSize - j)
-  pub passes : (b : List ℕ) (p : ℕ) → Starts kind o b p → bitOr (wordAt b (p + j) (headSize - j)) free ≡ value
+  pub passes : (b : List ℕ) (p : ℕ) → Starts kind o b p → bitOr (wordAt b (p + j) (headSize - j)) leftOpen ≡ value
 
 pub heading-none : (kind : ℕ) (o : List ℕ) → Heading kind o headSize 0 0
 unfolding wordAt
-heading-none kind o = record { inside = omega arith; free-small = omega arith; value-small = omega arith; passes = λ b p S. refl }
+heading-none kind o = record { inside = omega arith; open-small = omega arith; value-small = omega arith; passes = λ b p S. refl }
 
 -- three bytes at most are no more than 2^24
 short : (n : ℕ) → n < headSize → 256 ^ n ≤ 16777216
@@ -88,20 +88,20 @@ short (suc (suc zero)) h = omega arith
 short (suc (suc (suc zero))) h = omega arith
 short (suc (suc (suc (suc n)))) h = absurd (omega arith)
 
-module _ {kind : ℕ} {o : List ℕ} {j free value : ℕ} (H : Heading kind o j free value) where
+module _ {kind : ℕ} {o : List ℕ} {j leftOpen value : ℕ} (H : Heading kind o j leftOpen value) where
   module _ (more : 0 < j) where
-    pub heading-small : (free < 16777216) × (value < 16777216)
+    pub heading-small : (leftOpen < 16777216) × (value < 16777216)
     heading-small =
         let l = short (headSize - j) (omega arith) in
-        let m = H .free-small in
+        let m = H .open-small in
         let v = H .value-small in
         (omega arith, omega arith)
 
-    pub heading-next : {k : ByteTest} {m v : ℕ} → TestFor kind o (j - 1) k → m ≡ k .mask → v ≡ k .value → Heading kind o (j - 1) (256 * free + m) (256 * value + v)
+    pub heading-next : {k : ByteTest} {m v : ℕ} → TestFor kind o (j - 1) k → m ≡ k .mask → v ≡ k .value → Heading kind o (j - 1) (256 * leftOpen + m) (256 * value + v)
     unfolding wordAt
     heading-next {k} {m} {v} K me ve = record {
       inside = let l = H .inside in omega arith;
-      free-small = below free m (H .free-small) (rw me (K .mask-small));
+      open-small = below leftOpen m (H .open-small) (rw me (K .mask-small));
       value-small = below value v (H .value-small) (rw ve (K .value-small));
       passes = λ b p S. step b p S;
     }
@@ -115,25 +115,25 @@ module _ {kind : ℕ} {o : List ℕ} {j free value : ℕ} (H : Heading kind o j 
         below : (x y : ℕ) → x < 256 ^ n → y < 256 → 256 * x + y < 256 ^ (headSize - (j - 1))
         below x y h l = let e : 256 ^ suc n ≡ 256 ^ n * 256 = pow-suc 256 n in rw one-more (omega arith)
 
-        step : (b : List ℕ) (p : ℕ) → Starts kind o b p → bitOr (wordAt b (p + (j - 1)) (headSize - (j - 1))) (256 * free + m) ≡ 256 * value + v
+        step : (b : List ℕ) (p : ℕ) → Starts kind o b p → bitOr (wordAt b (p + (j - 1)) (headSize - (j - 1))) (256 * leftOpen + m) ≡ 256 * value + v
         step b p S =
             let x = getD b (p + (j - 1)) 0 in
             let z : p + (j - 1) + 1 ≡ p + j = omega arith in
             let w : x + 256 * wordAt b (p + j) n ≡ wordAt b (p + j) n * 2 ^ 8 + x = omega arith in
             let c : bitOr x (k .mask) ≡ k .value = eqb-eq (bitOr x (k .mask)) (k .value) (K .passes b p S) in
-            let e : 256 * free + m ≡ free * 2 ^ 8 + k .mask = omega (arith, me) in
+            let e : 256 * leftOpen + m ≡ leftOpen * 2 ^ 8 + k .mask = omega (arith, me) in
             let f : value * 2 ^ 8 + k .value ≡ 256 * value + v = omega (arith, ve) in
-            rw (one-more, z, w, e) (or-block 8 (wordAt b (p + j) n) free x (k .mask) (S .bytes (p + (j - 1))) (K .mask-small) ∙ rw (H .passes b p S, c) f)
+            rw (one-more, z, w, e) (or-block 8 (wordAt b (p + j) n) leftOpen x (k .mask) (S .bytes (p + (j - 1))) (K .mask-small) ∙ rw (H .passes b p S, c) f)
 
-  pub heading-end : j ≤ 0 → HeadFor kind o (record { mask = bitXor 4294967295 free; value = value })
+  pub heading-end : j ≤ 0 → HeadFor kind o (record { asked = bitXor 4294967295 leftOpen; value = value })
   heading-end h b p S =
       let e : j ≡ 0 = omega arith in
-      let small : free < 2 ^ 32 = rw e at (H .free-small) in
-      let whole : bitOr (wordAt b p headSize) free ≡ value = rw (e, add-zero p) at (H .passes b p S) in
-      eq-eqb _ _ (ap (λ (v : ℕ). bitAnd (bitXor (wordAt b p headSize) v) (bitXor 4294967295 free)) (sym whole) ∙ asked 32 (wordAt b p headSize) free small)
+      let small : leftOpen < 2 ^ 32 = rw e at (H .open-small) in
+      let whole : bitOr (wordAt b p headSize) leftOpen ≡ value = rw (e, add-zero p) at (H .passes b p S) in
+      eq-eqb _ _ (ap (λ (v : ℕ). bitAnd (bitXor (wordAt b p headSize) v) (bitXor 4294967295 leftOpen)) (sym whole) ∙ asked 32 (wordAt b p headSize) leftOpen small)
 
 -- where the first byte alone is asked for, a head shows its length
-pub blank-head : BlankHeadIs (record { mask = 255; value = 0 })
+pub blank-head : BlankHeadIs (record { asked = 255; value = 0 })
 unfolding wordAt
 blank-head b p h = ap (λ (x : ℕ). eqb x 0) (ap (λ (x : ℕ). bitAnd x 255) (xor-zero-r (wordAt b p headSize)) ∙ and-mask (wordAt b p headSize) 8 ∙ length-byte)
   where

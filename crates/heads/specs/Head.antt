@@ -18,9 +18,9 @@ use Rattle.heads.specs.ByteTest.{testPasses}
 abbrev pub headSize : ℕ
 headSize = 4
 
--- the mask has the bits that are asked for: a head passes where it differs from the value in none of them
+-- a head passes where it differs from the value in none of the bits that are asked for
 abbrev pub headPasses : List ℕ → (p : ℕ) → Head → Bool
-headPasses b p k = eqb (bitAnd (bitXor (wordAt b p headSize) (k .value)) (k .mask)) 0
+headPasses b p k = eqb (bitAnd (bitXor (wordAt b p headSize) (k .value)) (k .asked)) 0
 
 -- a slot that starts as an operand asks: its text has the operand's bytes, folded, and for equals its length
 pub record Starts (kind : ℕ) (o b : List ℕ) (p : ℕ) : Type 0 where

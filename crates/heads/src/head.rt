@@ -9,9 +9,9 @@ ghost use Rattle.slots.specs.Slots.{textLimit};
 ghost use Rattle.predicate.specs.Outcome.{Folds};
 ghost use Rattle.heads.specs.Head.{headSize, headPasses, TestFor, HeadFor, BlankHeadIs};
 
-// The mask has the bits that are asked for: a slot passes where its head has the value's in all of them.
+// A slot passes where its head has the value's bits in all places that are asked for.
 pub struct Head {
-    pub mask: u32,
+    pub asked: u32,
     pub value: u32,
 }
 
@@ -57,7 +57,7 @@ pub fn head_of(table: &[u8], kind: u8, operand: &[u8]) -> Head
         value = 256 * value + next.value as u32;
     }
     Head {
-        mask: 0xffff_ffff ^ left_open,
+        asked: 0xffff_ffff ^ left_open,
         value,
     }
 }
@@ -67,7 +67,7 @@ pub fn blank_head() -> Head
     ensures { λ r. ⌜ BlankHeadIs r ⌝ }
 {
     Head {
-        mask: 0xff,
+        asked: 0xff,
         value: 0,
     }
 }
@@ -77,5 +77,5 @@ pub fn head_passes(b: &[u8], p: usize, k: Head) -> bool
     requires { ⌜ p + headSize ≤ length (now b) ⌝ }
     ensures { λ r. ⌜ r ≡ headPasses (now (b .entry)) p k ⌝ }
 {
-    (words::half_at(b, p) as u32 ^ k.value) & k.mask == 0
+    (words::half_at(b, p) as u32 ^ k.value) & k.asked == 0
 }

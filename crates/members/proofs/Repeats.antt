@@ -105,9 +105,9 @@ module _ (payload q : List ℕ) (start end : ℕ) (some : 2 ≤ length payload) 
   after = eqb (getD payload 1 0) (getD q (start + 1) 0) && same (drop 2 payload) (drop 2 here)
 
   -- column and kind as one number
-  pub other-head : (x y : ℕ) → x ≡ getD payload 0 0 + 256 * getD payload 1 0 → y ≡ getD q start 0 + 256 * getD q (start + 1) 0 → (x ≡ y → ⊥) → false ≡ same payload here
-  unfolding same
-  other-head x y x-is y-is n = sym (ap₂ same (payload-parts payload some) here-parts ∙ go (same? (getD payload 0 0) (getD q start 0)))
+  other-head : (x : ℕ) → x ≡ headAt payload 0 → (x ≡ headAt q start → ⊥) → false ≡ same payload here
+  unfolding same wordAt
+  other-head x x-is n = sym (ap₂ same (payload-parts payload some) here-parts ∙ go (same? (getD payload 0 0) (getD q start 0)))
     where
       other-kind : getD payload 0 0 ≡ getD q start 0 → after ≡ false
       other-kind e = rw (ne-eqb (getD payload 1 0) (getD q (start + 1) 0) (λ f. n (omega arith)))
@@ -171,7 +171,7 @@ unlike-passed payload q os h n left next some h-is has l other U d i j = go (leb
     go true e = U d (leb-true left d e) j
     go false e =
         let m : d < left = leb-false left d e in
-        sym (same-shown q os d (has d j) payload false (other-head payload q (startAt os d) (endAt q os d) some (has d j .0) (has d j .1) h (headAt q (startAt os d)) h-is refl (λ z. other d i m (sym z))))
+        sym (same-shown q os d (has d j) payload false (other-head payload q (startAt os d) (endAt q os d) some (has d j .0) (has d j .1) h h-is (λ z. other d i m (sym z))))
 
 -- and one predicate more that has another; none is left
 module _ (h : ℕ) (q os : List ℕ) (n left : ℕ) where

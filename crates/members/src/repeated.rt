@@ -9,7 +9,7 @@ ghost use Rattle.predicate.specs.Payload.{payloadHead};
 ghost use Rattle.query.specs.Decode.{payloadAt, isRepeated};
 ghost use Rattle.records.specs.Offsets.{HasFields};
 ghost use Rattle.records.specs.Table.{predicatesAt};
-ghost use Rattle.members.specs.Heads.{headAt, OtherHeads};
+ghost use Rattle.members.specs.Heads.{headAt, LastHeadIs};
 
 // Eight bytes at a time, then one by one.
 fn same_bytes(a: &[u8], b: &[u8]) -> bool
@@ -46,7 +46,7 @@ fn head(b: &[u8], at: usize) -> usize
 // Of the first n predicates, how many there are up to the last that has this head; 0 where none has it.
 fn up_to_head(h: usize, q: &[u8], offsets: &[usize], n: usize) -> usize
     requires { ⌜ HasFields (now q) (now offsets) n ⌝ }
-    ensures { λ r. ⌜ (r ≤ n) × OtherHeads h (now (q .entry)) (now (offsets .entry)) r n ⌝ }
+    ensures { λ r. ⌜ LastHeadIs h (now (q .entry)) (now (offsets .entry)) n r ⌝ }
 {
     let mut left = n;
     while 0 < left {
@@ -68,7 +68,8 @@ fn is_payload_at(payload: &[u8], q: &[u8], at: usize) -> bool
     same_bytes(payload, &q[start..end])
 }
 
-// Whether one of the first n predicates has this payload: only those with its head are compared, the others are passed in a loop of their own.
+// Whether one of the first n predicates has this payload: only those with its head are compared, the others are passed in a loop
+// of their own.
 pub fn is_repeated(payload: &[u8], q: &[u8], offsets: &[usize], n: usize) -> bool
     requires { ⌜ (payloadHead ≤ length (now payload)) × HasFields (now q) (now offsets) n ⌝ }
     ensures { λ r. ⌜ r ≡ isRepeated (now (payload .entry)) (predicatesAt (now (q .entry)) (now (offsets .entry)) n) ⌝ }

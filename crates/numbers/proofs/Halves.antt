@@ -21,7 +21,7 @@ use Rattle.sets.specs.SetLaws.{below-has}
 use Rattle.heads.specs.Block.{HasDueRows}
 
 -- the first byte and the third
-pub pairs : (x : ℕ) → bitAnd x 16711935 ≡ x % 256 + 65536 * (x / 65536 % 256)
+pairs : (x : ℕ) → bitAnd x 16711935 ≡ x % 256 + 65536 * (x / 65536 % 256)
 pairs x =
     let h : bitAnd x 16711935 / 2 ^ 16 ≡ x / 2 ^ 16 % 2 ^ 8 = and-shr x 16711935 16 ∙ and-mask (x / 2 ^ 16) 8 in
     let l : bitAnd x 16711935 % 2 ^ 16 ≡ x % 2 ^ 16 % 2 ^ 8 = and-mod x 16711935 16 ∙ and-mask (x % 2 ^ 16) 8 in
@@ -47,8 +47,8 @@ pairs-of a0 a1 a2 t x l0 l1 l2 e =
     (ap (λ (z : ℕ). z % 256) (above-two (a0 + 256 * a1) (a2 + 256 * t) x (omega arith) e) ∙ low-byte a2 t (a2 + 256 * t) l2 refl)
 
 -- two bytes and two more change places, `low` being taken away between
-turned : (h l y s low r : ℕ) → h < 65536 → l < 65536 → y ≡ h + 65536 * l → (s + low) % 2 ^ 32 ≡ y * 2 ^ 16 % 2 ^ 32 → r ≡ (s + y / 2 ^ 16) % 2 ^ 32 → (r + low) % 2 ^ 32 ≡ 65536 * h + l
-turned h l y s low r lh ll e f g = wrapped s low r (f ∙ up) (g ∙ ap (λ (z : ℕ). (s + z) % 2 ^ 32) (above-two h l y lh e))
+swapped : (h l y s low r : ℕ) → h < 65536 → l < 65536 → y ≡ h + 65536 * l → (s + low) % 2 ^ 32 ≡ y * 2 ^ 16 % 2 ^ 32 → r ≡ (s + y / 2 ^ 16) % 2 ^ 32 → (r + low) % 2 ^ 32 ≡ 65536 * h + l
+swapped h l y s low r lh ll e f g = wrapped s low r (f ∙ up) (g ∙ ap (λ (z : ℕ). (s + z) % 2 ^ 32) (above-two h l y lh e))
   where
     up : y * 2 ^ 16 % 2 ^ 32 ≡ 65536 * h
     up = omega arith
@@ -67,7 +67,7 @@ in-order b p bytes s low {x} {y} {r} ex ey es er =
     go : (a0 a1 a2 a3 : ℕ) → a0 < 256 → a1 < 256 → a2 < 256 → a3 < 256 → x ≡ a0 + 256 * a1 + 65536 * a2 + 16777216 * a3 → (r + low) % 2 ^ 32 ≡ 16777216 * a0 + 65536 * a1 + 256 * a2 + a3
     go a0 a1 a2 a3 l0 l1 l2 l3 e =
         let d : x / 256 ≡ a1 + 256 * a2 + 65536 * (a3 + 256 * 0) = above-byte a0 (a1 + 256 * a2 + 65536 * (a3 + 256 * 0)) x l0 (e ∙ omega arith) in
-        turned (a1 + 256 * a0) (a3 + 256 * a2) y s low r (omega (arith, l0, l1)) (omega (arith, l2, l3))
+        swapped (a1 + 256 * a0) (a3 + 256 * a2) y s low r (omega (arith, l0, l1)) (omega (arith, l2, l3))
         (sums a0 a1 a2 a3 (bitAnd x 16711935) (bitAnd (x / 256) 16711935) y (pairs-of a0 a1 a2 a3 x l0 l1 l2 (e ∙ omega arith)) (pairs-of a1 a2 a3 0 (x / 256) l1 l2 l3 d) ey) es er
         ∙ omega arith
 

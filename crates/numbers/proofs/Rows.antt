@@ -7,8 +7,8 @@ use Rattle.catalogue.specs.Format.{numberTag, textTag}
 use Rattle.catalogue.specs.Catalogue.{numbers, texts}
 use Rattle.catalogue.specs.InPlace.{HasRow, NumberIs}
 use Rattle.catalogue.proofs.Rows.{number-is}
-use Rattle.numbers.specs.Within.{numberOf}
+use Rattle.numbers.specs.Within.{numberInRow}
 
-pub number-value : {b : List ℕ} {start row : ℕ} → HasRow b numberTag start row → (n : ℕ) → NumberIs b start row n → n ≡ numberOf b start row
-number-value {b} {start} {row} (rows, numbers ns, s, l) n value = value rows ns s l ∙ sym (number-is b start row (numberOf b start row) refl rows ns s l)
+pub number-value : {b : List ℕ} {start row : ℕ} → HasRow b numberTag start row → (n : ℕ) → NumberIs b start row n → n ≡ numberInRow b start row
+number-value {b} {start} {row} (rows, numbers ns, s, l) n value = value rows ns s l ∙ sym (number-is b start row (numberInRow b start row) refl rows ns s l)
 number-value (rows, texts ts, s, l) n value = let z : numberTag ≡ textTag = s .0 in absurd (omega arith)

@@ -6,8 +6,8 @@ use lib.Dec.{leb}
 use Rattle.fields.specs.Numbers.{numberAt}
 use Rattle.catalogue.specs.Format.{numberSize}
 
-abbrev pub numberOf : List ℕ → (start row : ℕ) → ℕ
-numberOf b start row = numberAt b (start + numberSize * row) numberSize
+abbrev pub numberInRow : List ℕ → (start row : ℕ) → ℕ
+numberInRow b start row = numberAt b (start + numberSize * row) numberSize
 
 -- n is low or one of the so many numbers after it
 abbrev pub within : (low width n : ℕ) → Bool

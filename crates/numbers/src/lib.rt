@@ -10,7 +10,7 @@ ghost use Rattle.sets.specs.Set.{belowSet};
 ghost use Rattle.sets.specs.Kept.{KeptBy};
 ghost use Rattle.sets.specs.Gathered.{gathered};
 ghost use Rattle.heads.specs.Block.{HasDueRows};
-ghost use Rattle.numbers.specs.Within.{numberOf, within};
+ghost use Rattle.numbers.specs.Within.{numberInRow, within};
 
 // Whether n is low or one of the numbers after it, as many as width: one comparison. Written with <= it becomes a branch in the loop over
 // due rows, which a processor guesses wrong where the answers are mixed.
@@ -54,7 +54,7 @@ fn is_blank_at(b: &[u8], at: usize) -> bool
 // The 32 numbers from a place on. No bit waits for another.
 fn half_within(b: &[u8], at: usize, low: u32, width: u32) -> u32
     requires { ⌜ (at + numberSize * 32 ≤ length (now b)) × (low + width < 2 ^ 32) ⌝ }
-    ensures { λ r. ⌜ r ≡ gathered (λ d. within low width (numberOf (now (b .entry)) at d)) 32 ⌝ }
+    ensures { λ r. ⌜ r ≡ gathered (λ d. within low width (numberInRow (now (b .entry)) at d)) 32 ⌝ }
 {
     let mut met: u32 = 0;
     let mut d: usize = 0;
@@ -68,7 +68,7 @@ fn half_within(b: &[u8], at: usize, low: u32, width: u32) -> u32
 
 fn half_blank(b: &[u8], at: usize) -> u32
     requires { ⌜ at + numberSize * 32 ≤ length (now b) ⌝ }
-    ensures { λ r. ⌜ r ≡ gathered (λ d. numberBlank (numberOf (now (b .entry)) at d)) 32 ⌝ }
+    ensures { λ r. ⌜ r ≡ gathered (λ d. numberBlank (numberInRow (now (b .entry)) at d)) 32 ⌝ }
 {
     let mut met: u32 = 0;
     let mut d: usize = 0;
@@ -83,25 +83,25 @@ fn half_blank(b: &[u8], at: usize) -> u32
 // The rows of a whole block, straight through, by halves: lanes of 32 bits hold a number and its bit.
 fn all_within(b: &[u8], start: usize, base: usize, low: u32, width: u32) -> u64
     requires { ⌜ HasDueRows (now b) numberTag start base (belowSet 64) × (low + width < 2 ^ 32) ⌝ }
-    ensures { λ r. ⌜ KeptBy (λ d. within low width (numberOf (now (b .entry)) start (base + d))) (belowSet 64) r ⌝ }
+    ensures { λ r. ⌜ KeptBy (λ d. within low width (numberInRow (now (b .entry)) start (base + d))) (belowSet 64) r ⌝ }
 {
     let at = start + Number::SIZE * base;
     half_within(b, at, low, width) as u64
-        + 0x1_0000_0000 * half_within(b, at + 128, low, width) as u64
+        + 0x1_0000_0000 * half_within(b, at + Number::SIZE * 32, low, width) as u64
 }
 
 fn all_blank(b: &[u8], start: usize, base: usize) -> u64
     requires { ⌜ HasDueRows (now b) numberTag start base (belowSet 64) ⌝ }
-    ensures { λ r. ⌜ KeptBy (λ d. numberBlank (numberOf (now (b .entry)) start (base + d))) (belowSet 64) r ⌝ }
+    ensures { λ r. ⌜ KeptBy (λ d. numberBlank (numberInRow (now (b .entry)) start (base + d))) (belowSet 64) r ⌝ }
 {
     let at = start + Number::SIZE * base;
-    half_blank(b, at) as u64 + 0x1_0000_0000 * half_blank(b, at + 128) as u64
+    half_blank(b, at) as u64 + 0x1_0000_0000 * half_blank(b, at + Number::SIZE * 32) as u64
 }
 
 // The due rows whose numbers are among those.
 fn due_within(b: &[u8], start: usize, base: usize, low: u32, width: u32, due: u64) -> u64
     requires { ⌜ HasDueRows (now b) numberTag start base due × (low + width < 2 ^ 32) ⌝ }
-    ensures { λ r. ⌜ KeptBy (λ d. within low width (numberOf (now (b .entry)) start (base + d))) due r ⌝ }
+    ensures { λ r. ⌜ KeptBy (λ d. within low width (numberInRow (now (b .entry)) start (base + d))) due r ⌝ }
 {
     let mut left = due;
     let mut met: u64 = 0;
@@ -119,7 +119,7 @@ fn due_within(b: &[u8], start: usize, base: usize, low: u32, width: u32, due: u6
 // The same, by the shorter way.
 pub fn numbers_within(b: &[u8], start: usize, base: usize, low: u32, width: u32, due: u64) -> u64
     requires { ⌜ HasDueRows (now b) numberTag start base due × (low + width < 2 ^ 32) ⌝ }
-    ensures { λ r. ⌜ KeptBy (λ d. within low width (numberOf (now (b .entry)) start (base + d))) due r ⌝ }
+    ensures { λ r. ⌜ KeptBy (λ d. within low width (numberInRow (now (b .entry)) start (base + d))) due r ⌝ }
 {
     if due == sets::below(64) {
         return all_within(b, start, base, low, width);
@@ -130,7 +130,7 @@ pub fn numbers_within(b: &[u8], start: usize, base: usize, low: u32, width: u32,
 // The due rows whose numbers are blank. Only a whole block by an equality: in the loop over due rows it would become a branch.
 pub fn numbers_blank(b: &[u8], start: usize, base: usize, due: u64) -> u64
     requires { ⌜ HasDueRows (now b) numberTag start base due ⌝ }
-    ensures { λ r. ⌜ KeptBy (λ d. numberBlank (numberOf (now (b .entry)) start (base + d))) due r ⌝ }
+    ensures { λ r. ⌜ KeptBy (λ d. numberBlank (numberInRow (now (b .entry)) start (base + d))) due r ⌝ }
 {
     let full = sets::below(64);
     if due == full {

@@ -27,7 +27,7 @@ use Rattle.sets.specs.Kept.{KeptBy, Sifted}
 use Rattle.sets.specs.KeptLaws.{sift-kept, kept-same, kept-others, kept-either}
 use Rattle.heads.specs.Block.{HasDueRows, slotOf, textOf}
 use Rattle.scan.specs.declared.range.Range.{Range}
-use Rattle.numbers.specs.Within.{numberOf, within}
+use Rattle.numbers.specs.Within.{numberInRow, within}
 use Rattle.scan.specs.Met.{RangeFor, ShownRows, HasRows, MetFor, PlainMetFor, BlankFor}
 use Rattle.scan.proofs.Ranges.{text-fits, range-means}
 use Rattle.scan.proofs.Blanks.{number-truth, text-truth}
@@ -89,24 +89,24 @@ module _ {b : List ℕ} {start base kind : ℕ} {o : List ℕ} {due plain : ℕ}
 
   -- and what they answer, as the column has it
   module _ (r : ℕ) where
-    numbers-met : plain ≤ numberBlankKind → KeptBy (λ d. numberTest plain o (numberOf b start (base + d))) due r → PlainMetFor b start base kind o due r
+    numbers-met : plain ≤ numberBlankKind → KeptBy (λ d. numberTest plain o (numberInRow b start (base + d))) due r → PlainMetFor b start base kind o due r
     numbers-met l K rows tag (numbers ns) R =
         kept-same _ _ due r
-        (λ d m. ap (λ (j : ℕ). numberTest j o (numberOf b start (base + d))) k
-        ∙ ap (numberTest (plainKind kind) o) (number-is b start (base + d) (numberOf b start (base + d)) refl rows ns (refl, R .shown .1, R .shown .2) (R .inside d m))
+        (λ d m. ap (λ (j : ℕ). numberTest j o (numberInRow b start (base + d))) k
+        ∙ ap (numberTest (plainKind kind) o) (number-is b start (base + d) (numberInRow b start (base + d)) refl rows ns (refl, R .shown .1, R .shown .2) (R .inside d m))
         ∙ sym (number-truth (plainKind kind) o (R .operand-fits) (omega arith) (getD ns (base + d) 0))) K
     numbers-met l K rows tag (texts ts) R =
         let e = number-kind tag (plainKind kind) (R .kind-fits) (omega arith) in let f : tag ≡ textTag = R .shown .0 in absurd (omega arith)
 
-    pub range-met : {g : Range} → RangeFor o g → HasRows b start base kind o due → plain ≡ rangeKind → KeptBy (λ d. within (g .low) (g .width) (numberOf b start (base + d))) due r → PlainMetFor b start base kind o due r
+    pub range-met : {g : Range} → RangeFor o g → HasRows b start base kind o due → plain ≡ rangeKind → KeptBy (λ d. within (g .low) (g .width) (numberInRow b start (base + d))) due r → PlainMetFor b start base kind o due r
     unfolding numberTest
     range-met P h e K =
         numbers-met (omega arith)
-        (kept-same _ (λ d. numberTest plain o (numberOf b start (base + d))) due r (λ d m. rw e (range-means P (due-fits h e) (numberOf b start (base + d)))) K)
+        (kept-same _ (λ d. numberTest plain o (numberInRow b start (base + d))) due r (λ d m. rw e (range-means P (due-fits h e) (numberInRow b start (base + d)))) K)
 
-    pub number-blanks-met : plain ≡ numberBlankKind → KeptBy (λ d. numberBlank (numberOf b start (base + d))) due r → PlainMetFor b start base kind o due r
+    pub number-blanks-met : plain ≡ numberBlankKind → KeptBy (λ d. numberBlank (numberInRow b start (base + d))) due r → PlainMetFor b start base kind o due r
     unfolding numberTest
-    number-blanks-met e K = numbers-met (omega arith) (kept-same _ (λ d. numberTest plain o (numberOf b start (base + d))) due r (λ d m. rw e) K)
+    number-blanks-met e K = numbers-met (omega arith) (kept-same _ (λ d. numberTest plain o (numberInRow b start (base + d))) due r (λ d m. rw e) K)
 
     pub texts-met : numberBlankKind < plain → KeptBy (λ d. textTest plain o (textOf b start (base + d))) due r → PlainMetFor b start base kind o due r
     texts-met l K rows tag (numbers ns) R =
@@ -137,10 +137,10 @@ module _ {b : List ℕ} {start base : ℕ} (kind : ℕ) {due plain : ℕ} (k : p
       ∙ sym (ap (λ (x : Bool). has due d && x) (blank-is c kind o (base + d) ∙ rw (sym k, e, and-false (valueBlank c (base + d)))))
 
   module _ (asks : asksContent plain ≡ true) (r : ℕ) where
-    pub numbers-blank : plain ≤ numberBlankKind → KeptBy (λ d. numberBlank (numberOf b start (base + d))) due r → BlankFor b start base kind due r
+    pub numbers-blank : plain ≤ numberBlankKind → KeptBy (λ d. numberBlank (numberInRow b start (base + d))) due r → BlankFor b start base kind due r
     numbers-blank l K o rows tag (numbers ns) R =
         kept-same _ _ due r
-        (λ d m. ap numberBlank (number-is b start (base + d) (numberOf b start (base + d)) refl rows ns (refl, R .shown .1, R .shown .2) (R .inside d m))
+        (λ d m. ap numberBlank (number-is b start (base + d) (numberInRow b start (base + d)) refl rows ns (refl, R .shown .1, R .shown .2) (R .inside d m))
         ∙ is-value kind k asks (numbers ns) o (base + d)) K
     numbers-blank l K o rows tag (texts ts) R =
         let e = number-kind tag (plainKind kind) (R .kind-fits) (omega arith) in let f : tag ≡ textTag = R .shown .0 in absurd (omega arith)

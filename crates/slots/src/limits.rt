@@ -5,12 +5,15 @@ ghost use Rattle.slots.specs.Limits.{Limits};
 pub struct Limit;
 
 impl Limit {
-    pub const ENTRIES: usize = 255 + Text::SLOT_SIZE;
+    // The greatest number that a length byte can have.
+    pub const GREATEST_LENGTH: usize = 255;
+
+    pub const ENTRIES: usize = Limit::GREATEST_LENGTH + Text::SLOT_SIZE;
 
     // The entries that forbid nothing: as many as a length byte and the longest text have bytes.
-    pub const FREE_FROM: usize = 255 - Text::LIMIT;
+    pub const FREE_FROM: usize = Limit::GREATEST_LENGTH - Text::LIMIT;
 
-    pub const FREE_TO: usize = 256;
+    pub const FREE_TO: usize = Limit::GREATEST_LENGTH + 1;
 }
 
 // A table of its own, for the caller to lend.

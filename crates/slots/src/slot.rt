@@ -1,5 +1,6 @@
 // The slots of a text column: each length within its limit, and zeros after the text. A slot is three words of eight bytes; none has a bit
 // that the text's length forbids it.
+use crate::limits::Limit;
 ghost use mathlib.Core.Path.{_≡_};
 ghost use Prim.Native.Nat.{_+_, _*_, _≤_};
 ghost use lib.ListN.{length};
@@ -26,7 +27,7 @@ pub fn slots_are_valid(limits: &[u8], b: &[u8], at: usize, n: usize) -> bool
     let mut p = at;
     let mut left = n;
     while 0 < left {
-        let k = 255 - fields::number::widen(b[p]);
+        let k = Limit::GREATEST_LENGTH - fields::number::widen(b[p]);
         x = x | words::word_at(b, p) & words::word_at(limits, k);
         y = y | words::word_at(b, p + 8) & words::word_at(limits, k + 8);
         z = z | words::word_at(b, p + 16) & words::word_at(limits, k + 16);

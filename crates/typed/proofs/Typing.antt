@@ -1,7 +1,7 @@
 -- Typing a question, path by path: the first check that fails, or the bytes of the question at the output's front.
 use Prim.Native.Nat.{ℕ, _^_, _≤_, _<_}
 use native.Mathlib.Omega.{arith}
-use mathlib.Core.Path.{_≡_, refl, sym, _∙_}
+use mathlib.Core.Path.{_≡_, sym, _∙_}
 use mathlib.Core.List.{List}
 use lib.ListN.{length, take}
 use lib.Seq.{length-take-le}
@@ -30,11 +30,15 @@ use Rattle.answers.specs.Written.{Written, written}
 use Rattle.answers.specs.Refusals.{textMisspelled, typedOutputTooShort}
 use Rattle.answers.specs.Checks.{checked}
 use Rattle.demands.specs.Typed.{questionTyped, textTyped, takenText, catalogueTyped, typedOf}
-use Rattle.typed.specs.Typing.{tagsTyped}
+use Rattle.typed.specs.Typing.{TypedFor}
 
 -- what a call leaves is what the definition says, and its results have room in the word
 abbrev Leaves : Answer → (new : List ℕ) → Written → Type 0
 Leaves a new w = (written (packed a) new ≡ w) × FitsWord a
+
+-- the same by the tags of the columns
+abbrev LeavesFor : (tags : List ℕ) → Answer → (new text old : List ℕ) → Type 0
+LeavesFor tags a new text old = TypedFor tags (questionOf tags text) old (written (packed a) new) × FitsWord a
 
 -- THE QUESTION'S BYTES
 module _ (tags q : List ℕ) (R : Reading) (T : Tables) where
@@ -81,26 +85,23 @@ module _ (b : List ℕ) (l : Layout) (text old : List ℕ) where
     text-long h m = of-catalogue (Refused textMisspelled) old h (λ C w. (rw (lt-leb (length text) typedLimit m), omega arith))
 
     pub text-typed : length text ≤ typedLimit → (a : Answer) (new : List ℕ) → LaidOut b l (decodeCatalogue b)
-        → Leaves a new (tagsTyped (take (l .columns) (l .tags)) (questionOf (take (l .columns) (l .tags)) text) old) → Leaves a new (typedOf b text old)
-    unfolding decodeQuery
+        → LeavesFor (take (l .columns) (l .tags)) a new text old → Leaves a new (typedOf b text old)
     text-typed short a new h v = of-catalogue a new h (λ C w.
-        let e : written (packed a) new ≡ tagsTyped (tagsOf C) (questionOf (tagsOf C) text) old = rw (laid-tags w) at (v .0) in
-        (rw (le-leb (length text) typedLimit short) (e ∙ of-tags C (questionOf (tagsOf C) text)), v .1))
-      where
-        of-tags : (C : Catalogue) (whole : Typed) → tagsTyped (tagsOf C) whole old ≡ textTyped C whole old
-        of-tags C misspelled = refl
-        of-tags C (typed q) = refl
+        let t : take (l .columns) (l .tags) ≡ tagsOf C = laid-tags w in
+        let e : written (packed a) new ≡ textTyped C (questionOf (tagsOf C) text) old = rw t at (v .0 C (sym t)) in
+        (rw (le-leb (length text) typedLimit short) e, v .1))
 
 -- THE TEXT
 module _ (tags text old : List ℕ) where
-  pub text-misspelled : questionOf tags text ≡ misspelled → Leaves (Refused textMisspelled) old (tagsTyped tags (questionOf tags text) old)
-  text-misspelled e = (rw e, omega arith)
+  pub text-misspelled : questionOf tags text ≡ misspelled → LeavesFor tags (Refused textMisspelled) old text old
+  text-misspelled e = (λ C t. rw e, omega arith)
 
   pub text-read : {size : ℕ} {own : List ℕ} (a : Answer) (new : List ℕ) → QuestionTo (questionOf tags text) size own
-      → Leaves a new (questionTyped (decodeTagged tags (take size own)) (take size own) old) → Leaves a new (tagsTyped tags (questionOf tags text) old)
+      → Leaves a new (questionTyped (decodeTagged tags (take size own)) (take size own) old) → LeavesFor tags a new text old
+  unfolding decodeQuery
   text-read {size} {own} a new Q v =
       let e : questionOf tags text ≡ typed (take size own) = rw (sym (Q .front .begins)) at (Q .gives) in
-      (rw e (v .0), v .1)
+      (λ C t. rw (e, t) (v .0), v .1)
 
 -- a question in a table of its own is short enough for the word
 pub question-few : {size : ℕ} {own : List ℕ} {whole : Typed} → QuestionTo whole size own → length own < 2 ^ 24 → length (take size own) < 2 ^ 24

@@ -16,7 +16,7 @@ ghost use Rattle.syntax.specs.Machine.{questionOf};
 ghost use Rattle.parser.specs.Reading.{Fits};
 ghost use Rattle.demands.specs.Typed.{questionTyped};
 ghost use Rattle.demands.specs.Calls.{TypedGives};
-ghost use Rattle.typed.specs.Typing.{tagsTyped};
+ghost use Rattle.typed.specs.Typing.{TypedFor};
 
 // A text that is short, as most are: clearing a table for the longest would take longer than reading it.
 pub struct ShortText;
@@ -53,11 +53,11 @@ fn give_question(tags: &[u8], question: &[u8], output: &mut [u8]) -> Answer
     }
 }
 
-// The text read into a lent table, and what its question gives.
+// The text read into a table that is lent, and what its question gives.
 fn type_text(tags: &[u8], text: &[u8], own: &mut [u8], output: &mut [u8]) -> Answer
     requires { ⌜ Fits (now text) (now own) × (length (now own) < 2 ^ 24) ⌝ }
-    ensures { λ r. ⌜ (written (packed r) (now (output .exit))
-        ≡ tagsTyped (now (tags .entry)) (questionOf (now (tags .entry)) (now (text .entry))) (now (output .entry)))
+    ensures { λ r. ⌜ TypedFor (now (tags .entry)) (questionOf (now (tags .entry)) (now (text .entry))) (now (output .entry))
+        (written (packed r) (now (output .exit)))
         × FitsWord r ⌝ }
 {
     match parser::whole::read_text(tags, text, own) {

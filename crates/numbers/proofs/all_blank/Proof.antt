@@ -21,6 +21,9 @@ half-blank-requires c κs = let h = block-numbers _ _ _ (c .before .pre) in omeg
 cast-result : tie.Need-cast-result
 cast-result c = search needs
 
+mul-half-blank : tie.Need-mul-half-blank
+mul-half-blank c = let h = block-numbers _ _ _ (c .before .before .pre) in omega arith
+
 add-half-blank : tie.Need-add-half-blank
 add-half-blank c = let h = block-numbers _ _ _ (c .before .before .pre) in omega arith
 
@@ -47,6 +50,7 @@ all-blank-spec =
     add-at
     half-blank-requires
     cast-result
+    mul-half-blank
     add-half-blank
     half-blank-requires-2
     cast-result-2

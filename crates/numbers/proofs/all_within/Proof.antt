@@ -21,6 +21,9 @@ half-within-requires c κs = let h = block-numbers _ _ _ (c .before .pre .0) in 
 cast-result : tie.Need-cast-result
 cast-result c = search needs
 
+mul-half-within : tie.Need-mul-half-within
+mul-half-within c = let h = block-numbers _ _ _ (c .before .before .pre .0) in omega arith
+
 add-half-within : tie.Need-add-half-within
 add-half-within c = let h = block-numbers _ _ _ (c .before .before .pre .0) in omega arith
 
@@ -47,6 +50,7 @@ all-within-spec =
     add-at
     half-within-requires
     cast-result
+    mul-half-within
     add-half-within
     half-within-requires-2
     cast-result-2

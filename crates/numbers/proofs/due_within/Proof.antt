@@ -5,14 +5,14 @@ use mathlib.Core.Path.{ap, _∙_}
 use Rattle.catalogue.proofs.Rows.{has-number}
 use Rattle.sets.specs.Kept.{Sorting}
 use Rattle.sets.specs.KeptLaws.{sort-none, sort-among, sort-next, sort-end}
-use Rattle.numbers.specs.Within.{numberOf, within}
+use Rattle.numbers.specs.Within.{numberInRow, within}
 use Rattle.numbers.proofs.Rows.{number-value}
 use borrow.Author.Needs.{needs}
 use Rattle.numbers.proofs.due_within.Statement.{statement}
 use Rattle.numbers.proofs.due_within.Tie as tie
 
 abbrev Inv-loop : tie.InvT-loop
-Inv-loop b start base low width due left₀ met₀ left met = Sorting (λ d. within low width (numberOf b start (base + d))) due left met
+Inv-loop b start base low width due left₀ met₀ left met = Sorting (λ d. within low width (numberInRow b start (base + d))) due left met
 
 abbrev μ-loop : tie.MeasureT-loop
 μ-loop b start base low width due left₀ met₀ left met = left

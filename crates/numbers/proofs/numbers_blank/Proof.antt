@@ -6,7 +6,7 @@ use Rattle.sets.specs.Set.{belowSet}
 use Rattle.sets.specs.KeptLaws.{kept-same}
 use Rattle.predicate.specs.Meaning.{numberBlank}
 use Rattle.numbers.proofs.Within.{is-blank}
-use Rattle.numbers.specs.Within.{numberOf}
+use Rattle.numbers.specs.Within.{numberInRow}
 use Rattle.numbers.proofs.numbers_blank.Statement.{statement}
 use Rattle.numbers.proofs.numbers_blank.Tie as tie
 
@@ -25,7 +25,7 @@ due-within-requires c κs = (c .before .before .before .pre, omega arith)
 returns-2 : tie.Need-returns-2
 returns-2 c =
     let a = c .before .before .before .before .args in
-    kept-same _ (λ d. numberBlank (numberOf (a .b .now) (a .start) (a .base + d))) (a .due) (c .due-within .result) (λ d m. is-blank (numberOf (a .b .now) (a .start) (a .base + d))) (c .due-within .ensures)
+    kept-same _ (λ d. numberBlank (numberInRow (a .b .now) (a .start) (a .base + d))) (a .due) (c .due-within .result) (λ d m. is-blank (numberInRow (a .b .now) (a .start) (a .base + d))) (c .due-within .ensures)
 
 pub numbers-blank-spec : {M : Type 1} → statement M
 numbers-blank-spec = tie.close (tie.spec below-requires all-blank-requires returns due-within-requires returns-2)

@@ -3,13 +3,13 @@ use Prim.Native.Nat.{_+_, _-_, _≤_}
 use native.Mathlib.Omega.{arith}
 use mathlib.Core.Path.{refl}
 use borrow.Author.Needs.{needs}
-use Rattle.blocks.specs.Block.{NoneLive}
+use Rattle.blocks.specs.Block.{StillActiveIs}
 use Rattle.blocks.proofs.Groups.{none-yet, none-next, none-early, none-end}
 use Rattle.blocks.proofs.group.still_active.Statement.{statement}
 use Rattle.blocks.proofs.group.still_active.Tie as tie
 
 abbrev Inv-loop : tie.InvT-loop
-Inv-loop live a e active left₀ c₀ left c = (a ≤ c) × (c ≤ e) × NoneLive a (c - a) active left live
+Inv-loop live a e active left₀ c₀ left c = (a ≤ c) × (c ≤ e) × StillActiveIs a (c - a) active left live
 
 abbrev μ-loop : tie.MeasureT-loop
 μ-loop live a e active left₀ c₀ left c = e - c

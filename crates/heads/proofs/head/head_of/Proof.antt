@@ -6,10 +6,10 @@ use Rattle.heads.proofs.head.head_of.Statement.{statement}
 use Rattle.heads.proofs.head.head_of.Tie as tie
 
 abbrev Inv-loop : tie.InvT-loop
-Inv-loop table kind operand free₀ value₀ j₀ free value j = Heading kind operand j free value
+Inv-loop table kind operand leftOpen₀ value₀ j₀ leftOpen value j = Heading kind operand j leftOpen value
 
 abbrev μ-loop : tie.MeasureT-loop
-μ-loop table kind operand free₀ value₀ j₀ free value j = j
+μ-loop table kind operand leftOpen₀ value₀ j₀ leftOpen value j = j
 
 loop-holds : tie.Need-loop-holds Inv-loop μ-loop
 loop-holds c = heading-none _ _

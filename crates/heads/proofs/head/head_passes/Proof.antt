@@ -14,7 +14,7 @@ cast-result : tie.Need-cast-result
 cast-result c = search needs
 
 returns : tie.Need-returns
-returns c = let k = c .before .before .before .before .args .k in ap (λ (n : ℕ). eqb (bitAnd (bitXor n (k .value)) (k .mask)) 0) (c .before .before .half-at .ensures .0)
+returns c = let k = c .before .before .before .before .args .k in ap (λ (n : ℕ). eqb (bitAnd (bitXor n (k .value)) (k .asked)) 0) (c .before .before .half-at .ensures .0)
 
 pub head-passes-spec : {M : Type 1} → statement M
 head-passes-spec = tie.close (tie.spec half-at-requires cast-result returns)

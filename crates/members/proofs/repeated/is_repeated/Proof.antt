@@ -24,7 +24,7 @@ loop-holds c =
     let s = c .before .before .before .before .before in
     let a = s .args in
     let u = c .up-to-head .ensures in
-    (u .0, unlike-passed (a .payload .now) (a .q .now) (a .offsets .now) _ (a .n) (a .n) _ (s .pre .0) (c .before .head .ensures) (s .pre .1 .each) (omega arith) (u .1) (λ d i j. absurd (omega arith)))
+    (u .inside, unlike-passed (a .payload .now) (a .q .now) (a .offsets .now) _ (a .n) (a .n) _ (s .pre .0) (c .before .head .ensures) (s .pre .1 .each) (omega arith) (u .others) (λ d i j. absurd (omega arith)))
 
 sub-is-payload-at : tie.Need-sub-is-payload-at Inv-loop μ-loop
 sub-is-payload-at c = search needs
@@ -56,7 +56,7 @@ up-to-head-requires-2 c κs =
     record { sized = s .sized; few = omega (arith, s .few, l .inv .0); each = λ d i. s .each d (omega (arith, l .inv .0)) }
 
 loop-less : tie.Need-loop-less Inv-loop μ-loop
-loop-less c = let u = c .up-to-head2 .ensures .0 in omega arith
+loop-less c = let u = c .up-to-head2 .ensures .inside in omega arith
 
 loop-again : tie.Need-loop-again Inv-loop μ-loop
 loop-again c =
@@ -67,7 +67,7 @@ loop-again c =
     let u = c .up-to-head2 .ensures in
     let shown = same-shown (a .q .now) (a .offsets .now) k (s .pre .1 .each k (omega arith)) (a .payload .now) _ (c .before .before .is-payload-at .ensures) in
     let fewer = unlike-more (a .payload .now) (a .q .now) (a .offsets .now) _ k shown (a .n) (l .loop .left) k (omega arith) (omega arith) (l .loop .inv .1) (c .before .if1 .left) in
-    (omega arith, unlike-passed (a .payload .now) (a .q .now) (a .offsets .now) _ (a .n) k _ (s .pre .0) (l .before .before .head .ensures) (s .pre .1 .each) (omega arith) (u .1) fewer)
+    (omega (arith, u .inside), unlike-passed (a .payload .now) (a .q .now) (a .offsets .now) _ (a .n) k _ (s .pre .0) (l .before .before .head .ensures) (s .pre .1 .each) (omega arith) (u .others) fewer)
 
 returns-2 : tie.Need-returns-2 Inv-loop μ-loop
 returns-2 c = let e : c .before .loop .left ≡ 0 = omega arith in sym (repeated-none _ _ _ _ (rw e at (c .before .loop .inv .1)))

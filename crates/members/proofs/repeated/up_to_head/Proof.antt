@@ -1,7 +1,7 @@
 -- `up_to_head` meets its contract: none of the predicates from the number left on has the head.
 use native.Mathlib.Omega.{arith}
 use Prim.Native.Nat.{_-_, _≤_}
-use mathlib.Core.Path.{_∙_}
+use mathlib.Core.Path.{sym, _∙_}
 use Rattle.members.specs.Heads.{OtherHeads}
 use Rattle.members.proofs.Repeats.{other-more, other-none}
 use borrow.Author.Needs.{needs}
@@ -33,7 +33,7 @@ head-requires : tie.Need-head-requires Inv-loop μ-loop
 head-requires c κs = let p = c .before .before .before .before .before .pre .each (c .before .before .loop .left - 1) (omega arith) in omega (arith, p .0, p .1)
 
 returns : tie.Need-returns Inv-loop μ-loop
-returns c = (omega arith, c .before .before .before .before .loop .inv .1)
+returns c = record { inside = omega arith; others = c .before .before .before .before .loop .inv .1; last = λ l. sym (c .before .head .ensures) ∙ c .if1 .taken }
 
 sub-left : tie.Need-sub-left Inv-loop μ-loop
 sub-left c = search needs
@@ -51,7 +51,7 @@ returns-2 : tie.Need-returns-2 Inv-loop μ-loop
 returns-2 c =
     let l = c .before .loop in
     let a = c .before .before .before .before .args in
-    (omega arith, other-none (a .h) (a .q .now) (a .offsets .now) (a .n) (l .left) (omega arith) (l .inv .1))
+    record { inside = omega arith; others = other-none (a .h) (a .q .now) (a .offsets .now) (a .n) (l .left) (omega arith) (l .inv .1); last = λ m. absurd (omega arith) }
 
 pub up-to-head-spec : {M : Type 1} → statement M
 up-to-head-spec =
