@@ -23,7 +23,7 @@ pub struct Plan<'p, 'a> {
 type Row = [MaybeUninit<u64>; MAX_BLOCKS];
 
 /// Room for what is found out, none of it cleared.
-pub struct Tables {
+pub struct Rows {
     listed: Row,
     looks: [Row; MAX_CONDITIONS],
     met: [Row; MAX_CONDITIONS],
@@ -31,7 +31,7 @@ pub struct Tables {
 
 /// What was found out: the words of these blocks and conditions are written, those of `met` only with `MET`.
 pub struct Worked<'t, const MET: bool> {
-    tables: &'t Tables,
+    rows: &'t Rows,
     blocks: usize,
     conditions: usize,
 }
@@ -67,7 +67,7 @@ impl<'p, 'a> Plan<'p, 'a> {
 
     /// Works every condition out where its look is due.
     #[inline(always)]
-    pub fn work<'t, const MET: bool>(&self, tables: &'t mut Tables) -> Worked<'t, MET> {
+    pub fn work<'t, const MET: bool>(&self, rows: &'t mut Rows) -> Worked<'t, MET> {
         let (blocks, conditions) = (self.catalogue.entries.div_ceil(BLOCK), self.conditions.len());
         let mut live = [0; MAX_CONDITIONS];
         for block in 0..blocks {
@@ -76,11 +76,11 @@ impl<'p, 'a> Plan<'p, 'a> {
             for &number in self.order {
                 // SAFETY: the block is one of the catalogue's and the number a condition's; live are entries of it
                 // alone.
-                listed |= unsafe { self.take_turn::<MET>(block, number.into(), &mut live, tables) };
+                listed |= unsafe { self.take_turn::<MET>(block, number.into(), &mut live, rows) };
             }
-            tables.listed[block].write(listed);
+            rows.listed[block].write(listed);
         }
-        Worked { tables, blocks, conditions }
+        Worked { rows, blocks, conditions }
     }
 
     /// Looks at a condition at the entries where it is due, which are those where it is live at its turn. Gives the
@@ -94,14 +94,17 @@ impl<'p, 'a> Plan<'p, 'a> {
         block: usize,
         number: usize,
         live: &mut [u64; MAX_CONDITIONS],
-        tables: &mut Tables,
+        rows: &mut Rows,
     ) -> u64 {
-        // SAFETY: there are at most 64 conditions and 32 blocks, and this condition and this block are among them.
+        // SAFETY: there are at most 64 conditions and 32 blocks, and this condition and this block are among them. Due
+        // are live entries, which the block has, and the groups are the question's.
         unsafe {
             let due = *live.get_unchecked(number);
-            tables.looks.get_unchecked_mut(number).get_unchecked_mut(block).write(due);
+            rows.looks.get_unchecked_mut(number).get_unchecked_mut(block).write(due);
             if MET {
-                tables.met.get_unchecked_mut(number).get_unchecked_mut(block).write(0);
+                // Where nothing is due a copy loads the word, though it never uses it: it has to be written, and no
+                // test would tell.
+                rows.met.get_unchecked_mut(number).get_unchecked_mut(block).write(0);
             }
             if due == 0 {
                 return 0;
@@ -109,7 +112,7 @@ impl<'p, 'a> Plan<'p, 'a> {
             let condition = self.conditions.get_unchecked(number);
             let met = condition.met(block, due);
             if MET {
-                tables.met.get_unchecked_mut(number).get_unchecked_mut(block).write(met);
+                rows.met.get_unchecked_mut(number).get_unchecked_mut(block).write(met);
             }
             *live.get_unchecked_mut(number) = 0;
             settle(&condition.groups, live, due, met) & met
@@ -121,13 +124,13 @@ impl<'p, 'a> Plan<'p, 'a> {
 /// any more. Gives the entries at which the whole question is settled; its value is there the condition's outcome.
 ///
 /// # Safety
-/// The groups are those of a question: their conditions are below 64.
+/// The groups are those of a question: their conditions are below 64, the first at most the end.
 #[inline(always)]
 unsafe fn settle(groups: &[Group], live: &mut [u64; MAX_CONDITIONS], due: u64, met: u64) -> u64 {
     let mut active = due;
     for group in groups {
         let settled = active & if group.is_any { met } else { !met };
-        // SAFETY: the numbers of conditions, the first at most the end.
+        // SAFETY: as asked for.
         let members = unsafe { live.get_unchecked_mut(group.first.into()..group.end.into()) };
         let mut open = 0;
         if settled == 0 {
@@ -152,11 +155,11 @@ unsafe fn settle(groups: &[Group], live: &mut [u64; MAX_CONDITIONS], due: u64, m
     active
 }
 
-impl Tables {
+impl Rows {
     #[inline(always)]
-    pub fn new() -> Tables {
+    pub fn new() -> Rows {
         const ROW: Row = [MaybeUninit::uninit(); MAX_BLOCKS];
-        Tables { listed: ROW, looks: [ROW; MAX_CONDITIONS], met: [ROW; MAX_CONDITIONS] }
+        Rows { listed: ROW, looks: [ROW; MAX_CONDITIONS], met: [ROW; MAX_CONDITIONS] }
     }
 }
 
@@ -165,7 +168,7 @@ impl<'t, const MET: bool> Worked<'t, MET> {
     #[inline(always)]
     pub fn listed(&self) -> &'t [u64] {
         // SAFETY: the words of these blocks are written.
-        unsafe { words(&self.tables.listed, self.blocks) }
+        unsafe { words(&self.rows.listed, self.blocks) }
     }
 
     /// The entries at which a condition was looked at.
@@ -173,7 +176,7 @@ impl<'t, const MET: bool> Worked<'t, MET> {
     pub fn looks(&self, condition: usize) -> &'t [u64] {
         assert!(condition < self.conditions);
         // SAFETY: the words of these blocks are written for each condition, since each has its turn.
-        unsafe { words(&self.tables.looks[condition], self.blocks) }
+        unsafe { words(&self.rows.looks[condition], self.blocks) }
     }
 
     #[inline(always)]
@@ -188,7 +191,7 @@ impl<'t> Worked<'t, true> {
     pub fn met(&self, condition: usize) -> &'t [u64] {
         assert!(condition < self.conditions);
         // SAFETY: as for the looks; with `MET` each turn writes these too.
-        unsafe { words(&self.tables.met[condition], self.blocks) }
+        unsafe { words(&self.rows.met[condition], self.blocks) }
     }
 }
 

@@ -1,6 +1,6 @@
 use searchroom::{Answer, MAX_CONDITIONS, Refusal};
 
-use super::blocks::{Plan, PreparedConditions, Tables};
+use super::blocks::{Plan, PreparedConditions, Rows};
 use super::catalogue::Catalogue;
 use super::operands::Prepared;
 use super::question::{Conditions, read_question};
@@ -9,7 +9,7 @@ use super::{BLOCK, List};
 /// The bytes of a look's field.
 const FIELD: usize = 7;
 /// Its tag and its length, 4, the first byte lowest.
-const HEAD: u64 = 0x04_00_4C;
+const TAG_AND_LENGTH: u64 = 0x04_00_4C;
 
 /// A condition's turn in the running order, with what was found out about it, a word for each block.
 #[derive(Clone, Copy)]
@@ -33,8 +33,8 @@ pub fn copy(catalogue: &[u8], question: &[u8], order: &[u8], output: &mut [u8]) 
     let (mut conditions, mut prepared) = (Conditions::new(), PreparedConditions::new());
     read_question(&catalogue, question, &mut conditions)?;
     let plan = Plan::new(&catalogue, &conditions, order, &mut prepared)?;
-    let mut tables = Tables::new();
-    let worked = plan.work::<true>(&mut tables);
+    let mut rows = Rows::new();
+    let worked = plan.work::<true>(&mut rows);
     let written = FIELD * worked.look_count() as usize;
     let mut output = output.get_mut(..written).ok_or(Refusal::ShortOutput)?;
     let mut turns = List::<Turn, MAX_CONDITIONS>::new();
@@ -82,7 +82,7 @@ impl Told {
         const YES: u64 = Answer::Yes as u64;
         const BLANK: u64 = Answer::Blank as u64;
         let place = entry % BLOCK;
-        let head = HEAD | u64::from((entry as u16).swap_bytes()) << 24;
+        let head = TAG_AND_LENGTH | u64::from((entry as u16).swap_bytes()) << 24;
         let mut left = self.looks[place];
         while left != 0 {
             let turn = left.trailing_zeros() as usize;

@@ -1,5 +1,5 @@
-//! The engine as an engineer would write it for speed alone, without a proof: the same calls, results and looks, for
-//! the same baseline (x86-64 with SSE2).
+//! The engine as an engineer would write it for speed alone, without a proof: the same calls but `typed`, with the
+//! same results and looks, for the same baseline (x86-64 with SSE2).
 //!
 //! A condition is worked out only where its look is due, as in the engine. What the speed comes from: blocks of 64
 //! entries, vector instructions, loads without a test of bounds that the checks before have made sure of, operands

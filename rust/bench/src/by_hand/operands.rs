@@ -11,7 +11,8 @@ pub const HEAD: usize = 7;
 /// The bit in which a capital letter differs from a small one.
 const CASE: u8 = 32;
 
-/// A condition with all that its operand gives worked out, once for all blocks.
+/// A condition with all that its operand gives worked out, once for all blocks. It is of a question that was read
+/// against a checked catalogue, which is the one meant in the contracts of `met` and `blank`.
 #[derive(Clone, Copy)]
 pub struct Prepared<'a> {
     test: PreparedTest<'a>,

@@ -2,7 +2,7 @@ use std::slice;
 
 use searchroom::{Counts, Refusal, Tally};
 
-use super::blocks::{Plan, PreparedConditions, Tables, ones};
+use super::blocks::{Plan, PreparedConditions, Rows, ones};
 use super::catalogue::Catalogue;
 use super::question::{Conditions, read_question};
 
@@ -29,8 +29,8 @@ pub fn run(
         return Err(Refusal::NoSuchReader);
     }
     let tally: &mut [u8; Tally::BYTES] = tally.try_into().map_err(|_| Refusal::BadTally)?;
-    let mut tables = Tables::new();
-    let worked = plan.work::<false>(&mut tables);
+    let mut rows = Rows::new();
+    let worked = plan.work::<false>(&mut rows);
     let counts = Counts { found: ones(worked.listed()) as u16, looks: worked.look_count() };
     add(&mut tally.as_chunks_mut().0[reader as usize], counts.looks)?;
     listed[..row].copy_from_slice(&bytes(worked.listed())[..row]);

@@ -50,12 +50,16 @@ pub fn containing(due: Due<Slot>, part: &Part) -> u64 {
         possible |= due.except(possible).passing(is_beyond_ascii);
     }
     let initial = FOLD[usize::from(part.operand[0])];
-    due.among(possible).each_passing(|slot| contains(slot, part.operand, initial))
+    // SAFETY: due are slots of a checked catalogue.
+    due.among(possible).each_passing(|slot| unsafe { contains(slot, part.operand, initial) })
 }
 
 /// Does a slot's text contain the operand, whose first byte is folded to this one?
+///
+/// # Safety
+/// The slot is a checked catalogue's.
 #[inline(always)]
-fn contains(slot: &Slot, operand: &[u8], initial: u8) -> bool {
+unsafe fn contains(slot: &Slot, operand: &[u8], initial: u8) -> bool {
     let mut at = 1;
     while at + operand.len() <= 1 + usize::from(slot[0]) {
         // SAFETY: the text's length was checked, so that its bytes are among the slot's.
