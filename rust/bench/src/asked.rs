@@ -17,8 +17,7 @@ pub struct Asked {
     pub catalogue: Vec<u8>,
     pub question: Vec<u8>,
     pub order: Vec<u8>,
-    /// The ratio wanted of its run to that by hand, if one is.
-    to_by_hand: Option<f64>,
+    to_by_hand: f64,
 }
 
 /// The tables of a run.
@@ -30,22 +29,18 @@ pub struct Tables {
 }
 
 impl Asked {
-    /// In any running order.
+    /// In a random running order.
     pub fn new(rng: &mut Rng, catalogue: &Catalogue, question: &Question) -> Asked {
         let order = running_order(rng, question.conditions.len());
         Asked::in_order(catalogue, question, order)
     }
 
     pub fn in_order(catalogue: &Catalogue, question: &Question, order: Vec<u8>) -> Asked {
-        let is_range = |test: &Test| matches!(test, Test::NumberFrom { .. });
-        let ranges_alone = question.conditions.iter().all(|condition| is_range(&condition.test));
-        let aim = if ranges_alone { TO_BY_HAND_OF_RANGES } else { TO_BY_HAND };
         Asked {
             catalogue: encode_catalogue(catalogue),
             question: encode_question(question),
             order,
-            // Of a single entry a run has little but what it does once.
-            to_by_hand: (catalogue.entries > 1).then_some(aim),
+            to_by_hand: to_by_hand(question),
         }
     }
 
@@ -64,13 +59,20 @@ impl Asked {
     /// A row of the engine's run beside that by hand.
     pub fn against_by_hand(&self, table: &mut Table, what: &str) {
         assert_by_hand(what, &self.catalogue, &self.question, &self.order);
-        table.row(what, BY_HAND, self.to_by_hand, self.engine(), self.runs(by_hand::run));
+        table.row(what, BY_HAND, Some(self.to_by_hand), self.engine(), self.runs(by_hand::run));
     }
 
     fn runs(&self, run: Run) -> impl FnMut() -> Counts {
         let mut tables = Tables::new();
         move || tables.fill(run, &self.catalogue, &self.question, &self.order)
     }
+}
+
+/// The ratio wanted of a question's run to that by hand.
+pub fn to_by_hand(question: &Question) -> f64 {
+    let is_range = |test: &Test| matches!(test, Test::NumberFrom { .. });
+    let ranges_alone = question.conditions.iter().all(|condition| is_range(&condition.test));
+    if ranges_alone { TO_BY_HAND_OF_RANGES } else { TO_BY_HAND }
 }
 
 /// Sees that a run by hand gives the engine's counts, tables and tally.

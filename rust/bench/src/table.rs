@@ -16,7 +16,7 @@ pub struct Table {
 impl Table {
     pub fn with_head() -> Table {
         println!(
-            "| {:<50} | {:<27} | {:>9} | {:>9} | {:>5} | aim |",
+            "| {:<53} | {:<27} | {:>9} | {:>9} | {:>5} | aim |",
             "engine", "compared with", "engine us", "other us", "ratio"
         );
         println!("|---|---|---|---|---|---|");
@@ -35,7 +35,7 @@ impl Table {
         let [engine, with] = medians([&mut || drop(black_box(engine())), &mut || drop(black_box(with()))]);
         let (ratio, [engine, with]) = (engine / with, [engine, with].map(|seconds| seconds * 1e6));
         let told = aim.map_or(String::new(), |aim| self.tell(ratio, aim));
-        println!("| {what:<50} | {other:<27} | {engine:>9.2} | {with:>9.2} | {ratio:>5.3} | {told} |");
+        println!("| {what:<53} | {other:<27} | {engine:>9.2} | {with:>9.2} | {ratio:>5.3} | {told} |");
     }
 
     fn tell(&mut self, ratio: f64, aim: f64) -> String {

@@ -1,20 +1,20 @@
 use std::ffi::c_int;
 
-/// Each work is timed so many times.
-const REPETITIONS: usize = 101;
-/// The same where one of the works takes long: few times, so that the whole benchmark does not.
-const REPETITIONS_IF_LONG: usize = 7;
-/// A work of more seconds takes long.
-const LONG: f64 = 0.01;
+/// Each work is timed at least and at most so many times: odd numbers, which have a middle.
+const FEWEST: f64 = 7.0;
+const MOST: f64 = 101.0;
+/// Between these, so often that all works together take about so many seconds.
+const BUDGET: f64 = 1.0;
 /// A timed stretch repeats its work until it takes about so many seconds.
 const STRETCH: f64 = 0.000_5;
 
 /// The median seconds of each of these works, timed in turn.
 pub fn medians<const N: usize>(mut works: [&mut dyn FnMut(); N]) -> [f64; N] {
     let times = works.each_mut().map(|work| rounds(work));
-    let is_long = works.iter_mut().zip(&times).any(|(work, &times)| times == 1 && stretch(work, times) > LONG);
+    let once: f64 = works.iter_mut().zip(&times).map(|(work, &times)| stretch(work, times) * f64::from(times)).sum();
+    let repetitions = (BUDGET / once).clamp(FEWEST, MOST) as usize | 1;
     let mut taken = [const { Vec::new() }; N];
-    for _ in 0..if is_long { REPETITIONS_IF_LONG } else { REPETITIONS } {
+    for _ in 0..repetitions {
         for ((work, &times), taken) in works.iter_mut().zip(&times).zip(&mut taken) {
             taken.push(stretch(work, times));
         }
