@@ -51,7 +51,8 @@ pub fn compare_copy(label: &str, given: &Copying) -> Copied {
 }
 
 fn compare_outputs(label: &str, given: &Copying, copied: &Copied, expected: &Copied) {
-    let [engine, evaluator] = [copied, expected].map(by_condition);
+    let [engine, evaluator] =
+        [copied, expected].map(|copied| by_condition(&copied.output, (copied.word >> 40) as usize));
     if let Some(at) = (0..given.output.len()).find(|&at| engine[at] != evaluator[at]) {
         let [engine, evaluator] = [engine, evaluator].map(|bytes| hex(&bytes[at..bytes.len().min(at + 2 * FIELD)]));
         panic!("{label}: from byte {at} on the engine has {engine}, the evaluator {evaluator}\n{given}");
@@ -59,8 +60,8 @@ fn compare_outputs(label: &str, given: &Copying, copied: &Copied, expected: &Cop
 }
 
 /// The output with the written fields of each entry sorted: how they follow each other is left open. Nothing else is.
-fn by_condition(copied: &Copied) -> Vec<u8> {
-    let (written, further) = copied.output.split_at((copied.word >> 40) as usize);
+pub fn by_condition(output: &[u8], written: usize) -> Vec<u8> {
+    let (written, further) = output.split_at(written);
     let mut fields: Vec<&[u8]> = written.chunks(FIELD).collect();
     fields.chunk_by_mut(|one, next| one[3..5] == next[3..5]).for_each(|of_one_entry| of_one_entry.sort_unstable());
     fields.push(further);

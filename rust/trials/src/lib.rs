@@ -20,7 +20,7 @@ mod typed;
 
 pub use both::{compare_both, compare_condition, look_count};
 pub use catalogue::compare_catalogue;
-pub use copy::{Copying, compare_copy};
+pub use copy::{Copying, by_condition, compare_copy};
 pub use damaged::{Damaged, damage_some, damaged_catalogue};
 pub use every::{Answers, compare_every_call};
 pub use fault::trying;
