@@ -1,10 +1,10 @@
-// Eight bytes as one word: a number with the least significant byte first.
+// Eight bytes as one word, or four: a number with the least significant byte first.
 ghost use mathlib.Core.Path.{_≡_};
 ghost use Prim.Native.Nat.{_+_, _^_, _≤_, _<_};
 ghost use lib.ListN.{length};
 ghost use Rattle.words.specs.Words.{wordAt};
 
-// The first or the second half of a word.
+// Four bytes; a word is two of these.
 pub fn half_at(b: &[u8], at: usize) -> u64
     requires { ⌜ at + 4 ≤ length (now b) ⌝ }
     ensures { λ r. ⌜ (r ≡ wordAt (now (b .entry)) at 4) × (r < 2 ^ 32) ⌝ }
