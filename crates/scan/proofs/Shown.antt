@@ -1,19 +1,18 @@
 -- From the rows as they lie in the bytes to the column that they show.
-use Prim.Native.Nat.{ℕ, _+_, _-_, _≤_, _<_}
+use Prim.Native.Nat.{ℕ, _+_, _≤_, _<_}
 use native.Mathlib.Omega.{arith}
 use mathlib.Core.Path.{_≡_, refl, sym, ap, _∙_}
 use mathlib.Core.Bool.{Bool, true, false, _&&_, _||_, and-false, and-true}
 use mathlib.Core.List.{List, []}
-use lib.ListN.{length, getD, take, drop}
+use lib.ListN.{length, getD}
 use lib.Dec.{leb, eqb}
 use lib.Bits.{bitOr, bitXor}
 use borrow.Author.Tests.{lt-ltb, le-ltb, le-leb, lt-leb, leb-true}
 use Rattle.bools.specs.Bools.{and-parts, eqb-eq}
 use Rattle.catalogue.specs.Format.{numberTag, textTag}
 use Rattle.catalogue.specs.Catalogue.{Column, numbers, texts}
-use Rattle.slots.specs.Slots.{textLimit, textAt}
-use Rattle.catalogue.specs.InPlace.{Shows, HasRow, TextIs}
-use Rattle.catalogue.proofs.Rows.{number-is, text-is}
+use Rattle.slots.specs.Slots.{textLimit}
+use Rattle.catalogue.proofs.Rows.{number-is}
 use Rattle.predicate.specs.declared.outcome.Outcome.{Outcome}
 use Rattle.predicate.specs.Kinds.{rangeKind, numberBlankKind, containsKind, textBlankKind, oppositeFrom, plainKind, asksContent}
 use Rattle.predicate.specs.Meaning.{truth, textBlank, numberBlank, numberTest, textTest, valueBlank, plainOf, outcomeOf}
@@ -25,26 +24,13 @@ use Rattle.sets.specs.Set.{has}
 use Rattle.sets.specs.SetLaws.{has-none}
 use Rattle.sets.specs.Kept.{KeptBy, Sifted}
 use Rattle.sets.specs.KeptLaws.{sift-kept, kept-same, kept-others, kept-either}
-use Rattle.heads.specs.Block.{HasDueRows, slotOf, textOf}
+use Rattle.heads.specs.Block.{HasDueRows, textOf}
+use Rattle.fronts.proofs.Texts.{text-shown}
 use Rattle.scan.specs.declared.range.Range.{Range}
 use Rattle.numbers.specs.Within.{numberInRow, within}
 use Rattle.scan.specs.Met.{RangeFor, ShownRows, HasRows, MetFor, PlainMetFor, BlankFor}
 use Rattle.scan.proofs.Ranges.{text-fits, range-means}
 use Rattle.scan.proofs.Blanks.{number-truth, text-truth}
-
--- a row's value in the bytes is that of the column
-
-text-shown : (b : List ℕ) (start row rows : ℕ) (ts : List (List ℕ)) → Shows b rows textTag start (texts ts) → row < rows → textOf b start row ≡ getD ts row []
-unfolding textAt
-text-shown b start row rows ts s l =
-    let at = slotOf start row in
-    let n : getD b at 0 ≡ at + 1 + getD b at 0 - (at + 1) = omega arith in
-    ap (λ (k : ℕ). take k (drop (at + 1) b)) n ∙ text-is b start row at (getD b at 0) refl refl rows ts s l
-
-module _ {b : List ℕ} {start row : ℕ} where
-  pub text-value : HasRow b textTag start row → (t : List ℕ) → TextIs b start row t → t ≡ textOf b start row
-  text-value (rows, numbers ns, s, l) t value = let z : textTag ≡ numberTag = s .0 in absurd (omega arith)
-  text-value (rows, texts ts, s, l) t value = value rows ts s l ∙ sym (text-shown b start row rows ts s l)
 
 -- the tag of a kind's columns
 

@@ -14,8 +14,8 @@ pub fn texts_blank(b: &[u8], start: usize, base: usize, due: u64) -> u64
     heads::front::front_rows(b, start, base, heads::head::blank_head(), due)
 }
 
-// The due rows whose texts pass the test of a kind below the opposites, each text handed on as a part.
-pub fn texts_that_pass(
+// The due rows whose texts pass the test of a kind below the opposites, each text handed on as a part. The way of contains.
+fn texts_one_by_one(
     table: &[u8],
     b: &[u8],
     start: usize,
@@ -39,4 +39,28 @@ pub fn texts_that_pass(
         left = next;
     }
     met
+}
+
+// The same rows, those of equals and begins by the texts' fronts.
+pub fn texts_that_pass(
+    table: &[u8],
+    b: &[u8],
+    start: usize,
+    base: usize,
+    kind: u8,
+    operand: &[u8],
+    due: u64,
+) -> u64
+    requires { ⌜ Folds (now table) × HasDueRows (now b) textTag start base due ⌝ }
+    ensures { λ r. ⌜ KeptBy (λ d. textTest kind (now (operand .entry)) (textOf (now (b .entry)) start (base + d))) due r ⌝ }
+{
+    // A filter leaves no row of most blocks.
+    if due == 0 {
+        return 0;
+    }
+    // For one row alone a front costs more to make than it saves.
+    if fronts::of_fronts(kind) && sets::rest(due) != 0 {
+        return fronts::fronts_that_pass(table, b, start, base, kind, operand, due);
+    }
+    texts_one_by_one(table, b, start, base, kind, operand, due)
 }

@@ -1,85 +1,39 @@
--- `texts_that_pass` meets its contract: what was met, with what is left, is what is due.
-use Prim.Native.Nat.{_+_}
+-- `texts_that_pass` meets its contract.
+use Prim.Native.Nat.{ℕ}
 use native.Mathlib.Omega.{arith}
-use mathlib.Core.Path.{ap, _∙_}
-use Rattle.catalogue.proofs.Rows.{has-text}
-use Rattle.sets.specs.Kept.{Sorting}
-use Rattle.sets.specs.KeptLaws.{sort-none, sort-among, sort-next, sort-end}
-use Rattle.predicate.specs.Meaning.{textTest}
-use Rattle.heads.specs.Block.{textOf}
-use Rattle.scan.proofs.Shown.{text-value}
+use mathlib.Core.Path.{_≡_, sym, _∙_}
+use mathlib.Core.Bool.{Bool}
+use Rattle.sets.specs.Kept.{KeptBy}
+use Rattle.sets.specs.SetLaws.{has-none}
 use borrow.Author.Needs.{needs}
 use Rattle.scan.proofs.text.texts_that_pass.Statement.{statement}
 use Rattle.scan.proofs.text.texts_that_pass.Tie as tie
 
-abbrev Inv-loop : tie.InvT-loop
-Inv-loop table b start base kind operand due left₀ met₀ left met = Sorting (λ d. textTest kind operand (textOf b start (base + d))) due left met
+none-due : (P : ℕ → Bool) (due : ℕ) → due ≡ 0 → KeptBy P due 0
+none-due P due e d = rw (e, has-none d)
 
-abbrev μ-loop : tie.MeasureT-loop
-μ-loop table b start base kind operand due left₀ met₀ left met = left
+returns : tie.Need-returns
+returns c = none-due _ _ (c .if1 .taken)
 
-loop-holds : tie.Need-loop-holds Inv-loop μ-loop
-loop-holds c = sort-none _ _ (omega arith)
+of-fronts-requires : tie.Need-of-fronts-requires
+of-fronts-requires c κs = search needs
 
-first-requires : tie.Need-first-requires Inv-loop μ-loop
-first-requires c κs = omega arith
+rest-requires : tie.Need-rest-requires
+rest-requires c κs = omega (arith, c .before .before .if1 .left)
 
-widen-requires : tie.Need-widen-requires Inv-loop μ-loop
-widen-requires c κs = search needs
+fronts-that-pass-requires : tie.Need-fronts-that-pass-requires
+fronts-that-pass-requires c κs =
+    let p = c .before .before .before .before .before .before .before .before .pre in
+    (p .0, p .1, sym (c .before .before .before .of-fronts .ensures) ∙ c .before .before .if2 .taken)
 
-add-row : tie.Need-add-row Inv-loop μ-loop
-add-row c =
-    let s = c .before .before .before .loop .inv in
-    let f = c .before .first .ensures in
-    let w = c .widen .ensures .0 in
-    let h = has-text _ _ _ (c .before .before .before .before .before .before .before .pre .1 _ (sort-among s f w)) in
-    omega arith
+returns-2 : tie.Need-returns-2
+returns-2 c = c .fronts-that-pass .ensures
 
-rest-requires : tie.Need-rest-requires Inv-loop μ-loop
-rest-requires c κs = omega arith
+texts-one-by-one-requires : tie.Need-texts-one-by-one-requires
+texts-one-by-one-requires c κs = c .before .before .before .before .before .before .pre
 
-text-at-requires : tie.Need-text-at-requires Inv-loop μ-loop
-text-at-requires c κs =
-    let s = c .before .before .before .before .loop .inv in
-    let f = c .before .before .first .ensures in
-    let w = c .before .widen .ensures .0 in
-    c .before .before .before .before .before .before .before .before .pre .1 _ (sort-among s f w)
-
-text-test-requires : tie.Need-text-test-requires Inv-loop μ-loop
-text-test-requires c κs = c .before .before .before .before .before .before .before .before .before .pre .0
-
-kept-requires : tie.Need-kept-requires Inv-loop μ-loop
-kept-requires c κs = search needs
-
-loop-less : tie.Need-loop-less Inv-loop μ-loop
-loop-less c = c .before .before .before .rest .ensures .less
-
-loop-again : tie.Need-loop-again Inv-loop μ-loop
-loop-again c =
-    let s = c .before .before .before .before .before .before .before .loop .inv in
-    let f = c .before .before .before .before .before .first .ensures in
-    let w = c .before .before .before .before .widen .ensures .0 in
-    let a = c .before .before .before .before .before .before .before .before .before .before .before .args in
-    let row = c .before .before .before .before .before .before .before .before .before .before .before .pre .1 _ (sort-among s f w) in
-    sort-next s f w (c .before .before .before .rest .ensures) (c .before .text-test .ensures ∙ ap (textTest (a .kind) (a .operand .now)) (text-value row _ (c .before .before .text-at .ensures))) (c .kept .ensures)
-
-returns : tie.Need-returns Inv-loop μ-loop
-returns c = sort-end (c .before .loop .inv) (omega arith)
+returns-3 : tie.Need-returns-3
+returns-3 c = c .texts-one-by-one .ensures
 
 pub texts-that-pass-spec : {M : Type 1} → statement M
-texts-that-pass-spec =
-    tie.close
-    (tie.spec
-    Inv-loop
-    μ-loop
-    loop-holds
-    first-requires
-    widen-requires
-    add-row
-    rest-requires
-    text-at-requires
-    text-test-requires
-    kept-requires
-    loop-less
-    loop-again
-    returns)
+texts-that-pass-spec = tie.close (tie.spec returns of-fronts-requires rest-requires fronts-that-pass-requires returns-2 texts-one-by-one-requires returns-3)

@@ -1,0 +1,4 @@
+pub mod Texts
+mod AskedBits
+mod SureLaws
+mod FrontLaws
