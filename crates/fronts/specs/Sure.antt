@@ -31,9 +31,9 @@ pub record SureSize (n r : ℕ) : Type 0 where
   pub inside : r ≤ n
   pub no-fewer : (i : ℕ) → i < n → i < sureSize → i < r
 
--- the mask has the bits that are asked for: a word passes where it differs from the value in none of them
+-- a word passes where it differs from the value in none of the bits that are asked for
 abbrev pub surePasses : List ℕ → (p : ℕ) → Sure → Bool
-surePasses b p k = eqb (bitAnd (bitXor (wordAt b p wordSize) (k .value)) (k .mask)) 0
+surePasses b p k = eqb (bitAnd (bitXor (wordAt b p wordSize) (k .value)) (k .asked)) 0
 
 -- where a slot's word passes, the bytes of its text fold as the operand's, as far as both the operand and the word go
 abbrev pub SureFor : (o : List ℕ) → Sure → Type 0

@@ -5,9 +5,9 @@ ghost use lib.ListN.{length};
 ghost use Rattle.predicate.specs.Outcome.{Folds};
 ghost use Rattle.fronts.specs.Sure.{wordSize, isLetter, askedBits, SureSize, surePasses, SureFor};
 
-// The mask has the bits that are asked for, the value what they are.
+// A word passes where it has the bits of the value in all places that are asked for.
 pub struct Sure {
-    pub mask: u64,
+    pub asked: u64,
     pub value: u64,
 }
 
@@ -41,19 +41,19 @@ pub fn sure_of(table: &[u8], operand: &[u8]) -> Sure
     requires { ⌜ Folds (now table) ⌝ }
     ensures { λ r. ⌜ SureFor (now (operand .entry)) r ⌝ }
 {
-    let mut mask: u64 = 0;
+    let mut asked: u64 = 0;
     let mut value: u64 = 0;
     let mut i = sure_size(operand.len());
     while 0 < i {
         i -= 1;
         let c = predicate::text::fold_byte(table, operand[i]);
-        mask = 256 * mask + asked_bits(c) as u64;
+        asked = 256 * asked + asked_bits(c) as u64;
         value = 256 * value + c as u64;
     }
     // The length lies below them, and nothing is asked of it.
-    mask = 256 * mask;
+    asked = 256 * asked;
     value = 256 * value;
-    Sure { mask, value }
+    Sure { asked, value }
 }
 
 // Whether the text of the slot at p is sure to begin so.
@@ -61,5 +61,5 @@ pub fn is_sure(b: &[u8], p: usize, k: Sure) -> bool
     requires { ⌜ p + wordSize ≤ length (now b) ⌝ }
     ensures { λ r. ⌜ r ≡ surePasses (now (b .entry)) p k ⌝ }
 {
-    (words::word_at(b, p) ^ k.value) & k.mask == 0
+    (words::word_at(b, p) ^ k.value) & k.asked == 0
 }

@@ -11,7 +11,7 @@ word-at-requires : tie.Need-word-at-requires
 word-at-requires c κs = search needs
 
 returns : tie.Need-returns
-returns c = let k = c .before .before .before .before .args .k in ap (λ (n : ℕ). eqb (bitAnd (bitXor n (k .value)) (k .mask)) 0) (c .before .before .word-at .ensures)
+returns c = let k = c .before .before .before .before .args .k in ap (λ (n : ℕ). eqb (bitAnd (bitXor n (k .value)) (k .asked)) 0) (c .before .before .word-at .ensures)
 
 pub is-sure-spec : {M : Type 1} → statement M
 is-sure-spec = tie.close (tie.spec word-at-requires returns)

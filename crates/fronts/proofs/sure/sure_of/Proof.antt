@@ -6,10 +6,10 @@ use Rattle.fronts.proofs.sure.sure_of.Statement.{statement}
 use Rattle.fronts.proofs.sure.sure_of.Tie as tie
 
 abbrev Inv-loop : tie.InvT-loop
-Inv-loop table operand mask₀ value₀ i₀ mask value i = Asking operand i₀ i mask value
+Inv-loop table operand asked₀ value₀ i₀ asked value i = Asking operand i₀ i asked value
 
 abbrev μ-loop : tie.MeasureT-loop
-μ-loop table operand mask₀ value₀ i₀ mask value i = i
+μ-loop table operand asked₀ value₀ i₀ asked value i = i
 
 sure-size-requires : tie.Need-sure-size-requires Inv-loop μ-loop
 sure-size-requires c κs = search needs
@@ -30,17 +30,17 @@ shared-slice-read-fold-byte c =
 fold-byte-requires : tie.Need-fold-byte-requires Inv-loop μ-loop
 fold-byte-requires c κs = c .before .before .before .before .before .before .pre
 
-mul-mask : tie.Need-mul-mask Inv-loop μ-loop
-mul-mask c = let s = asking-small (c .before .before .before .loop .inv) in omega arith
+mul-asked : tie.Need-mul-asked Inv-loop μ-loop
+mul-asked c = let s = asking-small (c .before .before .before .loop .inv) in omega arith
 
 asked-bits-requires : tie.Need-asked-bits-requires Inv-loop μ-loop
 asked-bits-requires c κs = search needs
 
-cast-mask : tie.Need-cast-mask Inv-loop μ-loop
-cast-mask c = omega arith
+cast-asked : tie.Need-cast-asked Inv-loop μ-loop
+cast-asked c = omega arith
 
-add-mask : tie.Need-add-mask Inv-loop μ-loop
-add-mask c = let s = asking-small (c .before .before .before .before .loop .inv) in omega arith
+add-asked : tie.Need-add-asked Inv-loop μ-loop
+add-asked c = let s = asking-small (c .before .before .before .before .loop .inv) in omega arith
 
 mul-value : tie.Need-mul-value Inv-loop μ-loop
 mul-value c = let s = asking-small (c .before .before .before .before .loop .inv) in omega arith
@@ -57,8 +57,8 @@ loop-less c = omega arith
 loop-again : tie.Need-loop-again Inv-loop μ-loop
 loop-again c = asking-next (c .before .before .before .before .loop .inv) (omega arith) (λ i. omega (arith, c .before .before .before .before .before .before .shared-slice-known2 .given i)) (c .before .fold-byte .ensures) (omega arith) (c .asked-bits .ensures)
 
-mul-mask-2 : tie.Need-mul-mask-2 Inv-loop μ-loop
-mul-mask-2 c = let s = asking-small (c .before .loop .inv) in omega arith
+mul-asked-2 : tie.Need-mul-asked-2 Inv-loop μ-loop
+mul-asked-2 c = let s = asking-small (c .before .loop .inv) in omega arith
 
 mul-value-2 : tie.Need-mul-value-2 Inv-loop μ-loop
 mul-value-2 c = let s = asking-small (c .before .loop .inv) in omega arith
@@ -77,15 +77,15 @@ sure-of-spec =
     sub-i
     shared-slice-read-fold-byte
     fold-byte-requires
-    mul-mask
+    mul-asked
     asked-bits-requires
-    cast-mask
-    add-mask
+    cast-asked
+    add-asked
     mul-value
     cast-value
     add-value
     loop-less
     loop-again
-    mul-mask-2
+    mul-asked-2
     mul-value-2
     returns)
