@@ -1,4 +1,4 @@
--- Mask and value put together byte by byte: where they pass, the bytes fold as the operand's.
+-- The asked bits and their values put together byte by byte: where a word passes, the bytes fold as the operand's.
 use Prim.Native.Nat.{ℕ, zero, suc, _+_, _-_, _*_, _^_, _≤_, _<_}
 use native.Mathlib.Nat.{add-zero}
 use native.Mathlib.Omega.{arith}
