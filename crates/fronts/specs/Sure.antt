@@ -11,8 +11,9 @@ use Rattle.words.specs.Words.{wordAt}
 use Rattle.predicate.specs.Meaning.{between, fold}
 use Rattle.fronts.specs.declared.sure.Sure.{Sure}
 
-abbrev pub wordSize : ℕ
-wordSize = 8
+-- the bytes of a slot's first word, and those of text among them
+abbrev pub frontSize : ℕ
+frontSize = 8
 
 abbrev pub sureSize : ℕ
 sureSize = 7
@@ -33,7 +34,7 @@ pub record SureSize (n r : ℕ) : Type 0 where
 
 -- a word passes where it differs from the value in none of the bits that are asked for
 abbrev pub surePasses : List ℕ → (p : ℕ) → Sure → Bool
-surePasses b p k = eqb (bitAnd (bitXor (wordAt b p wordSize) (k .value)) (k .asked)) 0
+surePasses b p k = eqb (bitAnd (bitXor (wordAt b p frontSize) (k .value)) (k .asked)) 0
 
 -- where a slot's word passes, the bytes of its text fold as the operand's, as far as both the operand and the word go
 abbrev pub SureFor : (o : List ℕ) → Sure → Type 0

@@ -3,7 +3,7 @@ ghost use mathlib.Core.Path.{_≡_};
 ghost use Prim.Native.Nat.{_+_, _≤_};
 ghost use lib.ListN.{length};
 ghost use Rattle.predicate.specs.Outcome.{Folds};
-ghost use Rattle.fronts.specs.Sure.{wordSize, isLetter, askedBits, SureSize, surePasses, SureFor};
+ghost use Rattle.fronts.specs.Sure.{frontSize, isLetter, askedBits, SureSize, surePasses, SureFor};
 
 // A word passes where it has the bits of the value in all places that are asked for.
 pub struct Sure {
@@ -58,7 +58,7 @@ pub fn sure_of(table: &[u8], operand: &[u8]) -> Sure
 
 // Whether the text of the slot at p is sure to begin so.
 pub fn is_sure(b: &[u8], p: usize, k: Sure) -> bool
-    requires { ⌜ p + wordSize ≤ length (now b) ⌝ }
+    requires { ⌜ p + frontSize ≤ length (now b) ⌝ }
     ensures { λ r. ⌜ r ≡ surePasses (now (b .entry)) p k ⌝ }
 {
     (words::word_at(b, p) ^ k.value) & k.asked == 0
