@@ -42,8 +42,8 @@
 /* The release, as text, which the pkg-config file repeats, and as a number for #if: major * 10000 + minor * 100 +
    patch. (Before 0.7.1 there was no number; #if takes it as 0.) Link the archive of the same release. Each call says
    below since which release it is there, and which of its parameters came later. */
-#define SEARCHROOM_VERSION "0.8.0"
-#define SEARCHROOM_VERSION_NUMBER 800
+#define SEARCHROOM_VERSION "0.7.2"
+#define SEARCHROOM_VERSION_NUMBER 702
 
 #ifdef __cplusplus
 extern "C" {
@@ -62,7 +62,6 @@ enum {
     SEARCHROOM_LOOKS_BYTES = 16384,      /* the most bytes that a run writes to the looks table */
     SEARCHROOM_READERS = 16,             /* readers, 0 to 15 */
     SEARCHROOM_TALLY_BYTES = 128,        /* bytes of the tally, eight for each reader */
-    SEARCHROOM_RIGHTS_BYTES = 32,        /* bytes of the rights table, two for each reader */
     SEARCHROOM_COPY_FIELD_BYTES = 7,     /* bytes that a copy writes for each look */
     SEARCHROOM_COPY_BYTES = 917504,      /* the most bytes that a copy writes to its output */
     SEARCHROOM_MAX_TYPED = 16384,        /* bytes of a typed question */
@@ -125,10 +124,8 @@ enum {
     SEARCHROOM_SHORT_TYPED_OUTPUT = 22,
     /* Catalogue: the mark has a length that does not fit the number of entries, or a one bit after the last entry's. */
     SEARCHROOM_BAD_MARK = 23,
-    /* Run and copy: there is no such reader: readers are 0 to 15. */
-    SEARCHROOM_NO_SUCH_READER = 24,
-    /* Run and copy: the rights table is not 32 bytes. */
-    SEARCHROOM_BAD_RIGHTS = 25
+    /* Run: there is no such reader: readers are 0 to 15. */
+    SEARCHROOM_NO_SUCH_READER = 24
 };
 
 /* The refusal's number in a packed word, SEARCHROOM_ACCEPTED where the call is accepted. */
@@ -167,7 +164,6 @@ static inline const char *searchroom_refusal_text(unsigned refusal)
     case SEARCHROOM_SHORT_TYPED_OUTPUT: return "the output is too short for the typed question's bytes";
     case SEARCHROOM_BAD_MARK: return "the mark of the catalogue has a wrong length or a stray bit";
     case SEARCHROOM_NO_SUCH_READER: return "there is no such reader: readers are 0 to 15";
-    case SEARCHROOM_BAD_RIGHTS: return "the rights table is not 32 bytes";
     default: return "unknown refusal";
     }
 }
@@ -238,8 +234,7 @@ static inline unsigned searchroom_conditions(uint64_t word) { return searchroom_
  * Works out one condition of a question at one entry of a catalogue.
  *
  * Results: first the outcome, SEARCHROOM_NO, SEARCHROOM_YES or SEARCHROOM_BLANK (searchroom_answer). Compare it with these:
- * a blank is not zero. Whether the entry is withdrawn makes no difference. There is no reader here and nothing is closed: the
- * call tells a condition on any column (see the rights table below).
+ * a blank is not zero. Whether the entry is withdrawn makes no difference.
  * Refusals: 1 to 14 and 23 as for searchroom_check_question; then 18, the entry is not below the number of entries or the
  * condition not below the number of conditions. Any 64-bit numbers may be given.
  * Writes nothing.
@@ -252,30 +247,6 @@ uint64_t searchroom_outcome(const uint8_t *catalogue, size_t catalogue_len,
 static inline unsigned searchroom_answer(uint64_t word) { return searchroom_first(word); }
 
 /*
- * The rights table: which columns are closed to which readers, SEARCHROOM_RIGHTS_BYTES bytes. Reader r has a number in bytes 2r
- * and 2r + 1, in which the bit of weight 2^c closes column c: columns 8 to 15 stand in byte 2r. Zeros close nothing. Bits of
- * columns that the catalogue has not are without effect, and so is every other reader's number.
- *
- * A run and a copy are bound by it: what they give a reader is the same whatever the columns hold that are closed to that
- * reader. Nothing else is. searchroom_outcome tells any condition at any entry, the check calls and searchroom_typed read the
- * whole catalogue, and whoever can read the bytes of a catalogue can read its closed columns. So a program that serves readers
- * keeps the catalogue to itself, and does not hand searchroom_outcome to a reader to whom a column is closed. A question with
- * conditions on closed columns is not refused, so that one question serves every reader.
- */
-
-/* Closes a column, 0 to 15, to a reader, 0 to 15. */
-static inline void searchroom_close(uint8_t *rights, unsigned reader, unsigned column)
-{
-    rights[2 * reader + 1 - column / 8] |= (uint8_t)(1u << column % 8);
-}
-
-/* Is a column, 0 to 15, closed to a reader, 0 to 15? 1 or 0. */
-static inline unsigned searchroom_is_closed(const uint8_t *rights, unsigned reader, unsigned column)
-{
-    return rights[2 * reader + 1 - column / 8] >> column % 8 & 1u;
-}
-
-/*
  * Runs a question over a catalogue in a running order, for a reader.
  *
  * A withdrawn entry is not listed, and no look is registered there. Every other entry is listed exactly if the question's tree
@@ -285,15 +256,7 @@ static inline unsigned searchroom_is_closed(const uint8_t *rights, unsigned read
  * and its no giving the tree different values. Any way of working in the same order that is right whatever the pattern of
  * outcomes makes each of these looks, so none makes fewer.
  *
- * With closed columns. A condition on a column that is closed to the reader is never looked at. An entry is listed exactly if
- * it would be listed for every choice of outcomes of those conditions. Since a question has no `not` around a group, that is to
- * say: with each of them taken as no, an opposite kind too. A look at an open condition is due as above, the later ones being
- * the later open ones, and the closed ones taken as no. In all(closed, open) so nothing is looked at and nothing listed; in
- * any(closed, open) the open one alone decides. Closing a further column never adds an entry to the list. Ways of working are
- * then those that look at no condition on a closed column and are right about this listing: none makes fewer looks.
- *
- *     reader  the reader whose looks these are, 0 to 15; of an accepted run the tally and what is closed depend on it
- *     rights  the rights table, exactly SEARCHROOM_RIGHTS_BYTES bytes
+ *     reader  the reader whose looks these are, 0 to 15; of an accepted run nothing but the tally depends on it
  *     listed  the listed table, at least one row of bits; its first row is written: the listed entries
  *     looks   the looks table, at least n rows; its first n rows are written, one for each condition in condition-number
  *             order: the entries at which a look at it is registered
@@ -308,14 +271,13 @@ static inline unsigned searchroom_is_closed(const uint8_t *rights, unsigned read
  * Results: first the found count, the number of listed entries (searchroom_found); third the look count, the number of
  * registered looks (searchroom_look_count).
  * Refusals: 1 to 14 and 23 as for searchroom_check_question; then 15, then 16, then 24, the reader is over 15 (any 64-bit
- * number may be given), then 25, then 17. Nothing is then written.
- * Since 0.1.0; reader since 0.7.0; rights since 0.8.0.
+ * number may be given), then 17. Nothing is then written.
+ * Since 0.1.0; reader since 0.7.0.
  */
 uint64_t searchroom_run(const uint8_t *catalogue, size_t catalogue_len,
                         const uint8_t *question, size_t question_len,
                         const uint8_t *order, size_t order_len,
                         uint64_t reader,
-                        const uint8_t *rights, size_t rights_len,
                         uint8_t *listed, size_t listed_len,
                         uint8_t *looks, size_t looks_len,
                         uint8_t *tally, size_t tally_len);
@@ -340,10 +302,10 @@ static inline unsigned searchroom_bit(const uint8_t *row, unsigned entry) { retu
 
 /*
  * Writes the steward's copy of the register: each look that searchroom_run registers on the same catalogue, question and
- * order, for the same reader with the same rights, with what it found.
+ * order, with what it found. They are the same for every reader, so a copy names none.
  *
- * Each look has one field, and no other field is written; a withdrawn entry has none, nor has a condition on a column that is
- * closed to the reader. A field takes SEARCHROOM_COPY_FIELD_BYTES bytes:
+ * Each look has one field, and no other field is written; a withdrawn entry has none. A field takes
+ * SEARCHROOM_COPY_FIELD_BYTES bytes:
  *     byte 0         tag 76
  *     bytes 1 and 2  length 4
  *     bytes 3 and 4  the entry (searchroom_copied_entry)
@@ -353,22 +315,17 @@ static inline unsigned searchroom_bit(const uint8_t *row, unsigned entry) { retu
  *                    (searchroom_copied_outcome); compare it with these: a blank is not zero
  * Entries ascend. In which sequence the fields of one entry follow each other is left open: rely on none.
  *
- *     reader  the reader whose looks these are, 0 to 15
- *     rights  the rights table, exactly SEARCHROOM_RIGHTS_BYTES bytes
  *     output  the output, at least SEARCHROOM_COPY_FIELD_BYTES bytes for each look; its front is written: the fields, one
  *             after the other
  * Further bytes of output stay as they are. SEARCHROOM_COPY_BYTES bytes are enough for any copy.
  *
  * Results: third the number of bytes written, SEARCHROOM_COPY_FIELD_BYTES times the look count (searchroom_written).
- * Refusals: 1 to 14 and 23 as for searchroom_check_question; then 15, then 24, the reader is over 15 (any 64-bit number may be
- * given), then 25, then 20. Nothing is then written.
- * Since 0.2.0; reader and rights since 0.8.0.
+ * Refusals: 1 to 14 and 23 as for searchroom_check_question; then 15, then 20. Nothing is then written.
+ * Since 0.2.0.
  */
 uint64_t searchroom_copy(const uint8_t *catalogue, size_t catalogue_len,
                          const uint8_t *question, size_t question_len,
                          const uint8_t *order, size_t order_len,
-                         uint64_t reader,
-                         const uint8_t *rights, size_t rights_len,
                          uint8_t *output, size_t output_len);
 
 /* The number of bytes that a copy or searchroom_typed wrote. */

@@ -1,4 +1,4 @@
--- The refusals of the calls themselves, 15 to 18, 20 to 22, 24 and 25.
+-- The refusals of the calls themselves, 15 to 18, 20 to 22 and 24.
 use Rattle.std.specs.Prelude.{ℕ}
 
 -- "15, the order is not n bytes holding each number once"
@@ -32,7 +32,3 @@ typed_output_too_short = 22
 -- order 7: "24, reader over 15"
 abbrev pub no_such_reader : ℕ
 no_such_reader = 24
-
--- order 8: "25, the rights table isn't 32 bytes"
-abbrev pub bad_rights : ℕ
-bad_rights = 25

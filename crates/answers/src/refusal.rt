@@ -1,4 +1,4 @@
-// Document 01's refusals 15 to 18, order 1's 20, order 4's 21 and 22, order 7's 24, order 8's 25; the contracts tie them to those of specs/Refusals.antt.
+// Document 01's refusals 15 to 18, order 1's 20, order 4's 21 and 22, order 7's 24; the contracts tie them to those of specs/Refusals.antt.
 #[derive(Drop)]
 pub struct Refusal;
 
@@ -18,6 +18,4 @@ impl Refusal {
     pub const TYPED_OUTPUT_TOO_SHORT: u8 = 22;
 
     pub const NO_SUCH_READER: u8 = 24;
-
-    pub const BAD_RIGHTS: u8 = 25;
 }

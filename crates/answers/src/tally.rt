@@ -14,13 +14,3 @@ pub struct Tally;
 impl Tally {
     pub const SIZE: usize = Reader::LIMIT as usize * Counter::SIZE;
 }
-
-#[derive(Drop)]
-pub struct Rights;
-
-impl Rights {
-    // The bytes of a reader.
-    pub const WIDTH: usize = 2;
-
-    pub const SIZE: usize = Reader::LIMIT as usize * Rights::WIDTH;
-}

@@ -69,10 +69,10 @@ module _ (b q order : List ℕ) where
 
   -- in the words of the demands page: the counts and the tables of a run in which no check fails, and the number of the first that fails
   pub kept_text : (i : Input) → Kept lent i
-      → consultation_of b q order ≡ register.accepted (found_count (task_of i lent.request)) (look_count (task_of i lent.request)) (row_count i) (predicate_count i) after.listed after.looks
+      → consultation_of b q order ≡ register.accepted (found_count (task_of i order)) (look_count (task_of i order)) (row_count i) (predicate_count i) after.listed after.looks
   kept_text i k =
       let g = kept_gives lent i k in
-      read_text i k.forms ∙ accepted_text (row_count i) (predicate_count i) (found_count (task_of i lent.request)) (look_count (task_of i lent.request)) after g.1 g.2 g.4
+      read_text i k.forms ∙ accepted_text (row_count i) (predicate_count i) (found_count (task_of i order)) (look_count (task_of i order)) after g.1 g.2 g.4
 
   pub broken_text : (e : ℕ) → FirstBroken lent e → consultation_of b q order ≡ register.refused e
   broken_text e x = go x

@@ -18,7 +18,6 @@ use Rattle.answers.specs.Checks.{checked}
 use Rattle.demands.specs.Run.{selection, probe_bitmaps, run_on}
 use Rattle.bitmaps.specs.Bit.{bit}
 use Rattle.sets.specs.Set.{has}
-use Rattle.closed.specs.Closed.{only}
 use Rattle.fields.specs.Decimal.{digits, decimal}
 use Rattle.lines.specs.Line.{line}
 use Rattle.register.specs.Register.{header, entries, condition_line, conditions, accepted}
@@ -35,5 +34,5 @@ parish_register : consultation_of parish question (0 ∷ 1 ∷ 2 ∷ [])
     ++ (99 ∷ 111 ∷ 110 ∷ 100 ∷ 105 ∷ 116 ∷ 105 ∷ 111 ∷ 110 ∷ 32 ∷ 48 ∷ 32 ∷ 51 ∷ 10 ∷ [])
     ++ (99 ∷ 111 ∷ 110 ∷ 100 ∷ 105 ∷ 116 ∷ 105 ∷ 111 ∷ 110 ∷ 32 ∷ 49 ∷ 32 ∷ 49 ∷ 10 ∷ [])
     ++ (99 ∷ 111 ∷ 110 ∷ 100 ∷ 105 ∷ 116 ∷ 105 ∷ 111 ∷ 110 ∷ 32 ∷ 50 ∷ 32 ∷ 50 ∷ 10 ∷ [])
-unfolding number_at bytes_of folded same begins occurs plain_kind asks_content number_test text_test outcome_of update elem predicates decides some_outcomes due trace eval occurrences all_below is_order sum_of joined bitmap bitmaps ones_in is_selected due_at trace_at selection probe_bitmaps checked run_on ones digitOnes xor bit has only digits decimal line entries condition_line conditions accepted
-parish_register = ap₂ register_after parish_input (run_on_lem parish question _ _ _ _ _ _ parish_input)
+unfolding number_at bytes_of folded same begins occurs plain_kind asks_content number_test text_test outcome_of update elem predicates decides some_outcomes due trace eval occurrences all_below is_order sum_of joined bitmap bitmaps ones_in is_selected due_at trace_at selection probe_bitmaps checked run_on ones digitOnes xor bit has digits decimal line entries condition_line conditions accepted
+parish_register = ap₂ register_after parish_input (run_on_lem parish question _ _ _ _ _ parish_input)

@@ -6,7 +6,7 @@ use Rattle.query.specs.Format.{predicate_limit}
 use Rattle.bitmaps.specs.Bitmap.{bytes_for}
 use Rattle.task.specs.Input.{Input, decode_input}
 use Rattle.answers.specs.Word.{number_in, first_in, third_in}
-use Rattle.demands.specs.Run.{Lent, lent, Ran, row_count, predicate_count, tally_size, rights_size, run_of}
+use Rattle.demands.specs.Run.{Lent, lent, Ran, row_count, predicate_count, tally_size, run_of}
 use Rattle.register.specs.Register as register
 use Rattle.register.specs.Writing.{room_for}
 
@@ -21,9 +21,9 @@ listed_size = bytes_for row_limit
 abbrev pub looks_size : ℕ
 looks_size = predicate_limit * listed_size
 
--- "with the tally at zero"; order 7: "`consult` is reader 0"; order 8: "`consult` closes none."
+-- "with the tally at zero"; order 7: "`consult` is reader 0"
 abbrev pub lent_by : (catalogue question order : List ℕ) → Lent
-lent_by b q order = lent b q order 0 (replicate rights_size 0) (replicate listed_size 0) (replicate looks_size 0) (replicate tally_size 0)
+lent_by b q order = lent b q order 0 (replicate listed_size 0) (replicate looks_size 0) (replicate tally_size 0)
 
 abbrev pub consultation_run : (catalogue question order : List ℕ) → Ran
 consultation_run b q order = run_of (lent_by b q order)

@@ -1,11 +1,11 @@
-// One consultation: a run of reader 0 with no column closed and the tally at zero, and its register.
+// One consultation: a run of reader 0 with the tally at zero, and its register.
 ghost use Rattle.std.specs.Prelude.{◌≤◌, length};
 ghost use Rattle.fields.specs.Numbers.{Bytes};
 ghost use Rattle.query.specs.Format.{predicate_limit};
 ghost use Rattle.register.specs.Register.{refused, Printed};
 ghost use Rattle.consultation.specs.Consultation.{unreadable, consultation_of, longest};
 
-use answers::tally::{Rights, Tally};
+use answers::tally::Tally;
 use bitmaps::copy::Line;
 use query::format::Predicate;
 
@@ -23,7 +23,6 @@ pub fn write_consultation(catalogue: &[u8], question: &[u8], order: &[u8], out: 
     ensures { Printed (consultation_of catalogue.now question.now order.now)
         out.old result out.new × Bytes catalogue.now × Bytes question.now }
 {
-    let rights = [0u8; Rights::SIZE];
     let mut listed = [0u8; Line::SIZE];
     let mut looks = [0u8; Predicate::LIMIT * Line::SIZE];
     let mut tally = [0u8; Tally::SIZE];
@@ -32,7 +31,6 @@ pub fn write_consultation(catalogue: &[u8], question: &[u8], order: &[u8], out: 
         question,
         order,
         0,
-        &rights,
         &mut listed,
         &mut looks,
         &mut tally,

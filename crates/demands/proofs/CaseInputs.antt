@@ -89,7 +89,7 @@ both_input = input_of parish both parish_catalogue_lem both_query_lem
 pub one_input : decode_input one_row year_blank ≡ accepted (record { catalogue = one_catalogue; query = blank_query })
 one_input = input_of one_row year_blank one_catalogue_lem blank_query_lem
 
-pub run_on_lem : (b q : List ℕ) {i : Input} (order : List ℕ) (reader : ℕ) (rights listed looks tally : List ℕ) → decode_input b q ≡ accepted i
-    → run_of (lent b q order reader rights listed looks tally) ≡ run_on i (lent b q order reader rights listed looks tally)
+pub run_on_lem : (b q : List ℕ) {i : Input} (order : List ℕ) (reader : ℕ) (listed looks tally : List ℕ) → decode_input b q ≡ accepted i
+    → run_of (lent b q order reader listed looks tally) ≡ run_on i (lent b q order reader listed looks tally)
 unfolding run_of
-run_on_lem b q order reader rights listed looks tally e = rw e
+run_on_lem b q order reader listed looks tally e = rw e

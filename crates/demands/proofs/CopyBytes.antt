@@ -18,7 +18,7 @@ use Rattle.task.specs.Log.{probe_field, row_fields, log_fields}
 use Rattle.task.proofs.LogLength.{log_length}
 use Rattle.task.specs.Task.{is_probed}
 use Rattle.task.specs.Input.{Input}
-use Rattle.demands.specs.Run.{Request, row_count, task_of}
+use Rattle.demands.specs.Run.{row_count, task_of}
 use Rattle.demands.specs.Demands.{RunningOrder, LookMade}
 use Rattle.demands.specs.Log.{EachProbeOnce}
 use Rattle.demands.specs.CopyPage.{look_field}
@@ -153,18 +153,18 @@ module _ {s : (row : ℕ) → List ℕ} where
 
 -- LOOKS
 
-module _ (i : Input) (r : Request) (o : RunningOrder i r.order) (s : (entry : ℕ) → List ℕ) (each : EachProbeOnce (task_of i r) s) where
+module _ (i : Input) (order : List ℕ) (o : RunningOrder i order) (s : (entry : ℕ) → List ℕ) (each : EachProbeOnce (task_of i order) s) where
   -- what stands in an entry's sequence is looked at there, and what is looked at stands there, at one place
-  pub place_made : {e k : ℕ} → e < row_count i → k < length (s e) → LookMade i r e (get_or (s e) k 0)
-  place_made {e} {k} m l = (probed_made i r o (get_or (s e) k 0) e).0 (go (is_probed (task_of i r) (get_or (s e) k 0) e) (each e m (get_or (s e) k 0)))
+  pub place_made : {e k : ℕ} → e < row_count i → k < length (s e) → LookMade i order e (get_or (s e) k 0)
+  place_made {e} {k} m l = (probed_made i order o (get_or (s e) k 0) e).0 (go (is_probed (task_of i order) (get_or (s e) k 0) e) (each e m (get_or (s e) k 0)))
     where
       go : (b : Bool) → occurrences (get_or (s e) k 0) (s e) ≡ digit b → b ≡ true
       go true h = refl
       go false h = absurd (omega (arith, occurs_at (s e) k l))
 
-  pub made_place : {e c : ℕ} → e < row_count i → LookMade i r e c → (k : ℕ) × (k < length (s e)) × (get_or (s e) k 0 ≡ c)
-  made_place {e} {c} m D = occurs_place c (s e) (omega (arith, each e m c, ap digit ((probed_made i r o c e).1 D)))
+  pub made_place : {e c : ℕ} → e < row_count i → LookMade i order e c → (k : ℕ) × (k < length (s e)) × (get_or (s e) k 0 ≡ c)
+  made_place {e} {c} m D = occurs_place c (s e) (omega (arith, each e m c, ap digit ((probed_made i order o c e).1 D)))
 
   pub place_alone : {e j k : ℕ} → e < row_count i → j < length (s e) → k < length (s e) → get_or (s e) j 0 ≡ get_or (s e) k 0 → j ≡ k
   place_alone {e} {j} {k} m x y h =
-      place_once (s e) j k x y (omega (arith, each e m (get_or (s e) j 0), digit_le (is_probed (task_of i r) (get_or (s e) j 0) e))) h
+      place_once (s e) j k x y (omega (arith, each e m (get_or (s e) j 0), digit_le (is_probed (task_of i order) (get_or (s e) j 0) e))) h

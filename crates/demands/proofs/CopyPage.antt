@@ -46,23 +46,23 @@ pub copy_length : CopyLength
 copy_length r old new w L i k = kept_gives L i k
 
 pub copy_any_sequence : CopyAnySequence
-copy_any_sequence r i o s each = sequence_length i r o s (λ e m c. go e c m (is_probed (task_of i r) c e) refl)
+copy_any_sequence r i o s each = sequence_length i r.order o s (λ e m c. go e c m (is_probed (task_of i r.order) c e) refl)
   where
-    go : (e c : ℕ) → e < row_count i → (b : Bool) → is_probed (task_of i r) c e ≡ b → occurrences c (s e) ≡ digit b
-    go e c m true y = (each e c m).0 ((probed_made i r o c e).0 y)
-    go e c m false y = (each e c m).1 (λ D. clash ((probed_made i r o c e).1 D) y)
+    go : (e c : ℕ) → e < row_count i → (b : Bool) → is_probed (task_of i r.order) c e ≡ b → occurrences c (s e) ≡ digit b
+    go e c m true y = (each e c m).0 ((probed_made i r.order o c e).0 y)
+    go e c m false y = (each e c m).1 (λ D. clash ((probed_made i r.order o c e).1 D) y)
 
 pub copy_most : CopyMost
-copy_most r i f = omega (arith, look_count_le i r 2048 f.0.0.rows_few, f.1.0.few)
+copy_most r i f = omega (arith, look_count_le i r.order 2048 f.0.0.rows_few, f.1.0.few)
 
 -- the fields written take the bytes that the word says
 written : {r : Request} {old new : List ℕ} {w : ℕ} (L : LogGives r old w new) (i : Input) → CopyKept r old i
-    → length (task_fields (task_of i r) L.sequence) ≡ copy_bytes i r
-written {r} {old} L i k = sequence_length i r (kept_order r old i k) L.sequence (kept_sequence L i k)
+    → length (task_fields (task_of i r.order) L.sequence) ≡ copy_bytes i r
+written {r} {old} L i k = sequence_length i r.order (kept_order r old i k) L.sequence (kept_sequence L i k)
 
 pub copy_further : CopyFurther
 copy_further r old new w L i k =
-    let fields : List ℕ = task_fields (task_of i r) L.sequence in
+    let fields : List ℕ = task_fields (task_of i r.order) L.sequence in
     let room = kept_room r old i k in
     rw (kept_output L i k) (
       length-append fields (drop (length fields) old) ∙ omega (arith, length-drop (length fields) old, written L i k),
@@ -77,33 +77,33 @@ module _ {r : Request} {old new : List ℕ} {w : ℕ} (L : LogGives r old w new)
   At j e p = FieldAt L.sequence (row_count i) j e p
 
   field_count : fields_before L.sequence (row_count i) ≡ looks_of i r
-  field_count = sequence_count i r (kept_order r old i k) L.sequence (kept_sequence L i k)
+  field_count = sequence_count i r.order (kept_order r old i k) L.sequence (kept_sequence L i k)
 
   field_place : (j : ℕ) → j < looks_of i r → (e : ℕ) × (p : ℕ) × At j e p
   field_place j l = field_of_lem (row_count i) j (omega (arith, field_count))
 
-  field_bytes_lem : {j e p : ℕ} → At j e p → field_bytes new j ≡ look_field e (get_or (L.sequence e) p 0) (outcome_number_at (task_of i r) e (get_or (L.sequence e) p 0))
+  field_bytes_lem : {j e p : ℕ} → At j e p → field_bytes new j ≡ look_field e (get_or (L.sequence e) p 0) (outcome_number_at (task_of i r.order) e (get_or (L.sequence e) p 0))
   field_bytes_lem {j} {e} {p} F =
       let few = k.forms.0.0.rows_few in
       rw (kept_output L i k)
-      (front_line (task_fields (task_of i r) L.sequence) old 7 (looks_of i r) j (omega (arith, written L i k)) (omega (arith, field_count, field_before F))
-      ∙ log_cut (outcome_number_at (task_of i r)) (row_count i) F
-      ∙ field_plain e (get_or (L.sequence e) p 0) (outcome_number_at (task_of i r) e (get_or (L.sequence e) p 0)) (omega (arith, F.inside)))
+      (front_line (task_fields (task_of i r.order) L.sequence) old 7 (looks_of i r) j (omega (arith, written L i k)) (omega (arith, field_count, field_before F))
+      ∙ log_cut (outcome_number_at (task_of i r.order)) (row_count i) F
+      ∙ field_plain e (get_or (L.sequence e) p 0) (outcome_number_at (task_of i r.order) e (get_or (L.sequence e) p 0)) (omega (arith, F.inside)))
 
 pub copy_field_there : CopyFieldThere
 copy_field_there r old new w L i k e c o = (to, from)
   where
     to : (j : ℕ) × (j < looks_of i r) × (field_bytes new j ≡ look_field e c o)
-        → (e < row_count i) × LookMade i r e c × (o ≡ outcome_number (outcome i.catalogue (predicate_at i.query c) e))
+        → (e < row_count i) × LookMade i r.order e c × (o ≡ outcome_number (outcome i.catalogue (predicate_at i.query c) e))
     to (j, l, h) =
         let (e', p, F) = field_place L i k j l in
         let same = field_parts e e' (sym h ∙ field_bytes_lem L i k F) in
-        rw (same.0, same.1) (F.inside, place_made i r (kept_order r old i k) L.sequence (kept_sequence L i k) F.inside F.within, same.2)
+        rw (same.0, same.1) (F.inside, place_made i r.order (kept_order r old i k) L.sequence (kept_sequence L i k) F.inside F.within, same.2)
 
-    from : (e < row_count i) × LookMade i r e c × (o ≡ outcome_number (outcome i.catalogue (predicate_at i.query c) e))
+    from : (e < row_count i) × LookMade i r.order e c × (o ≡ outcome_number (outcome i.catalogue (predicate_at i.query c) e))
         → (j : ℕ) × (j < looks_of i r) × (field_bytes new j ≡ look_field e c o)
     from (m, D, h) =
-        let (p, l, q) = made_place i r (kept_order r old i k) L.sequence (kept_sequence L i k) m D in
+        let (p, l, q) = made_place i r.order (kept_order r old i k) L.sequence (kept_sequence L i k) m D in
         let F : At L i k (fields_before L.sequence e + p) e p = record { inside = m; within = l; place = refl } in
         (fields_before L.sequence e + p, omega (arith, field_count L i k, field_before F), field_bytes_lem L i k F ∙ rw (q, h))
 
@@ -119,7 +119,7 @@ copy_field_once r old new w L i k = (some, alone)
     some : (j : ℕ) → j < looks_of i r → (e : ℕ) × (c : ℕ) × (o : ℕ) × (field_bytes new j ≡ look_field e c o)
     some j l =
         let (e, p, F) = field_place L i k j l in
-        (e, get_or (L.sequence e) p 0, outcome_number_at (task_of i r) e (get_or (L.sequence e) p 0), field_bytes_lem L i k F)
+        (e, get_or (L.sequence e) p 0, outcome_number_at (task_of i r.order) e (get_or (L.sequence e) p 0), field_bytes_lem L i k F)
 
     alone : (j j' : ℕ) → j < looks_of i r → j' < looks_of i r → field_bytes new j ≡ field_bytes new j' → j ≡ j'
     alone j j' l l' h =
@@ -127,7 +127,7 @@ copy_field_once r old new w L i k = (some, alone)
         let (e', p', G) = field_place L i k j' l' in
         let same = field_parts e e' (sym (field_bytes_lem L i k F) ∙ h ∙ field_bytes_lem L i k G) in
         let q : p ≡ p' =
-        place_alone i r (kept_order r old i k) L.sequence (kept_sequence L i k) F.inside F.within (rw same.0 G.within) (same.1 ∙ rw same.0) in
+        place_alone i r.order (kept_order r old i k) L.sequence (kept_sequence L i k) F.inside F.within (rw same.0 G.within) (same.1 ∙ rw same.0) in
         omega (arith, F.place, G.place, ap (fields_before L.sequence) same.0)
 
 pub copy_ascends : CopyAscends

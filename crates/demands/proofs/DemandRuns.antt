@@ -4,7 +4,7 @@ use native.Mathlib.Omega.{arith}
 use mathlib.Core.Path.{◌≡◌, refl, ap, ◌∙◌}
 use mathlib.Core.Bool.{Bool, true}
 use mathlib.Core.Logic.{◌↔◌, ◌⊎◌}
-use mathlib.Core.List.{List, ◌++◌}
+use mathlib.Core.List.{List}
 use lib.ListN.{length}
 use lib.Dec.{eqb, ltb, leb}
 use Rattle.bools.specs.Bools.{both, and_parts, eqb_eq, eqb_self, leb_yes, leb_le, ltb_yes, ltb_lt}
@@ -13,10 +13,8 @@ use Rattle.bitmaps.specs.Bitmap.{bytes_for}
 use Rattle.task.specs.Task.{is_selected}
 use Rattle.task.specs.Input.{Input}
 use Rattle.answers.specs.declared.word.Answer.TheVariants.{Refused, Accepted}
-use Rattle.answers.specs.Checks.{Checks}
-use Rattle.demands.specs.Sentences.{Sentences}
-use Rattle.demands.specs.Run.{Request, Lent, row_count, predicate_count, task_of, found_count, look_count, reader_limit, rights_size, counter_at, tables_fit, tally_fits, reader_checks, tally_checks, run_checks, accept, refuse, run_on, run_of}
-use Rattle.demands.specs.Demands.{Gives, InBytes, after, RunningOrder, TablesFit, IsReader, IsRights, TallyFits, bad_form, bad_check, reader_sentences, tally_sentences, run_sentences, Kept, FirstBroken}
+use Rattle.demands.specs.Run.{Lent, row_count, predicate_count, task_of, found_count, look_count, reader_limit, counter_at, tables_fit, tally_fits, run_checks, accept, refuse, run_on, run_of}
+use Rattle.demands.specs.Demands.{Gives, InBytes, after, RunningOrder, TablesFit, IsReader, TallyFits, bad_form, bad_check, run_sentences, Kept, FirstBroken}
 use Rattle.demands.proofs.DemandLaws.{reads_input, broken_input, unpacked}
 use Rattle.demands.proofs.SentenceLaws.{Tests, none_fails, first_fails}
 use Rattle.demands.proofs.CallLaws.{call_cases, breaks_number}
@@ -39,19 +37,13 @@ module _ (i : Input) (listed looks : List ℕ) where
 pub reader_test : (reader : ℕ) → (ltb reader reader_limit ≡ true) ↔ IsReader reader
 reader_test reader = (λ h. omega (arith, ltb_lt reader reader_limit h), λ h. ltb_yes reader reader_limit (omega arith))
 
-pub rights_test : (rights : List ℕ) → (eqb (length rights) rights_size ≡ true) ↔ IsRights rights
-rights_test rights = (λ h. eqb_eq (length rights) 32 h, λ h. ap (λ (k : ℕ). eqb k 32) h ∙ eqb_self 32)
-
-tally_test : (i : Input) (r : Request) (tally : List ℕ) → (tally_fits tally r.reader (look_count (task_of i r)) ≡ true) ↔ TallyFits i r tally
-tally_test i r tally = (
-  λ h. let p = and_parts (eqb (length tally) 128) (ltb (counter_at tally r.reader + look_count (task_of i r)) (2 ^ 64)) h in
-      (eqb_eq (length tally) 128 p.0, ltb_lt (counter_at tally r.reader + look_count (task_of i r)) (2 ^ 64) p.1),
-  λ t. both (ap (λ (k : ℕ). eqb k 128) t.0 ∙ eqb_self 128) (ltb_yes (counter_at tally r.reader + look_count (task_of i r)) (2 ^ 64) t.1),
-)
-
--- order 7's and order 8's, of a run and of a copy, before what comes after them
-pub reader_tests : (r : Request) (ts : Checks) (ss : Sentences) → Tests ts ss → Tests (reader_checks r.reader (length r.rights) ++ ts) (reader_sentences r ++ ss)
-reader_tests r ts ss rest = ((refl, reader_test r.reader), ((refl, rights_test r.rights), rest))
+module _ (i : Input) (order : List ℕ) (reader : ℕ) (tally : List ℕ) where
+  tally_test : (tally_fits tally reader (look_count (task_of i order)) ≡ true) ↔ TallyFits i order reader tally
+  tally_test = (
+    λ h. let p = and_parts (eqb (length tally) 128) (ltb (counter_at tally reader + look_count (task_of i order)) (2 ^ 64)) h in
+        (eqb_eq (length tally) 128 p.0, ltb_lt (counter_at tally reader + look_count (task_of i order)) (2 ^ 64) p.1),
+    λ t. both (ap (λ (k : ℕ). eqb k 128) t.0 ∙ eqb_self 128) (ltb_yes (counter_at tally reader + look_count (task_of i order)) (2 ^ 64) t.1),
+  )
 
 module _ (l : Lent) where
   run_tests : (i : Input) → Tests (run_checks i l) (run_sentences l i)
@@ -59,8 +51,7 @@ module _ (l : Lent) where
     (refl, order_plain (predicate_count i) l.request.order),
     (
       (refl, (tables_fit_lem i l.listed l.looks, tables_yes i l.listed l.looks)),
-      reader_tests l.request (tally_checks l.tally l.request.reader (look_count (task_of i l.request))) (tally_sentences l i)
-          ((refl, tally_test i l.request l.tally), tt),
+      ((refl, reader_test l.reader), ((refl, tally_test i l.request.order l.reader l.tally), tt)),
     ),
   )
 
@@ -68,13 +59,13 @@ module _ (l : Lent) where
   pub kept_order : (i : Input) → Kept l i → RunningOrder i l.request.order
   kept_order i k = k.checks.0
 
-  pub kept_reader : (i : Input) → Kept l i → IsReader l.request.reader
+  pub kept_reader : (i : Input) → Kept l i → IsReader l.reader
   kept_reader i k = k.checks.1.1.0
 
-  pub kept_tally : (i : Input) → Kept l i → TallyFits i l.request l.tally
-  kept_tally i k = k.checks.1.1.1.1.0
+  pub kept_tally : (i : Input) → Kept l i → TallyFits i l.request.order l.reader l.tally
+  kept_tally i k = k.checks.1.1.1.0
 
-  pub kept_run : (i : Input) → Kept l i → after l ≡ accept (task_of i l.request) l
+  pub kept_run : (i : Input) → Kept l i → after l ≡ accept (task_of i l.request.order) l
   unfolding run_of run_on
   kept_run i k =
       rw (reads_input l.request.catalogue l.request.question i k.forms)
@@ -89,7 +80,7 @@ module _ (l : Lent) where
 
   pub broken_number : (e : ℕ) → FirstBroken l e → IsRefusal e
   broken_number e x =
-      breaks_number l.request.catalogue l.request.question (run_sentences l) (λ i. (omega arith, (omega arith, (omega arith, (omega arith, (omega arith, tt)))))) e x
+      breaks_number l.request.catalogue l.request.question (run_sentences l) (λ i. (omega arith, (omega arith, (omega arith, (omega arith, tt))))) e x
 
   -- nothing is broken, or there is a first check that fails
   abbrev pub Cases : Type 0
@@ -102,9 +93,9 @@ module _ (l : Lent) where
   pub broken_gives : (e : ℕ) → FirstBroken l e → Gives (after l).word e 0 0 0
   broken_gives e x = rw (broken_run e x) (let r = broken_number e x in unpacked (Refused e) (omega arith))
 
-  pub kept_gives : (i : Input) → Kept l i → Gives (after l).word 0 (found_count (task_of i l.request)) 0 (look_count (task_of i l.request))
+  pub kept_gives : (i : Input) → Kept l i → Gives (after l).word 0 (found_count (task_of i l.request.order)) 0 (look_count (task_of i l.request.order))
   kept_gives i k =
       let C = k.forms.0.0 in
       let Q = k.forms.1.0 in
-      rw (kept_run i k) (unpacked (Accepted (found_count (task_of i l.request)) 0 (look_count (task_of i l.request)))
-      (omega (arith, found_count_lem i l.request, count_le (is_selected (task_of i l.request)) (row_count i), look_count_le i l.request 2048 C.rows_few, C.rows_few, Q.few)))
+      rw (kept_run i k) (unpacked (Accepted (found_count (task_of i l.request.order)) 0 (look_count (task_of i l.request.order)))
+      (omega (arith, found_count_lem i l.request.order, count_le (is_selected (task_of i l.request.order)) (row_count i), look_count_le i l.request.order 2048 C.rows_few, C.rows_few, Q.few)))

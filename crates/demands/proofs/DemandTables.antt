@@ -17,8 +17,6 @@ use Rattle.strategy.specs.OrderLaws.{all_below_gives, all_below_of, order_law}
 use Rattle.strategy.specs.Strategy.{State, Due, predicates}
 use Rattle.strategy.specs.Trace.{trace}
 use Rattle.strategy.specs.TraceLaws.{trace_among, trace_once, trace_due}
-use Rattle.closed.specs.Closed.{as_no}
-use Rattle.closed.specs.ClosedLaws.{open_among, open_once}
 use Rattle.bitmaps.specs.Sums.{sum_of, digit, count_of}
 use Rattle.bitmaps.specs.SumLaws.{sum_same, sum_added, sum_zero, count_same}
 use Rattle.fields.specs.Output.{put_front}
@@ -30,8 +28,8 @@ use Rattle.catalogue.specs.Catalogue.{is_withdrawn}
 use Rattle.task.specs.Task.{is_selected, due_at, trace_at, is_probed}
 use Rattle.task.proofs.Withdrawn.{probed_is}
 use Rattle.task.specs.Input.{Input}
-use Rattle.demands.specs.Run.{Request, row_count, predicate_count, task_of, selection, probe_bitmaps, found_count, look_count}
-use Rattle.demands.specs.Demands.{RunningOrder, Present, if_present, pattern, tree_value, closed_to, open_turns, LookDue, LookMade, LineOf, listed_line, looks_line}
+use Rattle.demands.specs.Run.{row_count, predicate_count, task_of, selection, probe_bitmaps, found_count, look_count}
+use Rattle.demands.specs.Demands.{RunningOrder, Present, if_present, pattern, tree_value, LookDue, LookMade, LineOf, listed_line, looks_line}
 
 -- SUMS
 
@@ -132,121 +130,106 @@ split c [] m = absurd m
 split c (d ∷ ds) (inl e) = ([], ds, rw e)
 split c (d ∷ ds) (inr m) = let s = split c ds m in (d ∷ s.0, s.1, ap (λ (l : List ℕ). d ∷ l) s.2)
 
--- the looks due on a pattern, with their outcomes
-abbrev pub look_trace : Input → Request → Assignment → State
-look_trace i r a = trace (tree_value i) (as_no (closed_to i r) a) (open_turns i r)
-
-module _ (i : Input) (r : Request) (o : RunningOrder i r.order) where
-  pub held : Order (predicate_count i) r.order
-  held = (order_law (predicate_count i) r.order).0 ((order_plain (predicate_count i) r.order).1 o)
-
-  turns_once : Once (open_turns i r)
-  turns_once = open_once (closed_to i r) r.order held.once
+module _ (i : Input) (order : List ℕ) (o : RunningOrder i order) where
+  pub held : Order (predicate_count i) order
+  held = (order_law (predicate_count i) order).0 ((order_plain (predicate_count i) order).1 o)
 
   -- the trace holds what is due, as the plain sentence says
-  pub traced_due : (a : Assignment) (c : ℕ) → Among c (predicates (look_trace i r a)) ↔ LookDue i r a c
+  pub traced_due : (a : Assignment) (c : ℕ) → Among c (predicates (trace (tree_value i) a order)) ↔ LookDue i order a c
   traced_due a c = (to, from)
     where
-      told : Assignment
-      told = as_no (closed_to i r) a
-
-      at : (earlier later : List ℕ) → open_turns i r ≡ earlier ++ (c ∷ later) → Among c (predicates (look_trace i r a)) ↔ Due (tree_value i) c later told
+      at : (earlier later : List ℕ) → order ≡ earlier ++ (c ∷ later) → Among c (predicates (trace (tree_value i) a order)) ↔ Due (tree_value i) c later a
       at earlier later e =
-          let law = trace_due (tree_value i) told earlier c later (subst Once e turns_once) in (
-            λ m. law.0 (subst (λ (l : List ℕ). Among c (predicates (trace (tree_value i) told l))) e m),
-            λ D. subst (λ (l : List ℕ). Among c (predicates (trace (tree_value i) told l))) (sym e) (law.1 D),
+          let law = trace_due (tree_value i) a earlier c later (subst Once e held.once) in (
+            λ m. law.0 (subst (λ (l : List ℕ). Among c (predicates (trace (tree_value i) a l))) e m),
+            λ D. subst (λ (l : List ℕ). Among c (predicates (trace (tree_value i) a l))) (sym e) (law.1 D),
           )
 
-      to : Among c (predicates (look_trace i r a)) → LookDue i r a c
+      to : Among c (predicates (trace (tree_value i) a order)) → LookDue i order a c
       to m =
-          let s = split c (open_turns i r) (trace_among (tree_value i) told (open_turns i r) c m) in
+          let s = split c order (trace_among (tree_value i) a order c m) in
           (s.0, s.1, s.2, (at s.0 s.1 s.2).0 m)
 
-      from : LookDue i r a c → Among c (predicates (look_trace i r a))
+      from : LookDue i order a c → Among c (predicates (trace (tree_value i) a order))
       from D = (at D.0 D.1 D.2).1 D.3
 
-  -- a look is at an open condition of the question
-  traced_open : (a : Assignment) (c : ℕ) → Among c (predicates (look_trace i r a)) → (c < predicate_count i) × (closed_to i r c ≡ false)
-  traced_open a c m =
-      let p = open_among (closed_to i r) r.order c (trace_among (tree_value i) (as_no (closed_to i r) a) (open_turns i r) c m) in
-      (held.inside c p.0, p.1)
+  traced_inside : (a : Assignment) (c : ℕ) → Among c (predicates (trace (tree_value i) a order)) → c < predicate_count i
+  traced_inside a c m = held.inside c (trace_among (tree_value i) a order c m)
 
   -- a look that is made is due, at an entry in the house
-  probed_traced : (c e : ℕ) → is_probed (task_of i r) c e ≡ true → Present i e × Among c (predicates (look_trace i r (pattern i e)))
+  probed_traced : (c e : ℕ) → is_probed (task_of i order) c e ≡ true → Present i e × Among c (predicates (trace (tree_value i) (pattern i e) order))
   unfolding due_at
   probed_traced c e x =
-      let p = and_parts (not (is_withdrawn i.catalogue e)) (elem c (predicates (due_at (task_of i r) e))) (sym (probed_is (task_of i r) e c) ∙ x) in
-      (not_of_true (is_withdrawn i.catalogue e) p.0, elem_among c (predicates (due_at (task_of i r) e)) p.1)
+      let p = and_parts (not (is_withdrawn i.catalogue e)) (elem c (predicates (due_at (task_of i order) e))) (sym (probed_is (task_of i order) e c) ∙ x) in
+      (not_of_true (is_withdrawn i.catalogue e) p.0, elem_among c (predicates (due_at (task_of i order) e)) p.1)
 
-  pub probed_open : (c e : ℕ) → is_probed (task_of i r) c e ≡ true → (c < predicate_count i) × (closed_to i r c ≡ false)
-  probed_open c e x = traced_open (pattern i e) c (probed_traced c e x).1
+  pub probed_inside : (c e : ℕ) → is_probed (task_of i order) c e ≡ true → c < predicate_count i
+  probed_inside c e x = traced_inside (pattern i e) c (probed_traced c e x).1
 
-  pub probed_made : (c e : ℕ) → (is_probed (task_of i r) c e ≡ true) ↔ LookMade i r e c
+  pub probed_made : (c e : ℕ) → (is_probed (task_of i order) c e ≡ true) ↔ LookMade i order e c
   unfolding due_at
   probed_made c e = (
     λ x. let p = probed_traced c e x in (p.0, (traced_due (pattern i e) c).0 p.1),
-    λ (h, D). rw (probed_is (task_of i r) e c, h) (elem_yes c (predicates (due_at (task_of i r) e)) ((traced_due (pattern i e) c).1 D)),
+    λ (h, D). rw (probed_is (task_of i order) e c, h) (elem_yes c (predicates (due_at (task_of i order) e)) ((traced_due (pattern i e) c).1 D)),
   )
 
   -- how many looks a row has
-  pub probed_count : (e : ℕ) → count_of (λ c. is_probed (task_of i r) c e) (predicate_count i) ≡ if_present i e (length (predicates (look_trace i r (pattern i e))))
+  pub probed_count : (e : ℕ) → count_of (λ c. is_probed (task_of i order) c e) (predicate_count i) ≡ if_present i e (length (predicates (trace (tree_value i) (pattern i e) order)))
   unfolding trace_at due_at predicates elem
   probed_count e = go (is_withdrawn i.catalogue e)
     where
       all : State
-      all = look_trace i r (pattern i e)
+      all = trace (tree_value i) (pattern i e) order
 
       go : (w : Bool) → count_of (λ c. elem c (predicates (cond w [] all))) (predicate_count i) ≡ cond w 0 (length (predicates all))
       go true = sum_zero (λ c. 0) (predicate_count i) (λ c l. refl)
-      go false =
-          count_elem (predicates all) (predicate_count i) (trace_once (tree_value i) (as_no (closed_to i r) (pattern i e)) (open_turns i r) turns_once)
-          (λ c m. (traced_open (pattern i e) c m).0)
+      go false = count_elem (predicates all) (predicate_count i) (trace_once (tree_value i) (pattern i e) order held.once) (traced_inside (pattern i e))
 
 -- COUNTS
 
-module _ (i : Input) (r : Request) where
-  pub found_count_lem : found_count (task_of i r) ≡ count_of (is_selected (task_of i r)) (row_count i)
+module _ (i : Input) (order : List ℕ) where
+  pub found_count_lem : found_count (task_of i order) ≡ count_of (is_selected (task_of i order)) (row_count i)
   unfolding selection
-  found_count_lem = bitmap_ones (is_selected (task_of i r)) (row_count i)
+  found_count_lem = bitmap_ones (is_selected (task_of i order)) (row_count i)
 
-  pub look_count_lem : look_count (task_of i r) ≡ sum_of (λ c. count_of (is_probed (task_of i r) c) (row_count i)) (predicate_count i)
+  pub look_count_lem : look_count (task_of i order) ≡ sum_of (λ c. count_of (is_probed (task_of i order) c) (row_count i)) (predicate_count i)
   unfolding probe_bitmaps
-  look_count_lem = bitmaps_ones (is_probed (task_of i r)) (predicate_count i) (row_count i)
+  look_count_lem = bitmaps_ones (is_probed (task_of i order)) (predicate_count i) (row_count i)
 
-  pub look_count_le : (m : ℕ) → row_count i ≤ m → look_count (task_of i r) ≤ predicate_count i * m
+  pub look_count_le : (m : ℕ) → row_count i ≤ m → look_count (task_of i order) ≤ predicate_count i * m
   look_count_le m h =
       subst (λ (x : ℕ). x ≤ predicate_count i * m) (sym look_count_lem)
-      (sum_most (λ c. count_of (is_probed (task_of i r) c) (row_count i)) m (predicate_count i)
-      (λ c. omega (arith, count_le (is_probed (task_of i r) c) (row_count i))))
+      (sum_most (λ c. count_of (is_probed (task_of i order) c) (row_count i)) m (predicate_count i)
+      (λ c. omega (arith, count_le (is_probed (task_of i order) c) (row_count i))))
 
   -- the same row by row
-  pub look_count_across : look_count (task_of i r) ≡ sum_of (λ e. count_of (λ c. is_probed (task_of i r) c e) (predicate_count i)) (row_count i)
-  look_count_across = look_count_lem ∙ sum_swap (λ c e. digit (is_probed (task_of i r) c e)) (predicate_count i) (row_count i)
+  pub look_count_across : look_count (task_of i order) ≡ sum_of (λ e. count_of (λ c. is_probed (task_of i order) c e) (predicate_count i)) (row_count i)
+  look_count_across = look_count_lem ∙ sum_swap (λ c e. digit (is_probed (task_of i order) c e)) (predicate_count i) (row_count i)
 
-  pub look_count_rows : RunningOrder i r.order → look_count (task_of i r) ≡ sum_of (λ e. if_present i e (length (predicates (look_trace i r (pattern i e))))) (row_count i)
+  pub look_count_rows : RunningOrder i order → look_count (task_of i order) ≡ sum_of (λ e. if_present i e (length (predicates (trace (tree_value i) (pattern i e) order)))) (row_count i)
   look_count_rows o =
       look_count_across
-      ∙ sum_same (λ e. count_of (λ c. is_probed (task_of i r) c e) (predicate_count i)) (λ e. if_present i e (length (predicates (look_trace i r (pattern i e))))) (row_count i)
-      (λ e l. probed_count i r o e)
+      ∙ sum_same (λ e. count_of (λ c. is_probed (task_of i order) c e) (predicate_count i)) (λ e. if_present i e (length (predicates (trace (tree_value i) (pattern i e) order)))) (row_count i)
+      (λ e l. probed_count i order o e)
 
 -- THE LENT TABLES AFTERWARDS
 
-module _ (i : Input) (r : Request) where
-  pub selection_length : length (selection (task_of i r)) ≡ bytes_for (row_count i)
+module _ (i : Input) (order : List ℕ) where
+  pub selection_length : length (selection (task_of i order)) ≡ bytes_for (row_count i)
   unfolding selection
   selection_length = bitmap_length _ (row_count i)
 
-  pub listed_line_lem : (listed : List ℕ) → listed_line i (put_front (selection (task_of i r)) listed) ≡ bitmap (is_selected (task_of i r)) (row_count i)
+  pub listed_line_lem : (listed : List ℕ) → listed_line i (put_front (selection (task_of i order)) listed) ≡ bitmap (is_selected (task_of i order)) (row_count i)
   unfolding selection
-  listed_line_lem listed = front_new (selection (task_of i r)) listed (bytes_for (row_count i)) selection_length
+  listed_line_lem listed = front_new (selection (task_of i order)) listed (bytes_for (row_count i)) selection_length
 
-  pub probe_bitmaps_length : length (probe_bitmaps (task_of i r)) ≡ predicate_count i * bytes_for (row_count i)
+  pub probe_bitmaps_length : length (probe_bitmaps (task_of i order)) ≡ predicate_count i * bytes_for (row_count i)
   unfolding probe_bitmaps
   probe_bitmaps_length = bitmaps_length _ (predicate_count i) (row_count i)
 
   pub looks_line_lem : (looks : List ℕ) (c : ℕ) → c < predicate_count i
-      → looks_line i (put_front (probe_bitmaps (task_of i r)) looks) c ≡ bitmap (is_probed (task_of i r) c) (row_count i)
+      → looks_line i (put_front (probe_bitmaps (task_of i order)) looks) c ≡ bitmap (is_probed (task_of i order) c) (row_count i)
   unfolding probe_bitmaps
   looks_line_lem looks c l =
-      front_line (probe_bitmaps (task_of i r)) looks (bytes_for (row_count i)) (predicate_count i) c probe_bitmaps_length l
-      ∙ bitmaps_line (is_probed (task_of i r)) (predicate_count i) (row_count i) c l
+      front_line (probe_bitmaps (task_of i order)) looks (bytes_for (row_count i)) (predicate_count i) c probe_bitmaps_length l
+      ∙ bitmaps_line (is_probed (task_of i order)) (predicate_count i) (row_count i) c l

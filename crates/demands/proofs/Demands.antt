@@ -4,7 +4,7 @@ use native.Mathlib.Nat.{mul_comm}
 use native.Mathlib.Omega.{arith}
 use mathlib.Core.Path.{◌≡◌, refl, sym, ap, ◌∙◌, subst}
 use mathlib.Core.Bool.{Bool, true, false, ◌&&◌, cond}
-use mathlib.Core.Logic.{◌↔◌, ◌⊎◌, inl, inr}
+use mathlib.Core.Logic.{◌⊎◌, inl, inr}
 use mathlib.Core.List.{List, [], ◌∷◌}
 use lib.ListN.{length, take}
 use lib.Seq.{take_at}
@@ -36,19 +36,20 @@ use Rattle.query.proofs.FrontToBack.{question_cut, question_whole, question_walk
 use Rattle.predicate.specs.Meaning.{Predicate, outcome_of, outcome}
 use Rattle.predicate.specs.Outcome.{is_blank}
 use Rattle.predicate.specs.Payload.{tags_of, valid_payload, predicate_of}
-use Rattle.bools.specs.Bools.{which, clash, and_right, not_true, and_parts, ltb_yes, ltb_lt, ltb_le}
+use Rattle.bools.specs.Bools.{which, not_true, and_parts, ltb_yes, ltb_lt, ltb_le}
 use Rattle.strategy.specs.Assignment.{Assignment, Among}
-use Rattle.strategy.specs.Tree.{eval}
+use Rattle.strategy.specs.Tree.{eval, size}
 use Rattle.strategy.specs.TreeLaws.{all_none, all_more, any_none, any_more}
-use Rattle.strategy.specs.Strategy.{Strategy, State, final_state, predicates, probes}
-use Rattle.strategy.specs.ReadsOnly.{ReadsOnly}
-use Rattle.strategy.specs.QueryLaws.{query_reads}
-use Rattle.closed.specs.Closed.{Passes, RightFor}
-use Rattle.closed.specs.ClosedLaws.{every_choice, closing_more, optimal_open, optimal_open_count, ours_closed, ours_due, ours_answers, ours_open, ours_right_open}
+use Rattle.strategy.specs.Order.{is_order}
+use Rattle.strategy.specs.Strategy.{Strategy, State, Right, final_state, predicates, probes}
+use Rattle.strategy.specs.Trace.{trace}
+use Rattle.strategy.specs.Ours.{ours}
+use Rattle.strategy.specs.OursLaws.{ours_rule}
+use Rattle.strategy.specs.Optimality.{optimal, optimal_count}
+use Rattle.strategy.specs.QueryLaws.{query_ours, query_right}
 use Rattle.bitmaps.specs.Sums.{sum_of, count_of}
 use Rattle.bitmaps.specs.SumLaws.{sum_same}
 use Rattle.bitmaps.specs.Bit.{bit}
-use Rattle.bitmaps.specs.BitmapLaws.{bitmap_bit}
 use Rattle.task.specs.Task.{predicate_at, is_selected, is_probed}
 use Rattle.task.specs.Input.{Input, with_query, decode_input}
 use Rattle.task.proofs.Withdrawn.{selected_is}
@@ -57,13 +58,13 @@ use Rattle.answers.specs.Refusals.{no_such_row_or_predicate}
 use Rattle.answers.specs.Word.{packed}
 use Rattle.answers.specs.Answers.{question_answer, outcome_number, outcome_answer}
 use Rattle.answers.proofs.Outcomes.{outcome_small}
-use Rattle.demands.specs.Run.{Request, Lent, row_count, predicate_count, task_of, selection, probe_bitmaps, found_count, look_count, counter_at, tally_after}
-use Rattle.demands.specs.Demands.{after, Reads, Keeps, Breaks, bad_form, bad_check, outcome_sentences, RunningOrder, line_bytes, counter_bytes, Kept, FirstBroken, Present, if_present, pattern, tree_value, closed_to, Listed, our_way, LineOf, listed_line, looks_line}
+use Rattle.demands.specs.Run.{Lent, row_count, predicate_count, task_of, selection, probe_bitmaps, found_count, look_count, counter_at, tally_after}
+use Rattle.demands.specs.Demands.{after, Reads, Keeps, Breaks, bad_form, bad_check, outcome_sentences, RunningOrder, line_bytes, counter_bytes, Kept, FirstBroken, Present, if_present, pattern, tree_value, LineOf, listed_line, looks_line}
 use Rattle.demands.specs.Demands.{Demand1CatalogueForm, Demand1QuestionForm, Demand1Payload, Demand1FormsWritten, Demand1WrittenOnce, Demand1Mark, Demand1AfterColumns, Demand1FrontToBack, Demand1AfterQuestion, Demand1QuestionField, Demand1QuestionWalk, Demand1Number, Demand1Refused, Demand1Accepted, Demand1Limits, Demand1Catalogue, Demand1Question, Demand1Outcome}
-use Rattle.demands.specs.Demands.{Gives, outcome_word, Reads, condition_of, Demand2Blank, Demand2AsNo, Demand2Opposite, Demand2AsBefore, Demand2Tree, Demand2Listed, Demand2Looks, Demand2TakenAsNo, Demand2Closed, Demand2MoreClosed, Demand2Withdrawn, Demand2Further, Demand2Counts, Demand2Tally, Demand2OtherReaders, Demand3, Demand3Ours, Demand3OursRule, Demand3Count, Demand3Run}
+use Rattle.demands.specs.Demands.{Gives, outcome_word, Reads, condition_of, Demand2Blank, Demand2AsNo, Demand2Opposite, Demand2AsBefore, Demand2Tree, Demand2Listed, Demand2Looks, Demand2Withdrawn, Demand2Further, Demand2Counts, Demand2Tally, Demand2OtherReaders, Demand3, Demand3Ours, Demand3OursRule, Demand3Count, Demand3Run}
 use Rattle.demands.proofs.AfterColumns.{after_other, after_cut, after_bad, after_more, after_mark}
 use Rattle.demands.proofs.DemandLaws.{catalogue_range, is_catalogue, is_question, reads_input, broken_input, broken_range, unpacked}
-use Rattle.demands.proofs.DemandTables.{sum_le, line_of, line_count, front_old, order_plain, look_trace, held, traced_due, probed_open, probed_made, found_count_lem, look_count_lem, look_count_le, look_count_rows, selection_length, listed_line_lem, probe_bitmaps_length, looks_line_lem}
+use Rattle.demands.proofs.DemandTables.{sum_le, line_of, line_count, front_old, order_plain, held, traced_due, probed_made, found_count_lem, look_count_lem, look_count_le, look_count_rows, selection_length, listed_line_lem, probe_bitmaps_length, looks_line_lem}
 use Rattle.demands.proofs.DemandBlanks.{yes_number, blank_answer, blank_at, opposite_of, blank_false, other_opposite}
 use Rattle.demands.proofs.DemandRuns.{Cases, kept_order, kept_reader, kept_tally, kept_run, broken_run, broken_number, run_cases, broken_gives, kept_gives}
 
@@ -244,33 +245,15 @@ unfolding eval
 demand_2_tree a = (λ c. refl, all_none a, all_more a, any_none a, any_more a)
 
 pub demand_2_listed : Demand2Listed
-demand_2_listed l i k = rw (kept_run l i k, listed_line_lem i l.request l.listed) (line_of (Listed i l.request) (is_selected (task_of i l.request)) (row_count i) holds)
-  where
-    holds : (e : ℕ) → (is_selected (task_of i l.request) e ≡ true) ↔ Listed i l.request e
-    holds e =
-        let choice = every_choice i.query.tree (closed_to i l.request) (pattern i e) in
-        let selected = selected_is (task_of i l.request) e in
-        (λ x. let (h, t) = selected.0 x in (h, choice.0 t), λ (h, t). selected.1 (h, choice.1 t))
+demand_2_listed l i k =
+    rw (kept_run l i k, listed_line_lem i l.request.order l.listed)
+    (line_of (λ e. Present i e × (tree_value i (pattern i e) ≡ true)) (is_selected (task_of i l.request.order)) (row_count i)
+    (selected_is (task_of i l.request.order)))
 
 pub demand_2_looks : Demand2Looks
 demand_2_looks l i k c m =
-    rw (kept_run l i k, looks_line_lem i l.request l.looks c m)
-    (line_of _ (is_probed (task_of i l.request) c) (row_count i) (λ e. probed_made i l.request (kept_order l i k) c e))
-
-pub demand_2_taken_as_no : Demand2TakenAsNo
-demand_2_taken_as_no i r a = let choice = every_choice i.query.tree (closed_to i r) a in (choice.1, choice.0)
-
-pub demand_2_closed : Demand2Closed
-demand_2_closed l i k c m y e =
-    rw (kept_run l i k, looks_line_lem i l.request l.looks c m, bitmap_bit (is_probed (task_of i l.request) c) (row_count i) e)
-    (not_true (ltb e (row_count i) && is_probed (task_of i l.request) c e) (λ h.
-    clash y (probed_open i l.request (kept_order l i k) c e (and_right (ltb e (row_count i)) (is_probed (task_of i l.request) c e) h)).1))
-
-pub demand_2_more_closed : Demand2MoreClosed
-demand_2_more_closed l m i k n more e x h =
-    let (p, q) = ((demand_2_listed m i n).bits e x).0 h in
-    ((demand_2_listed l i k).bits e x).1
-    (p, closing_more i.query.tree (closed_to i l.request) (pattern i e) (closed_to i m.request) (λ c y. more (condition_of i c).column y) q)
+    rw (kept_run l i k, looks_line_lem i l.request.order l.looks c m)
+    (line_of _ (is_probed (task_of i l.request.order) c) (row_count i) (λ e. probed_made i l.request.order (kept_order l i k) c e))
 
 pub demand_2_withdrawn : Demand2Withdrawn
 demand_2_withdrawn l i k e m n = (
@@ -281,22 +264,22 @@ demand_2_withdrawn l i k e m n = (
 pub demand_2_counts : Demand2Counts
 demand_2_counts l i k = rw (← found, ← looked) (kept_gives l i k)
   where
-    found : found_count (task_of i l.request) ≡ count_of (bit (listed_line i (after l).listed)) (row_count i)
-    found = rw (kept_run l i k, listed_line_lem i l.request l.listed) (found_count_lem i l.request ∙ sym (line_count (is_selected (task_of i l.request)) (row_count i)))
+    found : found_count (task_of i l.request.order) ≡ count_of (bit (listed_line i (after l).listed)) (row_count i)
+    found = rw (kept_run l i k, listed_line_lem i l.request.order l.listed) (found_count_lem i l.request.order ∙ sym (line_count (is_selected (task_of i l.request.order)) (row_count i)))
 
-    looked : look_count (task_of i l.request) ≡ sum_of (λ c. count_of (bit (looks_line i (after l).looks c)) (row_count i)) (predicate_count i)
+    looked : look_count (task_of i l.request.order) ≡ sum_of (λ c. count_of (bit (looks_line i (after l).looks c)) (row_count i)) (predicate_count i)
     looked =
-        look_count_lem i l.request
-        ∙ sum_same (λ c. count_of (is_probed (task_of i l.request) c) (row_count i)) (λ c. count_of (bit (looks_line i (after l).looks c)) (row_count i)) (predicate_count i)
-        (λ c m. rw (kept_run l i k, looks_line_lem i l.request l.looks c m) (sym (line_count (is_probed (task_of i l.request) c) (row_count i))))
+        look_count_lem i l.request.order
+        ∙ sum_same (λ c. count_of (is_probed (task_of i l.request.order) c) (row_count i)) (λ c. count_of (bit (looks_line i (after l).looks c)) (row_count i)) (predicate_count i)
+        (λ c m. rw (kept_run l i k, looks_line_lem i l.request.order l.looks c m) (sym (line_count (is_probed (task_of i l.request.order) c) (row_count i))))
 
 -- the tally after an accepted run: its reader's eight bytes, and all the others
 module _ (l : Lent) (i : Input) (k : Kept l i) where
   abbrev place : ℕ
-  place = l.request.reader * 8
+  place = l.reader * 8
 
   abbrev sum : ℕ
-  sum = counter_at l.tally l.request.reader + look_count (task_of i l.request)
+  sum = counter_at l.tally l.reader + look_count (task_of i l.request.order)
 
   fits : place + 8 ≤ length l.tally
   fits = omega (arith, kept_reader l i k, (kept_tally l i k).0)
@@ -304,13 +287,13 @@ module _ (l : Lent) (i : Input) (k : Kept l i) where
   inside : place ≤ length l.tally
   inside = omega (arith, fits)
 
-  its_tally : (after l).tally ≡ tally_after l.tally l.request.reader (look_count (task_of i l.request))
+  its_tally : (after l).tally ≡ tally_after l.tally l.reader (look_count (task_of i l.request.order))
   its_tally = ap (λ (s : _). s.tally) (kept_run l i k)
 
-  grown : counter_at (after l).tally l.request.reader ≡ sum
+  grown : counter_at (after l).tally l.reader ≡ sum
   grown = rw its_tally (number_put place 8 sum l.tally fits (omega (arith, (kept_tally l i k).1)))
 
-  its_bytes : counter_bytes (after l).tally l.request.reader ≡ bytes_of 8 sum
+  its_bytes : counter_bytes (after l).tally l.reader ≡ bytes_of 8 sum
   its_bytes = rw its_tally (ap (take 8) (put_there place (bytes_of 8 sum) l.tally inside) ∙ take_at (bytes_of 8 sum) _ 8 (length_bytes 8 sum))
 
   pub bytes_stay : Bytes l.tally → Bytes (after l).tally
@@ -320,15 +303,15 @@ module _ (l : Lent) (i : Input) (k : Kept l i) where
   as_long =
       wrote_length {at = place} {p = bytes_of 8 sum} {old = l.tally} (record { bytes = its_tally; place = refl }) (omega (arith, fits, length_bytes 8 sum))
 
-  others : (r : ℕ) → (r ≡ l.request.reader → ⊥) → (ltb r l.request.reader ≡ true) ⊎ (ltb r l.request.reader ≡ false) → counter_bytes (after l).tally r ≡ counter_bytes l.tally r
-  others r ne (inl h) = rw its_tally (part_before place (bytes_of 8 sum) l.tally inside (r * 8) 8 (omega (arith, ltb_lt r l.request.reader h)))
+  others : (r : ℕ) → (r ≡ l.reader → ⊥) → (ltb r l.reader ≡ true) ⊎ (ltb r l.reader ≡ false) → counter_bytes (after l).tally r ≡ counter_bytes l.tally r
+  others r ne (inl h) = rw its_tally (part_before place (bytes_of 8 sum) l.tally inside (r * 8) 8 (omega (arith, ltb_lt r l.reader h)))
   others r ne (inr h) =
-      rw its_tally (ap (take 8) (rest_behind place (bytes_of 8 sum) l.tally inside (r * 8) (omega (arith, ltb_le r l.request.reader h, length_bytes 8 sum))))
+      rw its_tally (ap (take 8) (rest_behind place (bytes_of 8 sum) l.tally inside (r * 8) (omega (arith, ltb_le r l.reader h, length_bytes 8 sum))))
 
 pub demand_2_tally : Demand2Tally
 demand_2_tally l i k = (
   (kept_gives l i k).4,
-  subst (λ (x : ℕ). look_count (task_of i l.request) ≤ x) (mul_comm (predicate_count i) (row_count i)) (look_count_le i l.request (row_count i) (omega arith)),
+  subst (λ (x : ℕ). look_count (task_of i l.request.order) ≤ x) (mul_comm (predicate_count i) (row_count i)) (look_count_le i l.request.order (row_count i) (omega arith)),
   grown l i k,
   rw (grown l i k) (its_bytes l i k),
 )
@@ -336,14 +319,14 @@ demand_2_tally l i k = (
 pub demand_2_other_readers : Demand2OtherReaders
 demand_2_other_readers l i k = (
   as_long l i k ∙ (kept_tally l i k).0,
-  λ r ne. others l i k r ne (which (ltb r l.request.reader)),
+  λ r ne. others l i k r ne (which (ltb r l.reader)),
 )
 
 pub demand_2_further : Demand2Further
 demand_2_further l i k =
     rw (kept_run l i k) (
-      front_old (selection (task_of i l.request)) l.listed (line_bytes i) (selection_length i l.request),
-      front_old (probe_bitmaps (task_of i l.request)) l.looks (predicate_count i * line_bytes i) (probe_bitmaps_length i l.request),
+      front_old (selection (task_of i l.request.order)) l.listed (line_bytes i) (selection_length i l.request.order),
+      front_old (probe_bitmaps (task_of i l.request.order)) l.looks (predicate_count i * line_bytes i) (probe_bitmaps_length i l.request.order),
     )
 
 -- DEMAND 3
@@ -353,51 +336,45 @@ unfolding predicates
 length_predicates [] = refl
 length_predicates (x ∷ s) = ap suc (length_predicates s)
 
-module _ (r : Request) (i : Input) (f : Reads r.catalogue r.question i) (o : RunningOrder i r.order) where
-  -- the tree's value hangs on the conditions of the order, which has as many as the tree has leaves
-  reads_order : ReadsOnly (tree_value i) r.order
-  reads_order = query_reads i.query.tree f.1.0.numbered r.order (rw f.1.0.counted ((order_plain (predicate_count i) r.order).1 o))
+module _ (b q : List ℕ) (i : Input) (r : Reads b q i) (order : List ℕ) (o : RunningOrder i order) where
+  -- the order is one of as many predicates as the tree has leaves
+  of_tree : is_order (size i.query.tree) order ≡ true
+  of_tree = rw r.1.0.counted ((order_plain (predicate_count i) order).1 o)
 
-  ours_final : (a : Assignment) → final_state (our_way i r) a r.order ≡ look_trace i r a
-  ours_final = ours_open (closed_to i r) i.query.tree r.order (held i r o).once reads_order
+  ours_final : (a : Assignment) → final_state (ours (tree_value i) order) a order ≡ trace (tree_value i) a order
+  ours_final = query_ours i.query.tree r.1.0.numbered order of_tree
 
 -- a right way makes at least as many looks as are due
-counted : (i : Input) (r : Request) → RunningOrder i r.order → (way : Strategy) → Passes (closed_to i r) r.order way → RightFor (closed_to i r) (tree_value i) r.order way
-    → (a : Assignment) → length (predicates (look_trace i r a)) ≤ length (probes way a r.order)
-counted i r o way P R a =
-    rw (length_predicates, length_predicates) (optimal_open_count (closed_to i r) i.query.tree r.order (held i r o).once way P R a)
+counted : (i : Input) (order : List ℕ) → RunningOrder i order → (way : Strategy) → Right (tree_value i) order way → (a : Assignment)
+    → length (predicates (trace (tree_value i) a order)) ≤ length (probes way a order)
+counted i order o way R a = rw (length_predicates, length_predicates) (optimal_count (tree_value i) order (held i order o).once way R a)
 
 pub demand_3 : Demand3
-demand_3 r i f o way P R a =
-    rw (ours_final r i f o a) (optimal_open (closed_to i r) i.query.tree r.order (held i r o).once way P R a, counted i r o way P R a)
-
-pub demand_3_ours_rule : Demand3OursRule
-demand_3_ours_rule i r s = (
-  ours_closed (closed_to i r) (tree_value i) r.order s,
-  ours_due (closed_to i r) (tree_value i) r.order s,
-  ours_answers (closed_to i r) (tree_value i) r.order s,
-)
+demand_3 b q i r order o way R a =
+    rw (ours_final b q i r order o a) (optimal (tree_value i) order (held i order o).once way R a, counted i order o way R a)
 
 pub demand_3_ours : Demand3Ours
-demand_3_ours r i f o = (
-  λ c m y s. (demand_3_ours_rule i r s).0 c y,
-  ours_right_open (closed_to i r) i.query.tree r.order (held i r o).once (reads_order r i f o),
-  λ a c. rw (ours_final r i f o a) (traced_due i r o a c),
+demand_3_ours b q i r order o a = (
+  λ c. rw (ours_final b q i r order o a) (traced_due i order o a c),
+  query_right i.query.tree r.1.0.numbered order (of_tree b q i r order o) a,
 )
 
+pub demand_3_ours_rule : Demand3OursRule
+demand_3_ours_rule i order s = ours_rule (tree_value i) order s
+
 pub demand_3_count : Demand3Count
-demand_3_count r i f o =
-    look_count_rows i r o
-    ∙ sum_same (λ e. if_present i e (length (predicates (look_trace i r (pattern i e))))) (λ e. if_present i e (length (probes (our_way i r) (pattern i e) r.order))) (row_count i)
-    (λ e l. ap (λ (s : State). if_present i e (length (predicates s))) (sym (ours_final r i f o (pattern i e))))
+demand_3_count b q i r order o =
+    look_count_rows i order o
+    ∙ sum_same (λ e. if_present i e (length (predicates (trace (tree_value i) (pattern i e) order)))) (λ e. if_present i e (length (probes (ours (tree_value i) order) (pattern i e) order))) (row_count i)
+    (λ e l. ap (λ (s : State). if_present i e (length (predicates s))) (sym (ours_final b q i r order o (pattern i e))))
 
 pub demand_3_run : Demand3Run
-demand_3_run l i k way P R = (looks, count)
+demand_3_run l i k way R = (looks, count)
   where
     looks : (e c : ℕ) → e < row_count i → c < predicate_count i → bit (looks_line i (after l).looks c) e ≡ true → Among c (probes way (pattern i e) l.request.order)
     looks e c m n h =
-        optimal_open (closed_to i l.request) i.query.tree l.request.order (held i l.request (kept_order l i k)).once way P R (pattern i e) c
-        ((traced_due i l.request (kept_order l i k) (pattern i e) c).1 (((demand_2_looks l i k c n).bits e m).0 h).1)
+        optimal (tree_value i) l.request.order (held i l.request.order (kept_order l i k)).once way R (pattern i e) c
+        ((traced_due i l.request.order (kept_order l i k) (pattern i e) c).1 (((demand_2_looks l i k c n).bits e m).0 h).1)
 
     present_le : (w : Bool) {x y : ℕ} → x ≤ y → cond w 0 x ≤ cond w 0 y
     present_le true h = omega arith
@@ -406,6 +383,6 @@ demand_3_run l i k way P R = (looks, count)
     count : (after l).word / 2 ^ 40 ≤ sum_of (λ e. if_present i e (length (probes way (pattern i e) l.request.order))) (row_count i)
     count =
         subst (λ (x : ℕ). x ≤ sum_of (λ e. if_present i e (length (probes way (pattern i e) l.request.order))) (row_count i))
-        (sym ((kept_gives l i k).4 ∙ look_count_rows i l.request (kept_order l i k)))
-        (sum_le (λ e. if_present i e (length (predicates (look_trace i l.request (pattern i e))))) (λ e. if_present i e (length (probes way (pattern i e) l.request.order))) (row_count i)
-        (λ e m. present_le (is_withdrawn i.catalogue e) (counted i l.request (kept_order l i k) way P R (pattern i e))))
+        (sym ((kept_gives l i k).4 ∙ look_count_rows i l.request.order (kept_order l i k)))
+        (sum_le (λ e. if_present i e (length (predicates (trace (tree_value i) (pattern i e) l.request.order)))) (λ e. if_present i e (length (probes way (pattern i e) l.request.order))) (row_count i)
+        (λ e m. present_le (is_withdrawn i.catalogue e) (counted i l.request.order (kept_order l i k) way R (pattern i e))))

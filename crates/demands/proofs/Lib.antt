@@ -8,8 +8,6 @@ pub mod SentenceLaws
 pub mod CallLaws
 pub mod DemandRuns
 pub mod Demands
-pub mod Alike
-pub mod CopyAlike
 pub mod TallyPage
 pub mod CopyTables
 pub mod CopyRuns

@@ -35,21 +35,21 @@ module _ (l : Lent) where
   refused_adds : (e r : ℕ) → FirstBroken l e → counter_at (after l).tally r ≡ counter_at l.tally r + looks_by r l
   refused_adds e r x =
       let d = demand_1_refused l e x in
-      rw (d.3, d.0.4, none (eqb l.request.reader r && eqb ((after l).word % 2 ^ 8) 0)) (omega arith)
+      rw (d.3, d.0.4, none (eqb l.reader r && eqb ((after l).word % 2 ^ 8) 0)) (omega arith)
 
   -- an accepted run adds its looks to its reader's number, and to no other
   kept_adds : (i : Input) → Kept l i → (r : ℕ) → counter_at (after l).tally r ≡ counter_at l.tally r + looks_by r l
-  kept_adds i k r = go (same? r l.request.reader)
+  kept_adds i k r = go (same? r l.reader)
     where
       is_accepted : eqb ((after l).word % 2 ^ 8) 0 ≡ true
       is_accepted = rw (kept_gives l i k).1
 
-      go : (r ≡ l.request.reader) ⊎ (r ≡ l.request.reader → ⊥) → counter_at (after l).tally r ≡ counter_at l.tally r + looks_by r l
+      go : (r ≡ l.reader) ⊎ (r ≡ l.reader → ⊥) → counter_at (after l).tally r ≡ counter_at l.tally r + looks_by r l
       go (inl e) =
           let t = demand_2_tally l i k in
-          rw (e, eqb_self l.request.reader, is_accepted, t.0) t.2
+          rw (e, eqb_self l.reader, is_accepted, t.0) t.2
       go (inr ne) =
-          let other : eqb l.request.reader r ≡ false = eqb_ne l.request.reader r (λ z. ne (sym z)) in
+          let other : eqb l.reader r ≡ false = eqb_ne l.reader r (λ z. ne (sym z)) in
           rw other (omega (arith, same_counter (after l).tally l.tally r ((demand_2_other_readers l i k).1 r ne)))
 
   run_adds : InBytes l.request → (r : ℕ) → counter_at (after l).tally r ≡ counter_at l.tally r + looks_by r l

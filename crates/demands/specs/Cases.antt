@@ -14,7 +14,7 @@ use Rattle.answers.specs.declared.word.Answer.TheVariants.{Refused, Accepted}
 use Rattle.answers.specs.Word.{packed}
 use Rattle.answers.specs.Answers.{catalogue_answer, question_answer}
 use Rattle.demands.specs.Run.{lent, Ran, ran, predicate_count, run_of}
-use Rattle.demands.specs.Demands.{IsReader, IsRights}
+use Rattle.demands.specs.Demands.{IsReader}
 use Rattle.demands.specs.Parish.{parish, year_blank, both, question, nested}
 
 pub data Case : Type 0 where
@@ -31,37 +31,33 @@ pub data Case : Type 0 where
   -- whether the operand is in the text
   is_in : (operand text : List ℕ) → Bool → Case
   -- the run of catalogue, question and order by a reader, lent these tables and this tally, leaves this
-  runs : (catalogue question order : List ℕ) → (reader : ℕ) → (rights listed looks tally : List ℕ) → Ran → Case
+  runs : (catalogue question order : List ℕ) → (reader : ℕ) → (listed looks tally : List ℕ) → Ran → Case
 
 abbrev pub Holds : Case → Type 0
 Holds (catalogue_check b a) = catalogue_answer (decode_catalogue b) ≡ a
 Holds (question_check b q a) = question_answer (decode_input b q) ≡ a
 Holds (finds_nothing b) =
-    (q order : List ℕ) (reader : ℕ) (rights listed looks tally : List ℕ) (i : Input) → decode_input b q ≡ accepted i → is_order (predicate_count i) order ≡ true
-    → IsReader reader → IsRights rights → Bytes tally → length tally ≡ 128
-    → run_of (lent b q order reader rights listed looks tally) ≡ ran (packed (Accepted 0 0 0)) listed looks tally
+    (q order : List ℕ) (reader : ℕ) (listed looks tally : List ℕ) (i : Input) → decode_input b q ≡ accepted i → is_order (predicate_count i) order ≡ true
+    → IsReader reader → Bytes tally → length tally ≡ 128
+    → run_of (lent b q order reader listed looks tally) ≡ ran (packed (Accepted 0 0 0)) listed looks tally
 Holds (folds x y) = fold x ≡ y
 Holds (number_outcome kind o n a) = outcome_of (numbers (n ∷ [])) kind o 0 ≡ a
 Holds (is_in o t b) = contains o t ≡ b
-Holds (runs b q order reader rights listed looks tally r) = run_of (lent b q order reader rights listed looks tally) ≡ r
+Holds (runs b q order reader listed looks tally r) = run_of (lent b q order reader listed looks tally) ≡ r
 
 abbrev pub zeros : ℕ → List ℕ
 zeros n = replicate n 0
 
--- a rights table that closes nothing
-abbrev pub none_closed : List ℕ
-none_closed = zeros 32
-
 -- P1 and P2, by reader 0: looks 3, 1, 2 and 2, 2, 3 for conditions 0, 1, 2; entries 0 and 2 listed
 abbrev pub p1 : List Case
 p1 =
-    runs parish question (0 ∷ 1 ∷ 2 ∷ []) 0 none_closed (zeros 1) (zeros 3) (zeros 128)
+    runs parish question (0 ∷ 1 ∷ 2 ∷ []) 0 (zeros 1) (zeros 3) (zeros 128)
     (ran (packed (Accepted 2 0 6)) (0b101 ∷ []) (0b111 ∷ 0b001 ∷ 0b110 ∷ []) (zeros 7 ++ (6 ∷ []) ++ zeros 120))
     ∷ []
 
 abbrev pub p2 : List Case
 p2 =
-    runs parish question (2 ∷ 1 ∷ 0 ∷ []) 0 none_closed (zeros 1) (zeros 3) (zeros 128)
+    runs parish question (2 ∷ 1 ∷ 0 ∷ []) 0 (zeros 1) (zeros 3) (zeros 128)
     (ran (packed (Accepted 2 0 7)) (0b101 ∷ []) (0b011 ∷ 0b011 ∷ 0b111 ∷ []) (zeros 7 ++ (7 ∷ []) ++ zeros 120))
     ∷ []
 
@@ -108,7 +104,7 @@ p9 = question_check parish (nested 9 year_blank) (Refused 10) ∷ []
 
 -- "order 00 00 for two conditions: 15"
 abbrev pub p10 : List Case
-p10 = runs parish both (0 ∷ 0 ∷ []) 0 none_closed (zeros 1) (zeros 2) (zeros 128) (ran (packed (Refused 15)) (zeros 1) (zeros 2) (zeros 128)) ∷ []
+p10 = runs parish both (0 ∷ 0 ∷ []) 0 (zeros 1) (zeros 2) (zeros 128) (ran (packed (Refused 15)) (zeros 1) (zeros 2) (zeros 128)) ∷ []
 
 -- "tally 2^64 − 1 and one look: 17"; order 7: "case P11 sets that reader's number", here reader 5's
 abbrev pub one_row : List ℕ
@@ -118,7 +114,7 @@ abbrev pub full_tally : List ℕ
 full_tally = zeros 40 ++ replicate 8 0xFF ++ zeros 80
 
 abbrev pub p11 : List Case
-p11 = runs one_row year_blank (0 ∷ []) 5 none_closed (zeros 1) (zeros 1) full_tally (ran (packed (Refused 17)) (zeros 1) (zeros 1) full_tally) ∷ []
+p11 = runs one_row year_blank (0 ∷ []) 5 (zeros 1) (zeros 1) full_tally (ran (packed (Refused 17)) (zeros 1) (zeros 1) full_tally) ∷ []
 
 abbrev pub cases : List Case
 cases = p1 ++ p2 ++ p3 ++ p4 ++ p5 ++ p6 ++ p7 ++ p8 ++ p9 ++ p10 ++ p11

@@ -1,34 +1,28 @@
 -- THE STEWARD'S COPY OF THE REGISTER (order 1), sentence by sentence; proofs/CopyPage.antt proves each statement of this page.
 -- It speaks of every word and output that the contract of `searchroom_copy` allows, `LogGives` of Log.antt; words as on the demands page.
-use Rattle.std.specs.Prelude.{ℕ, ◌*◌, ◌/◌, ◌%◌, ◌^◌, ◌≤◌, ◌<◌, ◌≡◌, true, ◌↔◌, List, [], ◌∷◌, ◌++◌, length, take, drop}
-use Rattle.catalogue.specs.Catalogue.{Catalogue}
+use Rattle.std.specs.Prelude.{ℕ, ◌*◌, ◌/◌, ◌%◌, ◌^◌, ◌≤◌, ◌<◌, ◌≡◌, true, ◌↔◌, List, [], ◌∷◌, length, take, drop}
 use Rattle.predicate.specs.Meaning.{outcome}
 use Rattle.strategy.specs.Order.{occurrences}
 use Rattle.bitmaps.specs.Bit.{bit}
 use Rattle.task.specs.Input.{Input}
 use Rattle.answers.specs.Answers.{outcome_number}
 use Rattle.demands.specs.Sentences.{Sentences, says}
-use Rattle.demands.specs.Run.{Request, Lent, row_count, predicate_count, closes, task_of, look_count}
-use Rattle.demands.specs.Demands.{Gives, InBytes, after, IsCatalogue, Reads, Keeps, Breaks, RunningOrder, reader_sentences, Kept, condition_of, BlankAt, LookMade, looks_line, AlikeBut, request_on, SameRights}
+use Rattle.demands.specs.Run.{Request, Lent, row_count, predicate_count, task_of, look_count}
+use Rattle.demands.specs.Demands.{Gives, InBytes, after, Reads, Keeps, Breaks, RunningOrder, Kept, condition_of, BlankAt, LookMade, looks_line}
 use Rattle.demands.specs.Log.{task_fields, LogGives}
 
 -- WORDS OF THIS PAGE
 
 -- the looks of a run of the request, and the bytes of their fields
 abbrev pub looks_of : Input → Request → ℕ
-looks_of i r = look_count (task_of i r)
+looks_of i r = look_count (task_of i r.order)
 
 abbrev pub copy_bytes : Input → Request → ℕ
 copy_bytes i r = 7 * looks_of i r
 
--- the last check of a copy
-abbrev pub output_sentences : Request → (output : List ℕ) → Input → Sentences
-output_sentences r output i = says 20 (copy_bytes i r ≤ length output) ∷ []
-
--- "Inputs are those of a run without tables and tally.": 1 to 14 and 23, 15, then "20, the lent output is too short, after 15"; order 8: "the steward's copy
--- takes reader and rights too, with 24 and 25 before 20"
+-- "Inputs are those of a run without tables and tally.", and until order 8 without its reader: 15, then "20, the lent output is too short, after 15"
 abbrev pub copy_sentences : Request → (output : List ℕ) → Input → Sentences
-copy_sentences r output i = says 15 (RunningOrder i r.order) ∷ reader_sentences r ++ output_sentences r output i
+copy_sentences r output i = says 15 (RunningOrder i r.order) ∷ says 20 (copy_bytes i r ≤ length output) ∷ []
 
 -- a copy that breaks nothing, and the first that it breaks
 abbrev pub CopyKept : Request → (output : List ℕ) → Input → Type 0
@@ -41,7 +35,7 @@ CopyBroken r output e = Breaks r.catalogue r.question (copy_sentences r output) 
 abbrev pub EachLookOnce : Input → Request → (sequence : (entry : ℕ) → List ℕ) → Type 0
 EachLookOnce i r s =
     (e c : ℕ) → e < row_count i
-    → (LookMade i r e c → occurrences c (s e) ≡ 1) × ((LookMade i r e c → ⊥) → occurrences c (s e) ≡ 0)
+    → (LookMade i r.order e c → occurrences c (s e) ≡ 1) × ((LookMade i r.order e c → ⊥) → occurrences c (s e) ≡ 0)
 
 -- THE CALL
 
@@ -69,7 +63,7 @@ CopyLength =
 abbrev pub CopyAnySequence : Type 0
 CopyAnySequence =
     (r : Request) (i : Input) → RunningOrder i r.order
-    → (s : (entry : ℕ) → List ℕ) → EachLookOnce i r s → length (task_fields (task_of i r) s) ≡ copy_bytes i r
+    → (s : (entry : ℕ) → List ℕ) → EachLookOnce i r s → length (task_fields (task_of i r.order) s) ≡ copy_bytes i r
 
 -- so many bytes are enough for any copy
 abbrev pub CopyMost : Type 0
@@ -97,13 +91,13 @@ abbrev pub CopyFieldThere : Type 0
 CopyFieldThere =
     (r : Request) (old new : List ℕ) (w : ℕ) → LogGives r old w new → (i : Input) → CopyKept r old i → (e c o : ℕ)
     → ((j : ℕ) × (j < looks_of i r) × (field_bytes new j ≡ look_field e c o))
-    ↔ ((e < row_count i) × LookMade i r e c × (o ≡ outcome_number (outcome i.catalogue (condition_of i c) e)))
+    ↔ ((e < row_count i) × LookMade i r.order e c × (o ≡ outcome_number (outcome i.catalogue (condition_of i c) e)))
 
 -- order 2: "The steward's copy gains outcome 2 for blank."
 abbrev pub CopyBlank : Type 0
 CopyBlank =
     (r : Request) (old new : List ℕ) (w : ℕ) → LogGives r old w new → (i : Input) → CopyKept r old i → (e c : ℕ)
-    → ((j : ℕ) × (j < looks_of i r) × (field_bytes new j ≡ look_field e c 2)) ↔ ((e < row_count i) × LookMade i r e c × BlankAt i e c)
+    → ((j : ℕ) × (j < looks_of i r) × (field_bytes new j ≡ look_field e c 2)) ↔ ((e < row_count i) × LookMade i r.order e c × BlankAt i e c)
 
 -- "each look has one field": there is nothing but fields among the bytes written, and no field twice
 abbrev pub CopyFieldOnce : Type 0
@@ -124,17 +118,3 @@ CopyLooks =
     (r : Request) (old new : List ℕ) (w : ℕ) → LogGives r old w new → (i : Input) → CopyKept r old i → (l : Lent) → l.request ≡ r → Kept l i
     → (e c : ℕ) → e < row_count i → c < predicate_count i
     → ((j : ℕ) × (o : ℕ) × (j < looks_of i r) × (field_bytes new j ≡ look_field e c o)) ↔ (bit (looks_line i (after l).looks c) e ≡ true)
-
--- ORDER 8: WHAT A READER MAY LEARN
-
--- of a copy the same as of a run (`Demand2Alike`): two catalogues that differ only in this reader's closed columns have the same copies
-abbrev pub CopyAlike : Type 0
-CopyAlike =
-    (r : Request) (b : List ℕ) (C D : Catalogue) → IsCatalogue r.catalogue C → IsCatalogue b D → AlikeBut (closes r.rights r.reader) C D
-    → (old new : List ℕ) (w : ℕ) → LogGives r old w new ↔ LogGives (request_on b r.rights r) old w new
-
--- and (`Demand2RightsRead`) two rights tables that have this reader's bits alike
-abbrev pub CopyRightsRead : Type 0
-CopyRightsRead =
-    (r : Request) (C : Catalogue) → InBytes r → IsCatalogue r.catalogue C → (rights : List ℕ) → SameRights r (length C.columns) rights
-    → (old new : List ℕ) (w : ℕ) → LogGives r old w new ↔ LogGives (request_on r.catalogue rights r) old w new

@@ -3,7 +3,7 @@
 -- contract, for any bytes lent, and a contract is one of total correctness: the call finishes. `Due`, `Strategy`, its working and `Right` stand on
 -- one screen in crates/strategy/specs/Strategy.antt; what document 01 and order 6 allow as a catalogue in crates/catalogue/specs/Formed.antt, what
 -- document 01 allows as a question in crates/query/specs/WellFormed.antt, their bytes in Encode.antt beside them.
-use Rattle.std.specs.Prelude.{ℕ, ◌+◌, ◌*◌, ◌/◌, ◌%◌, ◌^◌, ◌≤◌, ◌<◌, ◌≡◌, Bool, true, false, not, ◌&&◌, ◌||◌, cond, ◌↔◌, ◌⊎◌, List, [], ◌∷◌, ◌++◌, length, get_or, take, drop}
+use Rattle.std.specs.Prelude.{ℕ, ◌+◌, ◌*◌, ◌/◌, ◌%◌, ◌^◌, ◌≤◌, ◌<◌, ◌≡◌, true, false, not, ◌&&◌, ◌||◌, cond, ◌↔◌, ◌⊎◌, List, [], ◌∷◌, ◌++◌, length, get_or, take, drop}
 use Rattle.fields.specs.Decoded.{refused, accepted}
 use Rattle.fields.specs.Numbers.{number_at, bytes_of, Bytes}
 use Rattle.fields.specs.Header.{field_of}
@@ -21,9 +21,8 @@ use Rattle.query.specs.WellFormed.{ValidPredicate, WellFormed}
 use Rattle.strategy.specs.Tree.{Tree, leaf, Forest, none, more, all, any, eval}
 use Rattle.strategy.specs.Assignment.{Assignment, Among}
 use Rattle.strategy.specs.Order.{occurrences}
-use Rattle.strategy.specs.Strategy.{Formula, Due, State, Strategy, probes}
-use Rattle.strategy.specs.Ours.{passed_as_no, later_than}
-use Rattle.closed.specs.Closed.{open_of, as_no, ForEveryChoice, Passes, RightFor, ours_for}
+use Rattle.strategy.specs.Strategy.{Formula, Due, State, Strategy, Right, probes, answer_of}
+use Rattle.strategy.specs.Ours.{passed_as_no, later_than, ours}
 use Rattle.bitmaps.specs.Sums.{sum_of, count_of}
 use Rattle.bitmaps.specs.Bitmap.{bytes_for}
 use Rattle.bitmaps.specs.Bit.{bit}
@@ -32,7 +31,7 @@ use Rattle.task.specs.Input.{Input, decode_input}
 use Rattle.answers.specs.Word.{packed}
 use Rattle.answers.specs.Answers.{catalogue_answer, question_answer, outcome_number, outcome_answer}
 use Rattle.demands.specs.Sentences.{Sentences, says, NoneFails, FirstFails}
-use Rattle.demands.specs.Run.{Request, Lent, Ran, row_count, predicate_count, closes, task_of, look_count, counter_at, run_of}
+use Rattle.demands.specs.Run.{Request, Lent, Ran, row_count, predicate_count, task_of, look_count, counter_at, run_of}
 
 -- WORDS OF THIS PAGE
 
@@ -106,33 +105,22 @@ TablesFit i listed looks = (line_bytes i ≤ length listed) × (predicate_count 
 abbrev pub IsReader : (reader : ℕ) → Type 0
 IsReader reader = reader ≤ 15
 
--- order 8: "25, the rights table isn't 32 bytes"
-abbrev pub IsRights : (rights : List ℕ) → Type 0
-IsRights rights = length rights ≡ 32
-
 -- order 7: "Refusal 17 is for a tally not of 128 bytes or a sum too large for this reader": `counter_at` is a reader's number, of eight bytes
-abbrev pub TallyFits : Input → Request → (tally : List ℕ) → Type 0
-TallyFits i r tally = (length tally ≡ 128) × (counter_at tally r.reader + look_count (task_of i r) < 2 ^ 64)
+abbrev pub TallyFits : Input → (order : List ℕ) → (reader : ℕ) → (tally : List ℕ) → Type 0
+TallyFits i order reader tally = (length tally ≡ 128) × (counter_at tally reader + look_count (task_of i order) < 2 ^ 64)
 
 -- a reader's eight bytes of a tally
 abbrev pub counter_bytes : (tally : List ℕ) → (reader : ℕ) → List ℕ
 counter_bytes tally reader = take 8 (drop (reader * 8) tally)
 
--- order 7: "24, reader over 15, after 16"; order 8: "25, the rights table isn't 32 bytes, after 24", of a run and of a copy
-abbrev pub reader_sentences : Request → Sentences
-reader_sentences r = says 24 (IsReader r.reader) ∷ says 25 (IsRights r.rights) ∷ []
-
--- the last check of a run, which needs its look count
-abbrev pub tally_sentences : Lent → Input → Sentences
-tally_sentences l i = says 17 (TallyFits i l.request l.tally) ∷ []
-
--- "Running: 1 to 14; 15, ..; 16, ..; 17, ..", with order 6's 23 before 15, and 24 and 25 after 16
+-- "Running: 1 to 14; 15, ..; 16, ..; 17, ..", with order 6's 23 before 15 and order 7's "24, reader over 15, after 16"
 abbrev pub run_sentences : Lent → Input → Sentences
 run_sentences l i =
     says 15 (RunningOrder i l.request.order)
     ∷ says 16 (TablesFit i l.listed l.looks)
-    ∷ reader_sentences l.request
-    ++ tally_sentences l i
+    ∷ says 24 (IsReader l.reader)
+    ∷ says 17 (TallyFits i l.request.order l.reader l.tally)
+    ∷ []
 
 -- a run that breaks nothing, and the first that it breaks
 abbrev pub Kept : Lent → Input → Type 0
@@ -174,27 +162,14 @@ pattern i e = assignment_at i.catalogue i.query e
 abbrev pub tree_value : Input → Formula
 tree_value i = eval i.query.tree
 
--- order 8: "A condition on a closed column": `closes` reads the reader's two bytes of the rights table
-abbrev pub closed_to : Input → Request → (c : ℕ) → Bool
-closed_to i r c = closes r.rights r.reader (condition_of i c).column
-
--- the open conditions, in the running order
-abbrev pub open_turns : Input → Request → List ℕ
-open_turns i r = open_of (closed_to i r) r.order
-
 -- on a pattern: "with the conditions earlier in the order at their true outcomes, some outcomes of the later ones make this condition alone
--- decide the tree"; order 8: "A look is then due where later open conditions can still let it decide, the closed ones taken as no"
-abbrev pub LookDue : Input → Request → Assignment → (c : ℕ) → Type 0
-LookDue i r a c =
-    (earlier : List ℕ) × (later : List ℕ) × (open_turns i r ≡ earlier ++ (c ∷ later)) × Due (tree_value i) c later (as_no (closed_to i r) a)
+-- decide the tree"
+abbrev pub LookDue : Input → (order : List ℕ) → Assignment → (c : ℕ) → Type 0
+LookDue i order a c = (earlier : List ℕ) × (later : List ℕ) × (order ≡ earlier ++ (c ∷ later)) × Due (tree_value i) c later a
 
 -- a look that is made: it is due, and its entry still in the house; order 6 has a withdrawn one "never looked at"
-abbrev pub LookMade : Input → Request → (entry c : ℕ) → Type 0
-LookMade i r e c = Present i e × LookDue i r (pattern i e) c
-
--- order 8: "An entry is listed exactly if it would be listed for every choice of outcomes of those conditions."
-abbrev pub Listed : Input → Request → (entry : ℕ) → Type 0
-Listed i r e = Present i e × ForEveryChoice (closed_to i r) (tree_value i) (pattern i e)
+abbrev pub LookMade : Input → (order : List ℕ) → (entry c : ℕ) → Type 0
+LookMade i order e c = Present i e × LookDue i order (pattern i e) c
 
 -- "entry e is the bit of weight 2^(e mod 8) in byte e div 8, unused bits zero": the line of the entries for which P holds
 pub record LineOf (P : ℕ → Type 0) (entries : ℕ) (line : List ℕ) : Type 0 where
@@ -389,34 +364,14 @@ Demand2Tree =
 abbrev pub Demand2Listed : Type 0
 Demand2Listed =
     (l : Lent) (i : Input) → Kept l i
-    → LineOf (Listed i l.request) (row_count i) (listed_line i (after l).listed)
+    → LineOf (λ e. Present i e × (tree_value i (pattern i e) ≡ true)) (row_count i) (listed_line i (after l).listed)
 
 -- "A look is registered exactly if, with the conditions earlier in the order at their true outcomes, some outcomes of the later ones make
 -- this condition alone decide the tree."; order 6: a withdrawn entry is "never looked at"
 abbrev pub Demand2Looks : Type 0
 Demand2Looks =
     (l : Lent) (i : Input) → Kept l i → (c : ℕ) → c < predicate_count i
-    → LineOf (λ e. LookMade i l.request e c) (row_count i) (looks_line i (after l).looks c)
-
--- order 8, "taken as no": listed for every choice is listed with each condition on a closed column as no, an opposite too, since a tree has no negation
-abbrev pub Demand2TakenAsNo : Type 0
-Demand2TakenAsNo =
-    (i : Input) (r : Request) (a : Assignment)
-    → ForEveryChoice (closed_to i r) (tree_value i) a ↔ (tree_value i (as_no (closed_to i r) a) ≡ true)
-
--- order 8: "A condition on a closed column is never looked at."
-abbrev pub Demand2Closed : Type 0
-Demand2Closed =
-    (l : Lent) (i : Input) → Kept l i → (c : ℕ) → c < predicate_count i → closed_to i l.request c ≡ true
-    → (e : ℕ) → bit (looks_line i (after l).looks c) e ≡ false
-
--- order 8: "Where both runs are accepted, closing a further column never adds an entry to the list.": what the one run closes the other closes too, whatever
--- their readers, rights tables, orders and tallies
-abbrev pub Demand2MoreClosed : Type 0
-Demand2MoreClosed =
-    (l m : Lent) (i : Input) → Kept l i → Kept m i
-    → ((column : ℕ) → closes l.request.rights l.request.reader column ≡ true → closes m.request.rights m.request.reader column ≡ true)
-    → (e : ℕ) → e < row_count i → bit (listed_line i (after m).listed) e ≡ true → bit (listed_line i (after l).listed) e ≡ true
+    → LineOf (λ e. LookMade i l.request.order e c) (row_count i) (looks_line i (after l).looks c)
 
 -- order 6: "Such an entry is never listed and never looked at, whatever the question."
 abbrev pub Demand2Withdrawn : Type 0
@@ -435,15 +390,15 @@ Demand2Counts =
 abbrev pub Demand2Tally : Type 0
 Demand2Tally =
     (l : Lent) (i : Input) → Kept l i
-    → ((after l).word / 2 ^ 40 ≡ look_count (task_of i l.request)) × (look_count (task_of i l.request) ≤ row_count i * predicate_count i)
-    × (counter_at (after l).tally l.request.reader ≡ counter_at l.tally l.request.reader + look_count (task_of i l.request))
-    × (counter_bytes (after l).tally l.request.reader ≡ bytes_of 8 (counter_at (after l).tally l.request.reader))
+    → ((after l).word / 2 ^ 40 ≡ look_count (task_of i l.request.order)) × (look_count (task_of i l.request.order) ≤ row_count i * predicate_count i)
+    × (counter_at (after l).tally l.reader ≡ counter_at l.tally l.reader + look_count (task_of i l.request.order))
+    × (counter_bytes (after l).tally l.reader ≡ bytes_of 8 (counter_at (after l).tally l.reader))
 
 -- order 7: "Only that reader's number grows.": every other byte of the 128 stays
 abbrev pub Demand2OtherReaders : Type 0
 Demand2OtherReaders =
     (l : Lent) (i : Input) → Kept l i
-    → (length (after l).tally ≡ 128) × ((r : ℕ) → (r ≡ l.request.reader → ⊥) → counter_bytes (after l).tally r ≡ counter_bytes l.tally r)
+    → (length (after l).tally ≡ 128) × ((r : ℕ) → (r ≡ l.reader → ⊥) → counter_bytes (after l).tally r ≡ counter_bytes l.tally r)
 
 -- "Longer tables keep their further bytes."
 abbrev pub Demand2Further : Type 0
@@ -452,91 +407,47 @@ Demand2Further =
     → (drop (line_bytes i) (after l).listed ≡ drop (line_bytes i) l.listed)
     × (drop (predicate_count i * line_bytes i) (after l).looks ≡ drop (predicate_count i * line_bytes i) l.looks)
 
--- ORDER 8: WHAT A READER MAY LEARN
-
--- "Two accepted catalogues with equal entries, columns, kinds and marks that differ only in this reader's closed columns": `tags_of` has a tag for each column
-pub record AlikeBut (closed : (column : ℕ) → Bool) (C D : Catalogue) : Type 0 where
-  pub entries : C.rows ≡ D.rows
-  pub kinds : tags_of C ≡ tags_of D
-  pub marks : (e : ℕ) → is_withdrawn C e ≡ is_withdrawn D e
-  pub others : (column : ℕ) → closed column ≡ false → get_or C.columns column (numbers []) ≡ get_or D.columns column (numbers [])
-
--- the same request, and what is lent with it, but for the catalogue and the rights table
-abbrev pub request_on : (catalogue rights : List ℕ) → Request → Request
-request_on b rights r = record { catalogue = b; question = r.question; order = r.order; reader = r.reader; rights = rights }
-
-abbrev pub lent_on : (catalogue rights : List ℕ) → Lent → Lent
-lent_on b rights l = record { request = request_on b rights l.request; listed = l.listed; looks = l.looks; tally = l.tally }
-
--- "all other inputs alike, give that reader's run the same number, counts, tables and tally": whatever is lent, and refused runs too
-abbrev pub Demand2Alike : Type 0
-Demand2Alike =
-    (l : Lent) (b : List ℕ) (C D : Catalogue) → IsCatalogue l.request.catalogue C → IsCatalogue b D
-    → AlikeBut (closes l.request.rights l.request.reader) C D → after l ≡ after (lent_on b l.request.rights l)
-
--- "A lent rights table has two bytes per reader; the bit of weight 2^c closes column c.": of a table of that length a run is told by its reader's bits of the
--- columns that there are, and by nothing else; other readers' bytes and bits of other columns are without effect
-abbrev pub SameRights : Request → (columns : ℕ) → (rights : List ℕ) → Type 0
-SameRights r columns rights =
-    (length r.rights ≡ length rights)
-    × ((column : ℕ) → column < columns → closes r.rights r.reader column ≡ closes rights r.reader column)
-
-abbrev pub Demand2RightsRead : Type 0
-Demand2RightsRead =
-    (l : Lent) (C : Catalogue) → InBytes l.request → IsCatalogue l.request.catalogue C
-    → (rights : List ℕ) → SameRights l.request (length C.columns) rights → after l ≡ after (lent_on l.request.catalogue rights l)
-
 -- DEMAND 3
-
--- ours, for this reader
-abbrev pub our_way : Input → Request → Strategy
-our_way i r = ours_for (closed_to i r) (tree_value i) r.order
 
 -- "Take any accepted question, any running order of its conditions, and any way of working through them that is right whatever the pattern of
 -- outcomes: on every pattern it makes each look that ours makes, and so at least as many."
 -- "A way chooses at each condition in turn whether to look, and at the end its answer, from the question, the order, its place there and what
 -- it has seen on that entry.": a `Strategy`, chosen after question and order; its looks are its `probes`.
 -- "A pattern is any yes or no for each condition, as if they were unconnected.": an `Assignment`.
--- Order 8: "a way passes each condition on a closed column and knows which columns are closed beside the question and the order, and it is right where its
--- answer is this listing": it is chosen after the rights table too, `Passes`, and is `RightFor` the listing. "patterns range over open conditions alone": what an
--- `Assignment` has for the others, neither the way nor the listing is told.
 abbrev pub Demand3 : Type 0
 Demand3 =
-    (r : Request) (i : Input) → Reads r.catalogue r.question i → RunningOrder i r.order
-    → (way : Strategy) → Passes (closed_to i r) r.order way → RightFor (closed_to i r) (tree_value i) r.order way → (a : Assignment)
-    → ((c : ℕ) → Among c (probes (our_way i r) a r.order) → Among c (probes way a r.order))
-    × (length (probes (our_way i r) a r.order) ≤ length (probes way a r.order))
+    (b q : List ℕ) (i : Input) → Reads b q i → (order : List ℕ) → RunningOrder i order
+    → (way : Strategy) → Right (tree_value i) order way → (a : Assignment)
+    → ((c : ℕ) → Among c (probes (ours (tree_value i) order) a order) → Among c (probes way a order))
+    × (length (probes (ours (tree_value i) order) a order) ≤ length (probes way a order))
 
 -- "Ours is a way, and right whatever the pattern.": "on every pattern these looks and this answer are those of demand 2"
 abbrev pub Demand3Ours : Type 0
 Demand3Ours =
-    (r : Request) (i : Input) → Reads r.catalogue r.question i → RunningOrder i r.order
-    → Passes (closed_to i r) r.order (our_way i r) × RightFor (closed_to i r) (tree_value i) r.order (our_way i r)
-    × ((a : Assignment) (c : ℕ) → Among c (probes (our_way i r) a r.order) ↔ LookDue i r a c)
+    (b q : List ℕ) (i : Input) → Reads b q i → (order : List ℕ) → RunningOrder i order → (a : Assignment)
+    → ((c : ℕ) → Among c (probes (ours (tree_value i) order) a order) ↔ LookDue i order a c)
+    × (answer_of (ours (tree_value i) order) a order ≡ tree_value i a)
 
 -- "Ours as a way takes each condition it has passed as no. It looks where the condition then alone decides the tree for some outcomes of the later ones; its
--- answer is the tree's value.": whatever it has seen; order 8: it passes the closed ones, the later ones are the open ones, and the closed ones are taken as no
+-- answer is the tree's value.": whatever it has seen
 abbrev pub Demand3OursRule : Type 0
 Demand3OursRule =
-    (i : Input) (r : Request) (seen : State)
-    → ((c : ℕ) → closed_to i r c ≡ true → (our_way i r).probe c seen ≡ false)
-    × ((c : ℕ) → closed_to i r c ≡ false
-    → ((our_way i r).probe c seen ≡ true) ↔ Due (tree_value i) c (later_than c (open_turns i r)) (as_no (closed_to i r) (passed_as_no seen)))
-    × ((our_way i r).answer seen ≡ tree_value i (as_no (closed_to i r) (passed_as_no seen)))
+    (i : Input) (order : List ℕ) (seen : State)
+    → ((c : ℕ) → ((ours (tree_value i) order).probe c seen ≡ true) ↔ Due (tree_value i) c (later_than c order) (passed_as_no seen))
+    × ((ours (tree_value i) order).answer seen ≡ tree_value i (passed_as_no seen))
 
 -- "A way's looks over all the entries are the sum of the numbers of its looks on each.": those of ours are the look count; order 6: "the comparison with
 -- other ways of working [is] about the entries still in the house"
 abbrev pub Demand3Count : Type 0
 Demand3Count =
-    (r : Request) (i : Input) → Reads r.catalogue r.question i → RunningOrder i r.order
-    → look_count (task_of i r) ≡ sum_of (λ e. if_present i e (length (probes (our_way i r) (pattern i e) r.order))) (row_count i)
+    (b q : List ℕ) (i : Input) → Reads b q i → (order : List ℕ) → RunningOrder i order
+    → look_count (task_of i order) ≡ sum_of (λ e. if_present i e (length (probes (ours (tree_value i) order) (pattern i e) order))) (row_count i)
 
 -- "For every accepted run and every such way for its question and order, the looks registered on an entry are among those the way makes there,
 -- and the look count is at most the way's looks over all the entries.": order 6, over those still in the house; what a way looks at on a withdrawn
 -- entry does not count for it
 abbrev pub Demand3Run : Type 0
 Demand3Run =
-    (l : Lent) (i : Input) → Kept l i
-    → (way : Strategy) → Passes (closed_to i l.request) l.request.order way → RightFor (closed_to i l.request) (tree_value i) l.request.order way
+    (l : Lent) (i : Input) → Kept l i → (way : Strategy) → Right (tree_value i) l.request.order way
     → ((e c : ℕ) → e < row_count i → c < predicate_count i → bit (looks_line i (after l).looks c) e ≡ true → Among c (probes way (pattern i e) l.request.order))
     × ((after l).word / 2 ^ 40 ≤ sum_of (λ e. if_present i e (length (probes way (pattern i e) l.request.order))) (row_count i))

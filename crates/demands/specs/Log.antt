@@ -1,5 +1,5 @@
 -- A whole copy of the register (order 1), our probe log: the word and the lent output afterwards, for every input.
-use Rattle.std.specs.Prelude.{ℕ, ◌*◌, ◌<◌, ◌≡◌, true, List, [], ◌∷◌, ◌++◌, length, leb}
+use Rattle.std.specs.Prelude.{ℕ, ◌*◌, ◌<◌, ◌≡◌, true, List, [], ◌∷◌, length, leb}
 use Rattle.fields.specs.Decoded.{Decoded, refused, accepted}
 use Rattle.fields.specs.Output.{put_front}
 use Rattle.predicate.specs.Meaning.{outcome}
@@ -14,7 +14,7 @@ use Rattle.answers.specs.Written.{Written, written, refuse_writing}
 use Rattle.answers.specs.Refusals.{not_order, output_too_short}
 use Rattle.answers.specs.Checks.{Checks, checked}
 use Rattle.answers.specs.Answers.{outcome_number}
-use Rattle.demands.specs.Run.{Request, predicate_count, task_of, look_count, reader_checks}
+use Rattle.demands.specs.Run.{Request, predicate_count, task_of, look_count}
 
 -- "outcome (1 yes, 0 no)", order 2's "gains outcome 2 for blank": the condition's own at that entry
 abbrev pub outcome_number_at : Task → (row c : ℕ) → ℕ
@@ -41,29 +41,27 @@ accept_log s T output = written (packed (Accepted 0 0 (log_size T))) (put_front 
 abbrev pub output_checks : Task → (output : List ℕ) → Checks
 output_checks T output = (output_too_short, leb (log_size T) (length output)) ∷ []
 
--- order 8: "the steward's copy takes reader and rights too, with 24 and 25 before 20"
-abbrev pub log_checks : Input → Request → (output : List ℕ) → Checks
-log_checks i r output =
-    (not_order, is_order (predicate_count i) r.order) ∷ reader_checks r.reader (length r.rights) ++ output_checks (task_of i r) output
+abbrev pub log_checks : Input → (order output : List ℕ) → Checks
+log_checks i order output = (not_order, is_order (predicate_count i) order) ∷ output_checks (task_of i order) output
 
-unfoldable pub log_on : (sequence : (row : ℕ) → List ℕ) → Input → Request → (output : List ℕ) → Written
-log_on s i r output = checked (log_checks i r output) (λ e. refuse_writing e output) (accept_log s (task_of i r) output)
+unfoldable pub log_on : (sequence : (row : ℕ) → List ℕ) → Input → (order output : List ℕ) → Written
+log_on s i order output = checked (log_checks i order output) (λ e. refuse_writing e output) (accept_log s (task_of i order) output)
 
-abbrev pub input_log : (sequence : (row : ℕ) → List ℕ) → Decoded Input → Request → (output : List ℕ) → Written
-input_log s (refused e) r output = refuse_writing e output
-input_log s (accepted i) r output = log_on s i r output
+abbrev pub input_log : (sequence : (row : ℕ) → List ℕ) → Decoded Input → (order output : List ℕ) → Written
+input_log s (refused e) order output = refuse_writing e output
+input_log s (accepted i) order output = log_on s i order output
 
--- "Inputs are those of a run without tables and tally.": 1 to 14 and 23 as for a run
+-- "Inputs are those of a run without tables and tally.", and until order 8 without its reader: 1 to 14 and 23 as for a run
 unfoldable pub log_of : (sequence : (row : ℕ) → List ℕ) → Request → (output : List ℕ) → Written
-log_of s r output = input_log s (decode_input r.catalogue r.question) r output
+log_of s r output = input_log s (decode_input r.catalogue r.question) r.order output
 
 -- a sequence is asked for where the order is accepted: elsewhere there are no looks to tell
-abbrev pub Sequenced : Decoded Input → Request → (sequence : (row : ℕ) → List ℕ) → Type 0
-Sequenced (refused e) r s = Unit {0}
-Sequenced (accepted i) r s = is_order (predicate_count i) r.order ≡ true → EachProbeOnce (task_of i r) s
+abbrev pub Sequenced : Decoded Input → (order : List ℕ) → (sequence : (row : ℕ) → List ℕ) → Type 0
+Sequenced (refused e) order s = Unit {0}
+Sequenced (accepted i) order s = is_order (predicate_count i) order ≡ true → EachProbeOnce (task_of i order) s
 
 -- WHAT A COPY PROMISES: for some such sequence (the open point, and nothing else is open) the word and every byte of the output
 pub record LogGives (r : Request) (old : List ℕ) (word : ℕ) (new : List ℕ) : Type 0 where
   pub sequence : (row : ℕ) → List ℕ
-  pub sequenced : Sequenced (decode_input r.catalogue r.question) r sequence
+  pub sequenced : Sequenced (decode_input r.catalogue r.question) r.order sequence
   pub leaves : written word new ≡ log_of sequence r old

@@ -5,34 +5,33 @@ use Rattle.fields.specs.Numbers.{number_at, bytes_of}
 use Rattle.strategy.specs.Order.{is_order}
 use Rattle.fields.specs.Output.{put_front, put_at}
 use Rattle.bitmaps.specs.Bitmap.{bytes_for, bitmap, bitmaps, ones_in}
-use Rattle.sets.specs.Set.{has}
 use Rattle.task.specs.Task.{Task, is_selected, is_probed}
 use Rattle.task.specs.Input.{Input, decode_input}
 use Rattle.answers.specs.declared.word.Answer.TheVariants.{Refused, Accepted}
 use Rattle.answers.specs.Word.{packed}
-use Rattle.answers.specs.Refusals.{not_order, table_too_short, no_such_reader, bad_rights, tally_refused}
+use Rattle.answers.specs.Refusals.{not_order, table_too_short, no_such_reader, tally_refused}
 use Rattle.answers.specs.Checks.{Checks, checked}
 
--- what a run and a copy are asked: the bytes of a catalogue, a question and an order, the reader (order 7) and the rights table (order 8)
+-- what a run and a copy are asked: the bytes of a catalogue, a question and an order
 pub record Request : Type 0 where
   pub catalogue : List ℕ
   pub question : List ℕ
   pub order : List ℕ
-  pub reader : ℕ
-  pub rights : List ℕ
 
--- what a run is given: the request, and the three tables that it is lent to write
+-- what a run is given: the request, its reader (order 7), and the three tables that it is lent to write
 pub record Lent : Type 0 where
   pub request : Request
+  pub reader : ℕ
   pub listed : List ℕ
   pub looks : List ℕ
   pub tally : List ℕ
 
-abbrev pub request : (catalogue question order : List ℕ) → (reader : ℕ) → (rights : List ℕ) → Request
-request b q order reader rights = record { catalogue = b; question = q; order = order; reader = reader; rights = rights }
+abbrev pub request : (catalogue question order : List ℕ) → Request
+request b q order = record { catalogue = b; question = q; order = order }
 
-abbrev pub lent : (catalogue question order : List ℕ) → (reader : ℕ) → (rights listed looks tally : List ℕ) → Lent
-lent b q order reader rights listed looks tally = record { request = request b q order reader rights; listed = listed; looks = looks; tally = tally }
+abbrev pub lent : (catalogue question order : List ℕ) → (reader : ℕ) → (listed looks tally : List ℕ) → Lent
+lent b q order reader listed looks tally =
+    record { request = request b q order; reader = reader; listed = listed; looks = looks; tally = tally }
 
 -- what a run leaves: the packed word, the listed table, the looks table, the tally
 pub record Ran : Type 0 where
@@ -54,16 +53,9 @@ row_count i = i.catalogue.rows
 abbrev pub predicate_count : Input → ℕ
 predicate_count i = length i.query.predicates
 
--- order 8: "A lent rights table has two bytes per reader; the bit of weight 2^c closes column c."
-abbrev pub rights_width : ℕ
-rights_width = 2
-
-abbrev pub closes : (rights : List ℕ) → (reader column : ℕ) → Bool
-closes rights reader column = has (number_at rights (rights_width * reader) rights_width) column
-
 -- what a run works on
-abbrev pub task_of : Input → Request → Task
-task_of i r = record { catalogue = i.catalogue; query = i.query; order = r.order; closed = closes r.rights r.reader }
+abbrev pub task_of : Input → (order : List ℕ) → Task
+task_of i order = record { catalogue = i.catalogue; query = i.query; order = order }
 
 -- the listed table: our selection bitmap
 unfoldable pub selection : Task → List ℕ
@@ -90,9 +82,6 @@ reader_limit = 16
 abbrev pub tally_size : ℕ
 tally_size = reader_limit * counter_size
 
-abbrev pub rights_size : ℕ
-rights_size = reader_limit * rights_width
-
 -- where a reader's number stands, and that number
 abbrev pub counter_place : (reader : ℕ) → ℕ
 counter_place reader = reader * counter_size
@@ -112,14 +101,14 @@ tables_fit n size listed looks = leb size listed && leb (n * size) looks
 abbrev pub tally_fits : (tally : List ℕ) → (reader look_count_lem : ℕ) → Bool
 tally_fits tally reader k = eqb (length tally) tally_size && ltb (counter_at tally reader + k) (2 ^ 64)
 
--- order 7: "24, reader over 15"; order 8: "25, the rights table isn't 32 bytes, after 24"
-abbrev pub reader_checks : (reader rights : ℕ) → Checks
-reader_checks reader rights = (no_such_reader, ltb reader reader_limit) ∷ (bad_rights, eqb rights rights_size) ∷ []
+-- order 7: "24, reader over 15"
+abbrev pub reader_checks : (reader : ℕ) → Checks
+reader_checks reader = (no_such_reader, ltb reader reader_limit) ∷ []
 
 -- the checks that need no work: "15, the order is not n bytes holding each number once; 16, a table is too short", and 24 "after 16"
-abbrev pub request_checks : (n size : ℕ) → (order : List ℕ) → (reader rights listed looks : ℕ) → Checks
-request_checks n size order reader rights listed looks =
-    (not_order, is_order n order) ∷ (table_too_short, tables_fit n size listed looks) ∷ reader_checks reader rights
+abbrev pub request_checks : (n size : ℕ) → (order : List ℕ) → (reader listed looks : ℕ) → Checks
+request_checks n size order reader listed looks =
+    (not_order, is_order n order) ∷ (table_too_short, tables_fit n size listed looks) ∷ reader_checks reader
 
 -- and the one that needs the count: "Refusal 17 is for a tally not of 128 bytes or a sum too large for this reader"
 abbrev pub tally_checks : (tally : List ℕ) → (reader look_count_lem : ℕ) → Checks
@@ -127,8 +116,8 @@ tally_checks tally reader k = (tally_refused, tally_fits tally reader k) ∷ []
 
 abbrev pub run_checks : Input → Lent → Checks
 run_checks i l =
-    request_checks (predicate_count i) (bytes_for (row_count i)) l.request.order l.request.reader (length l.request.rights) (length l.listed) (length l.looks)
-    ++ tally_checks l.tally l.request.reader (look_count (task_of i l.request))
+    request_checks (predicate_count i) (bytes_for (row_count i)) l.request.order l.reader (length l.listed) (length l.looks)
+    ++ tally_checks l.tally l.reader (look_count (task_of i l.request.order))
 
 -- an accepted run: the two tables go out, their ones are its counts, and its reader's number gains the looks
 abbrev pub accept_with : (selection probed : List ℕ) → (reader : ℕ) → (listed looks tally : List ℕ) → Ran
@@ -136,11 +125,11 @@ accept_with S P reader listed looks tally =
     ran (packed (Accepted (ones_in S) 0 (ones_in P))) (put_front S listed) (put_front P looks) (tally_after tally reader (ones_in P))
 
 abbrev pub accept : Task → Lent → Ran
-accept T l = accept_with (selection T) (probe_bitmaps T) l.request.reader l.listed l.looks l.tally
+accept T l = accept_with (selection T) (probe_bitmaps T) l.reader l.listed l.looks l.tally
 
 -- "Running: .. 15, .. 16, .. 17, ..", order 7's 24 between the last two
 unfoldable pub run_on : Input → Lent → Ran
-run_on i l = checked (run_checks i l) (λ e. refuse e l.listed l.looks l.tally) (accept (task_of i l.request) l)
+run_on i l = checked (run_checks i l) (λ e. refuse e l.listed l.looks l.tally) (accept (task_of i l.request.order) l)
 
 abbrev pub input_then : Decoded Input → Lent → Ran
 input_then (refused e) l = refuse e l.listed l.looks l.tally

@@ -13,7 +13,7 @@ Through tally (l ∷ ls) left = InBytes l.request × (l.tally ≡ tally) × Thro
 
 -- "the look counts of that reader's accepted runs": the third result of a run that is this reader's and accepted (number 0); else 0
 abbrev pub looks_by : (reader : ℕ) → Lent → ℕ
-looks_by reader l = cond (eqb l.request.reader reader && eqb ((after l).word % 2 ^ 8) 0) ((after l).word / 2 ^ 40) 0
+looks_by reader l = cond (eqb l.reader reader && eqb ((after l).word % 2 ^ 8) 0) ((after l).word / 2 ^ 40) 0
 
 -- and their sum
 abbrev pub sum_by : (reader : ℕ) → List Lent → ℕ

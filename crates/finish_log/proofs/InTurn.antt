@@ -1,11 +1,9 @@
 -- The probes of a row in the sequence of their turns: those that a table marks, and each of them once.
-use Prim.Native.Nat.{ℕ, ◌≤◌}
-use native.Mathlib.Omega.{arith}
+use Prim.Native.Nat.{ℕ}
 use mathlib.Core.Path.{◌≡◌, refl, sym, ap, ap₂, ◌∙◌, subst}
 use mathlib.Core.Bool.{Bool, true, false, ◌||◌}
 use mathlib.Core.Logic.{◌⊎◌, inl, inr}
 use mathlib.Core.List.{List, [], ◌∷◌}
-use lib.ListN.{length}
 use Rattle.bools.specs.Bools.{eqb_self, eqb_ne}
 use Rattle.strategy.specs.Assignment.{Assignment, Among, elem, Once, keep_if}
 use Rattle.strategy.specs.AssignmentLaws.{among?, elem_yes, elem_no}
@@ -18,10 +16,10 @@ use Rattle.strategy.specs.Tree.{eval}
 use Rattle.bitmaps.specs.Sums.{digit}
 use Rattle.bitmaps.specs.Table.{line_bit}
 use Rattle.log.specs.MarkedLog.{marked_at}
-use Rattle.closed.specs.Closed.{only}
-use Rattle.closed.specs.ClosedLaws.{open_once}
-use Rattle.task.specs.Task.{Task, is_closed, turns_of, told, due_at, made_at, is_probed}
+use Rattle.task.specs.Task.{told, due_at, made_at, is_probed}
 use Rattle.task.proofs.Withdrawn.{trace_holds}
+use Rattle.task.specs.Input.{Input}
+use Rattle.demands.specs.Run.{predicate_count, task_of}
 use Rattle.demands.specs.Log.{EachProbeOnce}
 
 -- the predicates of an order that a table marks, where it marks those of the trace
@@ -54,30 +52,21 @@ once_occurs l once c = go (among? c l)
     go (inl m) = occurs_once c l once m ∙ sym (ap digit (elem_yes c l m))
     go (inr n) = occurs_none c l n ∙ sym (ap digit (elem_no c l n))
 
--- no more turns are open than there are
-pub only_length : (keep : ℕ → Bool) (l : List ℕ) → length (only keep l) ≤ length l
-unfolding only
-only_length keep [] = omega arith
-only_length keep (c ∷ cs) = go (keep c) (only_length keep cs)
-  where
-    go : (b : Bool) → length (only keep cs) ≤ length cs → length (keep_if b c (only keep cs)) ≤ length (c ∷ cs)
-    go true h = omega arith
-    go false h = omega arith
+module _ (i : Input) (order : List ℕ) (ordered : is_order (predicate_count i) order ≡ true) where
+  order_once : Once order
+  order_once = ((order_law (predicate_count i) order).0 ordered).once
 
-module _ (T : Task) (n : ℕ) (ordered : is_order n T.order ≡ true) where
-  turns_once : Once (turns_of T)
-  turns_once = open_once (is_closed T) T.order ((order_law n T.order).0 ordered).once
-
-  pub made_marked : (P : List ℕ) (row : ℕ) → ((c : ℕ) → Among c (turns_of T) → line_bit P c row ≡ is_probed T c row) → made_at T row ≡ marked_at P row (turns_of T)
+  pub made_marked : (P : List ℕ) (row : ℕ) → ((c : ℕ) → Among c order → line_bit P c row ≡ is_probed (task_of i order) c row)
+      → made_at (task_of i order) row ≡ marked_at P row order
   unfolding due_at predicates elem
   made_marked P row marks =
-      trace_holds T row (λ (s : State). ((c : ℕ) → Among c (turns_of T) → line_bit P c row ≡ elem c (predicates s)) → predicates s ≡ marked_at P row (turns_of T))
-      (λ none. sym (none_marked P row (turns_of T) none))
-      (λ due. sym (marked_trace (eval T.query.tree) (told T row) P row (turns_of T) turns_once due))
+      trace_holds (task_of i order) row (λ (s : State). ((c : ℕ) → Among c order → line_bit P c row ≡ elem c (predicates s)) → predicates s ≡ marked_at P row order)
+      (λ none. sym (none_marked P row order none))
+      (λ due. sym (marked_trace (eval i.query.tree) (told (task_of i order) row) P row order order_once due))
       marks
 
-  pub made_once : EachProbeOnce T (made_at T)
+  pub made_once : EachProbeOnce (task_of i order) (made_at (task_of i order))
   unfolding due_at predicates
   made_once row l c =
-      once_occurs (made_at T row)
-      (trace_holds T row (λ (s : State). Once (predicates s)) tt (trace_once (eval T.query.tree) (told T row) (turns_of T) turns_once)) c
+      once_occurs (made_at (task_of i order) row)
+      (trace_holds (task_of i order) row (λ (s : State). Once (predicates s)) tt (trace_once (eval i.query.tree) (told (task_of i order) row) order order_once)) c

@@ -10,14 +10,14 @@ use marks::MarkTable;
 pub fn finish_log(
     catalogue: &[u8],
     plan: &[usize],
-    turns: &[u8],
+    order: &[u8],
     marks: &[u8],
     n: usize,
     rows: usize,
     output: &mut [u8],
 ) -> Answer
-    requires { HasMarks catalogue.now plan.now turns.now marks.now n rows }
-    ensures { LogFinished catalogue.now plan.now turns.now marks.now n rows
+    requires { HasMarks catalogue.now plan.now order.now marks.now n rows }
+    ensures { LogFinished catalogue.now plan.now order.now marks.now n rows
         output.old result output.new }
 {
     let looked = counts::lines::count_whole_lines(marks, n, bitmaps::size::bytes_for(rows));
@@ -28,7 +28,7 @@ pub fn finish_log(
     log_rows::all::put_rows(
         catalogue,
         plan,
-        turns,
+        order,
         &marks[..MarkTable::PROBES],
         &marks[MarkTable::PROBES..],
         rows,

@@ -3,15 +3,15 @@ use Rattle.std.specs.Prelude.{ℕ, List, []}
 use Rattle.fields.specs.Decoded.{Decoded, refused, accepted}
 use Rattle.task.specs.Task.{made_at}
 use Rattle.task.specs.Input.{Input, decode_input}
-use Rattle.demands.specs.Run.{Request, task_of}
+use Rattle.demands.specs.Run.{request, task_of}
 use Rattle.answers.specs.Written.{Written}
 use Rattle.demands.specs.Log.{log_of}
 
 -- that of their turns
-abbrev pub in_turn : Decoded Input → Request → (row : ℕ) → List ℕ
-in_turn (refused e) r row = []
-in_turn (accepted i) r row = made_at (task_of i r) row
+abbrev pub in_turn : Decoded Input → (order : List ℕ) → (row : ℕ) → List ℕ
+in_turn (refused e) order row = []
+in_turn (accepted i) order row = made_at (task_of i order) row
 
 -- what a copy in that sequence leaves
-abbrev pub log_in_turn : Request → (output : List ℕ) → Written
-log_in_turn r output = log_of (in_turn (decode_input r.catalogue r.question) r) r output
+abbrev pub log_in_turn : (catalogue question order output : List ℕ) → Written
+log_in_turn b q order output = log_of (in_turn (decode_input b q) order) (request b q order) output

@@ -2,7 +2,6 @@
 ghost use Rattle.std.specs.Prelude.{◌≡◌};
 ghost use Rattle.answers.specs.Word.{packed, FitsWord};
 ghost use Rattle.answers.specs.Written.{written};
-ghost use Rattle.demands.specs.Run.{request};
 ghost use Rattle.probe_log.specs.Sequence.{log_in_turn};
 
 use ancestors::Ancestors;
@@ -12,20 +11,11 @@ use bitmaps::copy::Line;
 use marks::MarkTable;
 use plan::table::Plan;
 use query::format::Predicate;
-use work::Prepared;
 
 // The checks, the work, the end.
-pub fn log_question(
-    catalogue: &[u8],
-    question: &[u8],
-    order: &[u8],
-    reader: u64,
-    rights: &[u8],
-    output: &mut [u8],
-) -> Answer
+pub fn log_question(catalogue: &[u8], question: &[u8], order: &[u8], output: &mut [u8]) -> Answer
     ensures { (written (packed result) output.new
-        ≡ log_in_turn (request catalogue.now question.now order.now reader rights.now)
-        output.old) × FitsWord result }
+        ≡ log_in_turn catalogue.now question.now order.now output.old) × FitsWord result }
 {
     let mut offsets = [0usize; Predicate::LIMIT];
     let mut ancestors = [0u8; Ancestors::TABLE_SIZE];
@@ -39,39 +29,19 @@ pub fn log_question(
     if !orders::is_order(order, fields::number::narrow(n)) {
         return Answer::Refused(Refusal::NOT_ORDER);
     }
-    let failing = request::check_reader(reader, rights.len());
-    if failing != 0 {
-        return Answer::Refused(failing);
-    }
     let mut plan = [0usize; Plan::TABLE_SIZE];
     work::make_plan(question, begun, &offsets, &mut plan);
-    let mut turns = [0u8; Predicate::LIMIT];
-    let opened = work::open_request(
-        question,
-        order,
-        reader as usize,
-        rights,
-        begun,
-        &offsets,
-        &ancestors,
-        &mut turns,
-    );
-    let count = opened.count;
-    let prepared = Prepared {
-        begun,
-        start: opened.start,
-    };
     let mut selected = [0u8; Line::SIZE];
     let mut marks = [0u8; 2 * MarkTable::PROBES];
     work::work(
         catalogue,
         question,
-        &turns[..count],
-        prepared,
+        order,
+        begun,
         &plan,
         &ancestors,
         &mut selected,
         &mut marks,
     );
-    finish_log::finish_log(catalogue, &plan, &turns[..count], &marks, n, rows, output)
+    finish_log::finish_log(catalogue, &plan, order, &marks, n, rows, output)
 }

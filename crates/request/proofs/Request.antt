@@ -7,32 +7,18 @@ use mathlib.Core.Bool.{true, false}
 use mathlib.Core.List.{List}
 use lib.Dec.{leb}
 use borrow.Author.Tests.{le-leb, lt-leb, lt-ltb, le-ltb}
-use Rattle.bools.specs.Bools.{and_parts, eqb_eq, eqb_ne, leb_le, ltb_lt}
+use Rattle.bools.specs.Bools.{and_parts, leb_le, ltb_lt}
 use Rattle.strategy.specs.Order.{is_order}
 use Rattle.bitmaps.specs.Table.{line_size}
 use Rattle.query.specs.Format.{predicate_limit}
-use Rattle.answers.specs.Refusals.{not_order, table_too_short, no_such_reader, bad_rights}
+use Rattle.answers.specs.Refusals.{not_order, table_too_short, no_such_reader}
 use Rattle.answers.specs.Checks.{checked, refusal_by}
 use Rattle.answers.proofs.Checks.{AllHold, none_fails}
-use Rattle.demands.specs.Run.{reader_limit, rights_size, reader_checks, request_checks}
+use Rattle.demands.specs.Run.{reader_limit, request_checks}
 
-module _ (reader rights : ℕ) where
-  pub no_such_reader_lem : reader_limit ≤ reader → no_such_reader ≡ refusal_by (reader_checks reader rights)
-  unfolding checked
-  no_such_reader_lem l = rw (le-ltb reader reader_limit l)
-
-  module _ (l : reader < reader_limit) where
-    pub bad_rights_lem : (rights ≡ rights_size → ⊥) → bad_rights ≡ refusal_by (reader_checks reader rights)
-    unfolding checked
-    bad_rights_lem n = rw (lt-ltb reader reader_limit l, eqb_ne rights rights_size n)
-
-    pub reader_holds : rights ≡ rights_size → 0 ≡ refusal_by (reader_checks reader rights)
-    unfolding checked
-    reader_holds e = rw (lt-ltb reader reader_limit l, e)
-
-module _ (n size : ℕ) (order : List ℕ) (reader rights listed looks : ℕ) where
+module _ (n size : ℕ) (order : List ℕ) (reader listed looks : ℕ) where
   abbrev first : ℕ
-  first = refusal_by (request_checks n size order reader rights listed looks)
+  first = refusal_by (request_checks n size order reader listed looks)
 
   pub not_order_lem : is_order n order ≡ false → not_order ≡ first
   unfolding checked
@@ -47,19 +33,20 @@ module _ (n size : ℕ) (order : List ℕ) (reader rights listed looks : ℕ) wh
     unfolding checked
     looks_short g h = rw (o, le-leb size listed g, lt-leb (n * size) looks h)
 
-    pub reader_decides : size ≤ listed → n * size ≤ looks → refusal_by (reader_checks reader rights) ≡ first
+    pub no_such_reader_lem : size ≤ listed → n * size ≤ looks → reader_limit ≤ reader → no_such_reader ≡ first
     unfolding checked
-    reader_decides g h = rw (o, le-leb size listed g, le-leb (n * size) looks h)
+    no_such_reader_lem g h l = rw (o, le-leb size listed g, le-leb (n * size) looks h, le-ltb reader reader_limit l)
+
+    pub request_holds : size ≤ listed → n * size ≤ looks → reader < reader_limit → 0 ≡ first
+    unfolding checked
+    request_holds g h l = rw (o, le-leb size listed g, le-leb (n * size) looks h, lt-ltb reader reader_limit l)
 
   module _ (k : ℕ) (e : k ≡ first) (z : k ≡ 0) where
-    pub request_kept : AllHold (request_checks n size order reader rights listed looks)
-    request_kept = none_fails (request_checks n size order reader rights listed looks) (omega arith, (omega arith, (omega arith, (omega arith, tt)))) (sym e ∙ z)
+    pub request_kept : AllHold (request_checks n size order reader listed looks)
+    request_kept = none_fails (request_checks n size order reader listed looks) (omega arith, (omega arith, (omega arith, tt))) (sym e ∙ z)
 
     pub request_order : is_order n order ≡ true
     request_order = request_kept.0
-
-    pub request_rights : rights ≡ rights_size
-    request_rights = eqb_eq rights rights_size request_kept.1.1.1.0
 
     -- what the end of a run asks: room in the tables, and a reader
     pub request_fits : ((size ≤ listed) × (n * size ≤ looks)) × (reader < reader_limit)

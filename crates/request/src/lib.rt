@@ -3,36 +3,22 @@ ghost use Rattle.std.specs.Prelude.{◌≡◌, ◌≤◌};
 ghost use Rattle.bitmaps.specs.Table.{line_size};
 ghost use Rattle.query.specs.Format.{predicate_limit};
 ghost use Rattle.answers.specs.Checks.{refusal_by};
-ghost use Rattle.demands.specs.Run.{reader_checks, request_checks};
+ghost use Rattle.demands.specs.Run.{request_checks};
 
 use answers::refusal::Refusal;
-use answers::tally::{Reader, Rights};
+use answers::tally::Reader;
 
-// 0, or the number of the first that fails: the reader, then the length of the rights table. A run and a copy ask the same.
-pub fn check_reader(reader: u64, rights: usize) -> u8
-    ensures { result ≡ refusal_by (reader_checks reader rights) }
-{
-    if Reader::LIMIT <= reader {
-        return Refusal::NO_SUCH_READER;
-    }
-    if rights != Rights::SIZE {
-        return Refusal::BAD_RIGHTS;
-    }
-    0
-}
-
-// 0, or the number of the first that fails. A line of bits has this size, the rights table and the lent tables are so long.
+// 0, or the number of the first that fails. A line of bits has this size, the lent tables are so long.
 pub fn check_request(
     order: &[u8],
     n: usize,
     size: usize,
     reader: u64,
-    rights: usize,
     listed: usize,
     looks: usize,
 ) -> u8
     requires { (n ≤ predicate_limit) × (size ≤ line_size) }
-    ensures { result ≡ refusal_by (request_checks n size order.now reader rights listed looks) }
+    ensures { result ≡ refusal_by (request_checks n size order.now reader listed looks) }
 {
     if !orders::is_order(order, fields::number::narrow(n)) {
         return Refusal::NOT_ORDER;
@@ -43,5 +29,8 @@ pub fn check_request(
     if looks < n * size {
         return Refusal::TABLE_TOO_SHORT;
     }
-    check_reader(reader, rights)
+    if Reader::LIMIT <= reader {
+        return Refusal::NO_SUCH_READER;
+    }
+    0
 }

@@ -2,21 +2,19 @@
 use Prim.Native.Nat.{ℕ, ◌+◌, ◌-◌, ◌≤◌, ◌<◌}
 use native.Mathlib.Omega.{arith}
 use mathlib.Core.Path.{◌≡◌, refl, sym, ap, ◌∙◌, subst}
-use mathlib.Core.Bool.{Bool, true, false, ◌&&◌, cond}
+use mathlib.Core.Bool.{Bool, true, false, cond}
 use mathlib.Core.Logic.{◌⊎◌, inl, inr}
 use mathlib.Core.List.{List}
 use lib.ListN.{length, length-set, get_or, set}
 use lib.Seq.{get_or-set_same, get_or-set_other}
 use lib.Bits.{bit_and, bit_or}
 use Rattle.bools.specs.Bools.{clash, same?}
-use Rattle.strategy.specs.Assignment.{Among, Once}
+use Rattle.strategy.specs.Assignment.{Once}
 use Rattle.strategy.specs.AssignmentLaws.{among_at}
 use Rattle.strategy.specs.OrderLaws.{order_law}
 use Rattle.strategy.specs.Live.{Step}
 use Rattle.strategy.specs.Propagation.{Ancestor, enclosing}
 use Rattle.strategy.specs.PropagationLaws.{propagate_less}
-use Rattle.closed.specs.ClosedLaws.{open_once}
-use Rattle.task.proofs.Open.{turn_open, told_open}
 use Rattle.sets.specs.Set.{has}
 use Rattle.sets.specs.SetLaws.{has_none}
 use Rattle.sets.specs.Kept.{KeptBy}
@@ -26,7 +24,7 @@ use Rattle.blocks.specs.Block.{row_live, row_step, Propagated, HasAncestors}
 use Rattle.plan.specs.Plan.{access_at}
 use Rattle.access.specs.Access.{HasOutcomes, MetIs}
 use Rattle.rows.specs.declared.block.Block.{Block}
-use Rattle.task.specs.Task.{Task, predicate_at, assignment_at, is_closed, turns_of, told}
+use Rattle.task.specs.Task.{Task, predicate_at, turns_of, told}
 use Rattle.rows.specs.Ready.{Slices, Ready}
 use Rattle.marks.specs.Marks.{MarkReady, Marked}
 use Rattle.rows.specs.Worked.{Filled, BlockIn, HasNoMarks, BlockReady, BlockWorked}
@@ -41,19 +39,11 @@ pub record Turning (G : Slices) (B : Block) (i : ℕ) (L : List ℕ) (sel : ℕ)
   pub working : (n : ℕ) (T : Task) → Ready G n T → BlockIn B T.catalogue.rows → Working T B i L sel P₀ P
 
 ready_once : {G : Slices} {n : ℕ} {T : Task} → Ready G n T → Once (turns_of T)
-ready_once {G} {n} {T} R = open_once (is_closed T) T.order ((order_law n T.order).0 R.ordered).once
+ready_once {G} {n} {T} R = subst Once R.turns ((order_law n G.turns).0 R.ordered).once
 
--- a turn is an open predicate's
-turn_among : {G : Slices} {n : ℕ} {T : Task} (i : ℕ) → Ready G n T → i < length G.turns → Among (get_or G.turns i 0) (turns_of T)
-turn_among {G} {n} {T} i R h = subst (Among (get_or G.turns i 0)) R.turns (among_at G.turns i h)
-
+-- a turn is a predicate's
 ready_turn : {G : Slices} {n : ℕ} {T : Task} (i : ℕ) → Ready G n T → i < length G.turns → get_or G.turns i 0 < n
-ready_turn {G} {n} {T} i R h = ((order_law n T.order).0 R.ordered).inside (get_or G.turns i 0) (turn_open T (get_or G.turns i 0) (turn_among i R h)).0
-
--- whose outcome is taken as it is
-ready_told : {G : Slices} {n : ℕ} {T : Task} (i : ℕ) → Ready G n T → i < length G.turns → (row : ℕ)
-    → told T row (get_or G.turns i 0) ≡ assignment_at T.catalogue T.query row (get_or G.turns i 0)
-ready_told {G} {n} {T} i R h = told_open T (get_or G.turns i 0) (turn_among i R h)
+ready_turn {G} {n} i R h = ((order_law n G.turns).0 R.ordered).inside (get_or G.turns i 0) (among_at G.turns i h)
 
 pub turns_left : {i n : ℕ} → i < n → n - (i + 1) < n - i
 turns_left h = omega arith
@@ -146,8 +136,7 @@ module _ {G : Slices} {B : Block} where
               block_turn T B (W.working n T R I) (subst (λ (t : List ℕ). i < length t) R.turns lt) I
               (subst (λ (x : ℕ). x < length L) e hl)
               (let few = R.few in subst (λ (x : ℕ). x < predicate_limit) e (omega arith))
-              (subst (λ (x : ℕ). KeptBy (λ d. told T (B.base + d) x) (get_or L x 0) met) e
-              (λ d. K T.catalogue (predicate_at T.query c) (R.accessed c l) (λ d y. I.taking_part d (W.within c d y)) d ∙ ap (λ (b : Bool). has (get_or L c 0) d && b) (sym (rw c-is (ready_told i R lt (B.base + d))))))
+              (subst (λ (x : ℕ). KeptBy (λ d. told T (B.base + d) x) (get_or L x 0) met) e (K T.catalogue (predicate_at T.query c) (R.accessed c l) (λ d y. I.taking_part d (W.within c d y))))
               (subst (λ (x : ℕ). Marked x B.base (get_or L x 0) met P P') e M)
               (subst (λ (x : ℕ). Propagated (enclosing T.query.tree 0 x) met (get_or L x 0) passed (set L x 0) N) e
               (subst (λ (gs : List Ancestor). Propagated gs met (get_or L c 0) passed (set L c 0) N) (R.ancestors c l) C)));

@@ -2,7 +2,7 @@
 use Prim.Native.Nat.{ℕ, ◌<◌}
 use native.Mathlib.Omega.{arith}
 use mathlib.Core.Path.{◌≡◌, refl, sym, ap, ◌∙◌}
-use mathlib.Core.Bool.{Bool, true}
+use mathlib.Core.Bool.{true}
 use mathlib.Core.List.{List, []}
 use lib.ListN.{length, get_or}
 use Rattle.catalogue.specs.Format.{column_limit}
@@ -24,7 +24,7 @@ use Rattle.reading.specs.QueryRead.{Tabled}
 use Rattle.records.proofs.Records.{predicates_at_lem}
 use Rattle.plan.specs.Plan.{plan_size, access_at, access_of, HasColumns, Planned}
 use Rattle.access.specs.Access.{Accessed}
-use Rattle.task.specs.Task.{predicate_at, turns_of}
+use Rattle.task.specs.Task.{predicate_at}
 use Rattle.rows.specs.Ready.{slices, Ready}
 
 -- a catalogue that is laid out, and a query that was read against its columns
@@ -73,7 +73,7 @@ module _ {b q : List ℕ} {l : Layout} {C : Catalogue} {Q : Query} {n : ℕ} {T 
       operand_fits_lem = valid.operand_fits_lem;
     }
 
-    pub predicate_is : predicate_at Q c ≡ predicate_in q r
+    predicate_is : predicate_at Q c ≡ predicate_in q r
     predicate_is =
         ap (λ ps. get_or ps c (record { column = 0; kind = 0; operand = []; place = 0 })) (sym read.shown)
         ∙ predicates_at_lem q T.offsets n c (record { column = 0; kind = 0; operand = []; place = 0 }) k
@@ -84,14 +84,12 @@ module _ {b q : List ℕ} {l : Layout} {C : Catalogue} {Q : Query} {n : ℕ} {T 
   planned_accessed P c k e = rw (e, predicate_is c k) (planned c k)
 
   -- A RUN IS READY
-  pub ready : {order turns P : List ℕ} {closed : (column : ℕ) → Bool} → is_order n order ≡ true
-      → turns ≡ turns_of (record { catalogue = C; query = Q; order = order; closed = closed })
-      → length P ≡ plan_size → Planned l.tags l.starts (record_at q T.offsets) P n
-      → Ready (slices b q turns P T.ancestors) n (record { catalogue = C; query = Q; order = order; closed = closed })
-  ready {order} {turns} {P} {closed} o t s p = record {
+  pub ready : {order P : List ℕ} → is_order n order ≡ true → length P ≡ plan_size → Planned l.tags l.starts (record_at q T.offsets) P n
+      → Ready (slices b q order P T.ancestors) n (record { catalogue = C; query = Q; order = order })
+  ready {order} {P} o s p = record {
     short = omega (arith, laid.rows, laid.short);
     few = read.few;
-    turns = t;
+    turns = refl;
     ordered = o;
     plan_size_lem = s;
     accessed = λ c k. planned_accessed P c k (p c k);

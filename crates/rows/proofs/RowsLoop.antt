@@ -9,14 +9,14 @@ use lib.Dec.{ltb}
 use lib.ListN.{length, drop}
 use Rattle.fields.specs.Numbers.{Bytes}
 use Rattle.bools.specs.Bools.{which, not_true, and_right, ltb_yes, ltb_no, ltb_lt, ltb_le}
-use Rattle.strategy.specs.Assignment.{Among, elem}
+use Rattle.strategy.specs.Assignment.{elem}
 use Rattle.strategy.specs.AssignmentLaws.{elem_among}
+use Rattle.strategy.specs.Order.{Order}
 use Rattle.strategy.specs.OrderLaws.{order_law}
 use Rattle.strategy.specs.Strategy.{predicates}
 use Rattle.strategy.specs.TraceLaws.{trace_among}
-use Rattle.strategy.specs.Tree.{eval}
-use Rattle.closed.specs.ClosedLaws.{open_among}
-use Rattle.closed.specs.StartLaws.{work_started}
+use Rattle.strategy.specs.Tree.{eval, size}
+use Rattle.strategy.specs.RowLaws.{work_row}
 use Rattle.sets.specs.Set.{has}
 use Rattle.sets.specs.SetLaws.{has_below}
 use Rattle.bitmaps.specs.Bit.{bit}
@@ -29,7 +29,7 @@ use Rattle.catalogue.specs.Catalogue.{is_withdrawn}
 use Rattle.query.specs.Format.{predicate_limit}
 use Rattle.rows.specs.declared.block.Block.{Block}
 use Rattle.rows.specs.declared.all.Extent.{Extent}
-use Rattle.task.specs.Task.{Task, is_closed, turns_of, told, is_selected, due_at, is_probed}
+use Rattle.task.specs.Task.{Task, turns_of, told, is_selected, due_at, is_probed}
 use Rattle.present.specs.Present.{WithdrawnFor, present_set}
 use Rattle.rows.specs.Ready.{Slices, Ready}
 use Rattle.marks.specs.Marks.{HasMarkLines, met_line, HasNoBits, HasEmptyMarks}
@@ -133,8 +133,8 @@ module _ {G : Slices} {E : Extent} {W : List ℕ} {base : ℕ} {S P₀ P : List 
             let l : d < min block_rows (E.rows - base) = ltb_lt d (min block_rows (E.rows - base)) (sym (has_below (min block_rows (E.rows - base)) d) ∙ present_there W E.rows base d y) in
             omega arith
 
-    turn_inside : (c : ℕ) → Among c (turns_of T) → c < n
-    turn_inside c m = ((order_law n T.order).0 R.ordered).inside c (open_among (is_closed T) T.order c m).0
+    held : Order (size T.query.tree) (turns_of T)
+    held = subst (λ (k : ℕ). Order k (turns_of T)) (sym R.leaves) (subst (Order n) R.turns ((order_law n G.turns).0 R.ordered))
 
     -- whether row d of the block takes part: it is there and in the house
     takes_part : (d : ℕ) → d < block_rows → has (present_set W E.rows base) d ≡ (ltb (base + d) T.catalogue.rows && not (is_withdrawn T.catalogue (base + d)))
@@ -144,10 +144,13 @@ module _ {G : Slices} {E : Extent} {W : List ℕ} {base : ℕ} {S P₀ P : List 
         present_has W E.rows base d B.withdrawn.bytes w l lt
         ∙ ap₂ (λ (a b : Bool). a && not b) (ap (ltb (base + d)) r) (B.withdrawn.bits (base + d) ∙ ap (λ (m : List ℕ). bit m (base + d)) X.mark.bytes)
 
+    all_live : (c : ℕ) → c < size T.query.tree → has E.start c ≡ true
+    all_live c l = let z = R.leaves in ap (λ (x : ℕ). has x c) X.start ∙ has_below n c ∙ ltb_yes c n (omega arith)
+
     row_selected : (d : ℕ) → d < block_rows → (row_of T (block_at E W base) d).selected ≡ (ltb (base + d) T.catalogue.rows && is_selected T (base + d))
     unfolding is_selected
     row_selected d l =
-        (work_started T.query.tree R.numbered (told T (base + d)) (turns_of T) (has E.start) (X.started (base + d)) (has (present_set W E.rows base) d)).0
+        (work_row T.query.tree R.numbered (told T (base + d)) R.full (turns_of T) held (has E.start) all_live (has (present_set W E.rows base) d)).0
         ∙ ap (λ (b : Bool). b && eval T.query.tree (told T (base + d))) (takes_part d l)
         ∙ and_assoc (ltb (base + d) T.catalogue.rows) (not (is_withdrawn T.catalogue (base + d))) (eval T.query.tree (told T (base + d)))
 
@@ -162,13 +165,14 @@ module _ {G : Slices} {E : Extent} {W : List ℕ} {base : ℕ} {S P₀ P : List 
         go : (ltb c n ≡ true) ⊎ (ltb c n ≡ false) → (ltb c n && is_probed T c e) ≡ is_probed T c e
         go (inl y) = rw y
         go (inr y) =
+            let z = R.leaves in
             let m : n ≤ c = ltb_le c n y in
-            rw y (sym (not_true (is_probed T c e) (λ h. (let k = turn_inside c (trace_among (eval T.query.tree) (told T e) (turns_of T) c (elem_among c (predicates (due_at T e)) (due h))) in omega arith))))
+            rw y (sym (not_true (is_probed T c e) (λ h. (let k = held.inside c (trace_among (eval T.query.tree) (told T e) (turns_of T) c (elem_among c (predicates (due_at T e)) (due h))) in omega arith))))
 
     row_probed : (c d : ℕ) → d < block_rows → (row_of T (block_at E W base) d).probed c ≡ within (is_probed T) n T.catalogue.rows c (base + d)
     unfolding due_at
     row_probed c d l =
-        (work_started T.query.tree R.numbered (told T (base + d)) (turns_of T) (has E.start) (X.started (base + d)) (has (present_set W E.rows base) d)).1 c
+        (work_row T.query.tree R.numbered (told T (base + d)) R.full (turns_of T) held (has E.start) all_live (has (present_set W E.rows base) d)).1 c
         ∙ ap (λ (b : Bool). b && elem c (predicates (due_at T (base + d)))) (takes_part d l)
         ∙ and_assoc (ltb (base + d) T.catalogue.rows) (not (is_withdrawn T.catalogue (base + d))) (elem c (predicates (due_at T (base + d))))
         ∙ ap (λ (b : Bool). ltb (base + d) T.catalogue.rows && b) (sym (probed_is T (base + d) c) ∙ sym (probed_few c (base + d)))

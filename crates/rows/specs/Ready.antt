@@ -26,7 +26,7 @@ pub record Ready (G : Slices) (n : ℕ) (T : Task) : Type 0 where
   pub short : T.catalogue.rows ≤ row_limit
   pub few : n ≤ predicate_limit
   pub turns : G.turns ≡ turns_of T
-  pub ordered : is_order n T.order ≡ true
+  pub ordered : is_order n G.turns ≡ true
   pub plan_size_lem : length G.plan ≡ plan_size
   pub accessed : (c : ℕ) → c < n → Accessed G.catalogue G.question T.catalogue (predicate_at T.query c) (access_at G.plan c)
   pub ancestors_size_lem : length G.ancestors ≡ ancestors_size

@@ -2,8 +2,7 @@
 use Rattle.std.specs.Prelude.{ℕ, ◌+◌, ◌-◌, ◌*◌, ◌≤◌, ◌<◌, ◌≡◌, Bool, false, ◌&&◌, cond, ◌⊎◌, List, length, ltb}
 use Rattle.fields.specs.Numbers.{Bytes}
 use Rattle.strategy.specs.Row.{RowProgress, unworked, work}
-use Rattle.sets.specs.Set.{has}
-use Rattle.closed.specs.Start.{Started}
+use Rattle.sets.specs.Set.{has, below_set}
 use Rattle.sets.specs.Changed.{ChangedAt}
 use Rattle.bitmaps.specs.Bitmap.{bytes_for, bitmap, bitmaps}
 use Rattle.bitmaps.specs.Table.{line_size, line_bits, line_bit, lines_of, HoldsBits, within}
@@ -74,10 +73,10 @@ pub record Worked (T : Task) (n : ℕ) (selected marks : List ℕ) : Type 0 wher
   pub selected_whole : NoneBehind (bytes_for T.catalogue.rows) 1 selected
   pub probed_whole : NoneBehind (bytes_for T.catalogue.rows) n marks
 
--- all rows of the task, but for those that the mark withdraws, and a start that is right for the turns whatever the row
+-- all rows of the task, but for those that the mark withdraws, with all its predicates live at first
 pub record ExtentOf (G : Slices) (E : Extent) (n : ℕ) (T : Task) : Type 0 where
   pub rows : E.rows ≡ T.catalogue.rows
-  pub started : (row : ℕ) → Started T.query.tree (told T row) (turns_of T) (has E.start)
+  pub start : E.start ≡ below_set n
   pub mark : ShowsMark G.catalogue E.mark T.catalogue
 
 abbrev pub RowsReady : Slices → Extent → Type 0

@@ -1,7 +1,7 @@
 -- The cases of a run: the input refused, a check of the request failing, or the rows worked and the end of the run.
 use Prim.Native.Nat.{ℕ, ◌+◌, ◌^◌, ◌≤◌, ◌<◌}
 use native.Mathlib.Omega.{arith}
-use mathlib.Core.Path.{◌≡◌, refl, sym, ap, ◌∙◌, subst}
+use mathlib.Core.Path.{◌≡◌, sym, ap, ◌∙◌, subst}
 use mathlib.Core.List.{List}
 use lib.ListN.{length}
 use Rattle.fields.specs.Decoded.{refused}
@@ -19,8 +19,8 @@ use Rattle.answers.specs.Word.{FitsWord}
 use Rattle.answers.specs.Checks.{checked, refusal_by}
 use Rattle.answers.proofs.Checks.{checked_holds, checked_fails, checked_further}
 use Rattle.demands.specs.Run.{Lent, lent, Ran, refuse, task_of, selection, probe_bitmaps, request_checks, tally_checks, look_count, accept, run_on, run_of}
-use Rattle.request.proofs.Request.{request_kept, request_order, request_rights, request_fits}
-use Rattle.work.specs.Worked.{Openable, Opened, HasTurns, RunWorked}
+use Rattle.request.proofs.Request.{request_kept}
+use Rattle.work.specs.Worked.{RunWorked}
 use Rattle.finish.specs.Finish.{finished}
 
 pub run_refused : (l : Lent) (k : ℕ) → (decode_input l.request.catalogue l.request.question ≡ refused k) × (k < 256)
@@ -40,9 +40,9 @@ module _ {b q : List ℕ} {r : Beginning} {T : Tables} (G : HasInput b q r T) wh
   pub size_whole : (n : ℕ) (t : List ℕ) {size : ℕ} → size ≡ bytes_for r.rows → NoneBehind (bytes_for G.input.catalogue.rows) n t → NoneBehind size n t
   size_whole n t e w = subst (λ (k : ℕ). NoneBehind k n t) (sym (e ∙ ap bytes_for (G.rows ∙ G.laid.rows))) w
 
-module _ {b q : List ℕ} {r : Beginning} {T : Tables} (G : HasInput b q r T) (order : List ℕ) (reader : ℕ) (rights listed looks tally : List ℕ) (size : ℕ) (s : size ≡ bytes_for r.rows) where
+module _ {b q : List ℕ} {r : Beginning} {T : Tables} (G : HasInput b q r T) (order : List ℕ) (reader : ℕ) (listed looks tally : List ℕ) (size : ℕ) (s : size ≡ bytes_for r.rows) where
   abbrev asked : Lent
-  asked = lent b q order reader rights listed looks tally
+  asked = lent b q order reader listed looks tally
 
   abbrev task_size : ℕ
   task_size = bytes_for G.input.catalogue.rows
@@ -53,34 +53,23 @@ module _ {b q : List ℕ} {r : Beginning} {T : Tables} (G : HasInput b q r T) (o
   -- the checks of the request, then that of the tally
   abbrev further : Ran
   further =
-      checked (tally_checks tally reader (look_count (task_of G.input asked.request))) (λ e. refuse e listed looks tally) (accept (task_of G.input asked.request) asked)
+      checked (tally_checks tally reader (look_count (task_of G.input order))) (λ e. refuse e listed looks tally) (accept (task_of G.input order) asked)
 
-  on_input : checked (request_checks r.n size order reader (length rights) (length listed) (length looks)) (λ e. refuse e listed looks tally) further ≡ run_of asked
+  on_input : checked (request_checks r.n size order reader (length listed) (length looks)) (λ e. refuse e listed looks tally) further ≡ run_of asked
   unfolding run_of run_on
   on_input = rw (G.decoded, G.tabled.count, same_size) (sym (checked_further (λ e. refuse e listed looks tally)
-      (request_checks r.n task_size order reader (length rights) (length listed) (length looks)) _ _))
+      (request_checks r.n task_size order reader (length listed) (length looks)) _ _))
 
-  module _ (k : ℕ) (e : k ≡ refusal_by (request_checks r.n size order reader (length rights) (length listed) (length looks))) where
+  module _ (k : ℕ) (e : k ≡ refusal_by (request_checks r.n size order reader (length listed) (length looks))) where
     pub run_declined : (k ≡ 0 → ⊥) → refuse k listed looks tally ≡ run_of asked
     run_declined ne =
-        rw e (sym (checked_fails (λ x. refuse x listed looks tally) (request_checks r.n size order reader (length rights) (length listed) (length looks)) further (rw e at ne)) ∙ on_input)
-
-    -- what working out the turns asks, and what working the rows asks of the turns
-    pub run_opens : k ≡ 0 → Openable r.n asked.request
-    run_opens z = record {
-      ordered = request_order r.n size order reader (length rights) (length listed) (length looks) k e z;
-      reader = (request_fits r.n size order reader (length rights) (length listed) (length looks) k e z).1;
-      rights = request_rights r.n size order reader (length rights) (length listed) (length looks) k e z;
-    }
-
-    pub run_turns : k ≡ 0 → {turns : List ℕ} {start : ℕ} → Opened asked.request turns start → HasTurns b q r.n turns start asked.request
-    run_turns z O = record { catalogue = refl; question = refl; ordered = (run_opens z).ordered; opened = O }
+        rw e (sym (checked_fails (λ x. refuse x listed looks tally) (request_checks r.n size order reader (length listed) (length looks)) further (rw e at ne)) ∙ on_input)
 
     -- the rows are worked, and the end of the run is the definition's
-    pub run_finished : k ≡ 0 → {S P : List ℕ} → RunWorked asked.request r.n S P → {x : Ran} → x ≡ finished S P r.n size reader listed looks tally → x ≡ run_of asked
+    pub run_finished : k ≡ 0 → {S P : List ℕ} → RunWorked b q order r.n S P → {x : Ran} → x ≡ finished S P r.n size reader listed looks tally → x ≡ run_of asked
     unfolding finished selection probe_bitmaps
     run_finished z {S} {P} W f =
-        let w : Worked (task_of G.input asked.request) r.n S P = W G.input G.decoded in
+        let w : Worked (task_of G.input order) r.n S P = W G.input G.decoded in
         f ∙ rw (same_size, w.selected_bitmap, w.probed_bitmaps, ← G.tabled.count)
-        (sym (checked_holds (λ x. refuse x listed looks tally) (request_checks r.n size order reader (length rights) (length listed) (length looks)) _
-        (request_kept r.n size order reader (length rights) (length listed) (length looks) k e z)) ∙ on_input)
+        (sym (checked_holds (λ x. refuse x listed looks tally) (request_checks r.n size order reader (length listed) (length looks)) _
+        (request_kept r.n size order reader (length listed) (length looks) k e z)) ∙ on_input)

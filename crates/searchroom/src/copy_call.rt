@@ -7,12 +7,10 @@ pub extern "C" fn searchroom_copy(
     catalogue: &[u8],
     question: &[u8],
     order: &[u8],
-    reader: u64,
-    rights: &[u8],
     output: &mut [u8],
 ) -> u64
-    ensures { LogGives (request catalogue.now question.now order.now reader rights.now)
+    ensures { LogGives (request catalogue.now question.now order.now)
         output.old result output.new }
 {
-    answers::word::pack(probe_log::log_question(catalogue, question, order, reader, rights, output))
+    answers::word::pack(probe_log::log_question(catalogue, question, order, output))
 }

@@ -8,16 +8,13 @@ pub extern "C" fn searchroom_run(
     question: &[u8],
     order: &[u8],
     reader: u64,
-    rights: &[u8],
     listed: &mut [u8],
     looks: &mut [u8],
     tally: &mut [u8],
 ) -> u64
-    ensures { RunGives (lent catalogue.now question.now order.now reader rights.now
+    ensures { RunGives (lent catalogue.now question.now order.now reader
         listed.old looks.old tally.old)
         result listed.new looks.new tally.new }
 {
-    answers::word::pack(run::run_question(
-        catalogue, question, order, reader, rights, listed, looks, tally,
-    ))
+    answers::word::pack(run::run_question(catalogue, question, order, reader, listed, looks, tally))
 }

@@ -1,7 +1,7 @@
 pub mod Assignment
 pub mod AssignmentLaws
 pub mod Strategy
-pub mod ReadsOnly
+pub mod Fixing
 pub mod Trace
 pub mod DueLaws
 pub mod Turns

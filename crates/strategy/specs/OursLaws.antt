@@ -1,14 +1,14 @@
 -- Ours is a strategy and right: on every assignment its probes are the trace and its answer is the value.
-use Rattle.std.specs.Prelude.{ℕ, ◌≡◌, refl, Bool, cond, ◌↔◌, ◌⊎◌, eqb}
-use Rattle.std.proofs.Math.Path.{sym}
-use Rattle.std.proofs.Common.{◌∙◌, subst, inl, inr}
+use Rattle.std.specs.Prelude.{ℕ, ◌≡◌, refl, Bool, cond, ◌↔◌, ◌⊎◌}
+use Rattle.std.proofs.Math.Path.{sym, fun_ext}
+use Rattle.std.proofs.Common.{ap, ◌∙◌, subst, inl, inr}
 use Rattle.std.proofs.Math.Bool.{true, false}
 use mathlib.Core.List.{List, [], ◌∷◌, ◌++◌, append_assoc, append-nil}
 use Rattle.bools.specs.Bools.{iff_eq, eqb_self, eqb_ne}
 use Rattle.strategy.specs.Assignment.{Assignment, all_no, update, Among, Once, AgreeOff, AgreeOn, keep_if}
 use Rattle.strategy.specs.AssignmentLaws.{update_same, update_other, update_off, off_more, among?}
 use Rattle.strategy.specs.Strategy.{Formula, Due, State, Strategy, turn, final_state_from, final_state, answer_of, Right}
-use Rattle.strategy.specs.ReadsOnly.{ReadsOnly}
+use Rattle.strategy.specs.Fixing.{ReadsOnly, RightFixing}
 use Rattle.strategy.specs.Trace.{due, trace}
 use Rattle.strategy.specs.DueLaws.{due_law, idle}
 use Rattle.strategy.specs.Ours.{recall, passed_as_no, later_than, ours}
@@ -33,15 +33,6 @@ turns : (order : List ℕ) → Once order → Turns order order
 unfolding later_than
 turns [] o = tt
 turns (c ∷ cs) o = (rw (eqb_self c), turns_more c cs cs o.0 (turns cs o.1))
-
--- what is later in an order stands in it
-pub later_among : (c : ℕ) (order : List ℕ) (d : ℕ) → Among d (later_than c order) → Among d order
-unfolding later_than
-later_among c (x ∷ order) d m = inr (go (eqb c x) m (λ k. later_among c order d k))
-  where
-    go : (b : Bool) → Among d (cond b order (later_than c order)) → (Among d (later_than c order) → Among d order) → Among d order
-    go true k ih = k
-    go false k ih = ih k
 
 -- the invariant: with the turns of `cs` to come, the formula cannot tell the true assignment `a` from `t`, what is told
 abbrev pub Same : Formula → List ℕ → Assignment → Assignment → Type 0
@@ -145,9 +136,16 @@ module _ (f : Formula) (order : List ℕ) (a : Assignment) where
       let ih = ours_from cs (turn (ours f order) a c s) u.1 o.1 (same_turn c cs s u.0 o.0 S) in
       (ih.0 ∙ turn_append (ours f order) a c s (due f c cs a) (our_probe c cs s u.0 o.0 S) (trace f a cs), ih.1)
 
-  -- the start: the formula reads nothing but the order's predicates
+  -- the two starts: the formula reads nothing but the order's predicates, or the others are no
   start_reads : ReadsOnly f order → Same f order a all_no
   start_reads v q r g h o = v q r o
+
+  start_fixed : AgreeOff order a all_no → Same f order a all_no
+  start_fixed z q r g h o = ap f (fun_ext (λ d. go d (among? d order)))
+    where
+      go : (d : ℕ) → Among d order ⊎ (Among d order → ⊥) → q d ≡ r d
+      go d (inl m) = o d m
+      go d (inr k) = g d k ∙ z d k ∙ sym (h d k)
 
   module _ (o : Once order) where
     both_of : Same f order a all_no → (final_state (ours f order) a order ≡ trace f a order) × (answer_of (ours f order) a order ≡ f a)
@@ -161,6 +159,13 @@ ours_trace f order o v a = (both_of f order a o (start_reads f order a v)).0
 -- AND RIGHT: its answer is the formula's value on every assignment
 pub ours_right : (f : Formula) (order : List ℕ) → Once order → ReadsOnly f order → Right f order (ours f order)
 ours_right f order o v a = (both_of f order a o (start_reads f order a v)).1
+
+-- both for an order that leaves predicates out, those being no
+pub ours_trace_fixing : (f : Formula) (order : List ℕ) → Once order → (a : Assignment) → AgreeOff order a all_no → final_state (ours f order) a order ≡ trace f a order
+ours_trace_fixing f order o a z = (both_of f order a o (start_fixed f order a z)).0
+
+pub ours_right_fixing : (f : Formula) (order : List ℕ) → Once order → RightFixing all_no f order (ours f order)
+ours_right_fixing f order o a z = (both_of f order a o (start_fixed f order a z)).1
 
 -- what ours does, whatever it has seen
 pub ours_rule : (f : Formula) (order : List ℕ) (s : State)

@@ -9,13 +9,14 @@ use Rattle.bools.specs.Bools.{which, same?}
 use Rattle.strategy.specs.Assignment.{Assignment, Among, elem}
 use Rattle.strategy.specs.Strategy.{State, predicates}
 use Rattle.strategy.specs.Trace.{trace}
-use Rattle.strategy.specs.Tree.{Tree, eval, Numbered}
+use Rattle.strategy.specs.Order.{Order}
+use Rattle.strategy.specs.Tree.{Tree, eval, size, Numbered, NonEmpty}
 use Rattle.strategy.specs.Live.{Live, Step, without, leaf_step}
 use Rattle.strategy.specs.LiveLaws.{without_in, without_off}
 use Rattle.strategy.specs.Propagation.{enclosing, propagate}
 use Rattle.strategy.specs.PropagationLaws.{propagate_stopped, propagate_empties}
-use Rattle.strategy.specs.Walk.{Walk, walk_end, walk_pass, walk_probe, walk_last, trace_pass, trace_probe}
-use Rattle.strategy.specs.Row.{RowProgress, asked, after_turn, turn, work}
+use Rattle.strategy.specs.Walk.{Walk, walk_start, walk_end, walk_pass, walk_probe, walk_last, trace_pass, trace_probe}
+use Rattle.strategy.specs.Row.{RowProgress, unworked, asked, after_turn, turn, work}
 
 -- what is not live is taken out of the live set in vain
 without_idle : (c : ℕ) (live : Live) → live c ≡ false → without c 1 live ≡ live
@@ -92,6 +93,17 @@ module _ (t : Tree ℕ) (n : Numbered t 0) (a : Assignment) where
             probed_are = λ d. sym (or-false (r.probed d || (eqb d c && r.live c))) ∙ probed_more c r h s refl [] d
                 ∙ rw (trace_probe t n a c cs r.live W h, l.1);
           })
+
+  -- THE ROW: where it takes part, all predicates live, it is selected by the tree's value and its probes are those of the trace
+  pub work_row : NonEmpty t → (order : List ℕ) → Order (size t) order → (start : Live) → ((c : ℕ) → c < size t → start c ≡ true) → (part : Bool)
+      → ((work t a order (unworked start part)).selected ≡ (part && eval t a))
+      × ((d : ℕ) → (work t a order (unworked start part)).probed d ≡ (part && elem d (predicates (trace (eval t) a order))))
+  work_row u order O start all true =
+      let w = work_live order (unworked start true) (walk_start t n u a order O (λ c. start c && true) (λ d l. ap (λ (b : Bool). b && true) (all d l))) in
+      (w.selects, w.probed_are)
+  work_row u order O start all false =
+      let idle = work_idle t a order (unworked start false) (λ c m. and-false (start c)) in
+      (ap (λ (r : RowProgress). r.selected) idle, λ d. ap (λ (r : RowProgress). r.probed d) idle)
 
 -- the turn of place i, and the turns after it
 pub work_place : (t : Tree ℕ) (a : Assignment) (order : List ℕ) (i : ℕ) (r : RowProgress) → i < length order

@@ -9,7 +9,7 @@ use Rattle.strategy.specs.Assignment.{Assignment, Among, elem, Once, keep_if}
 use Rattle.strategy.specs.Strategy.{Formula, Due, State, predicates}
 use Rattle.strategy.specs.Trace.{due, trace}
 use Rattle.strategy.specs.DueLaws.{due_law}
-use Rattle.strategy.specs.ReadsOnly.{ReadsOnly}
+use Rattle.strategy.specs.Fixing.{ReadsOnly}
 use Rattle.strategy.specs.Ours.{passed_as_no, ours}
 use Rattle.strategy.specs.OursLaws.{ours_trace, ours_right}
 

@@ -1,4 +1,3 @@
 pub mod Withdrawn
 pub mod Fields
 pub mod LogLength
-pub mod Open

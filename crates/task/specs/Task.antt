@@ -7,15 +7,12 @@ use Rattle.strategy.specs.Strategy.{State, predicates}
 use Rattle.strategy.specs.Trace.{trace}
 use Rattle.strategy.specs.Tree.{eval}
 use Rattle.query.specs.Query.{Query}
-use Rattle.closed.specs.Closed.{open_of, as_no}
 
 -- what a run works on
 pub record Task : Type 0 where
   pub catalogue : Catalogue
   pub query : Query
   pub order : List ℕ
-  -- order 8: which columns are closed to its reader
-  pub closed : (column : ℕ) → Bool
 
 -- the predicate of a number; there is none past the last
 abbrev pub predicate_at : Query → (c : ℕ) → Predicate
@@ -25,16 +22,12 @@ predicate_at Q c = get_or Q.predicates c (record { column = 0; kind = 0; operand
 abbrev pub assignment_at : Catalogue → Query → (row : ℕ) → Assignment
 assignment_at C Q row c = truth (outcome C (predicate_at Q c) row)
 
--- order 8: "a condition on a closed column"
-abbrev pub is_closed : Task → (c : ℕ) → Bool
-is_closed T c = T.closed (predicate_at T.query c).column
-
--- whose turns there are: it "is never looked at"; and the outcomes that count at a row: "the closed ones taken as no"
+-- whose turns there are, and the outcomes that count at a row
 abbrev pub turns_of : Task → List ℕ
-turns_of T = open_of (is_closed T) T.order
+turns_of T = T.order
 
 abbrev pub told : Task → (row : ℕ) → Assignment
-told T row = as_no (is_closed T) (assignment_at T.catalogue T.query row)
+told T row = assignment_at T.catalogue T.query row
 
 -- "An entry is listed exactly if the question's tree .. holds of it"; order 6: a withdrawn one "is never listed .. whatever the question"
 unfoldable pub is_selected : Task → (row : ℕ) → Bool

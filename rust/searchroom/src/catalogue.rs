@@ -26,12 +26,12 @@ pub struct Size {
 /// mark.
 ///
 /// ```
-/// use searchroom::{Refusal, Tally, Terms, check_catalogue, consult};
+/// use searchroom::{Refusal, Tally, check_catalogue, consult};
 ///
 /// // Years 1701, 1822 and a blank, and a mark: the first entry is withdrawn. Year not blank.
 /// let mut catalogue = [67, 0, 3, 0, 3, 1, 78, 0, 12, 0, 0, 6, 0xA5, 0, 0, 7, 0x1E, 255, 255, 255, 255, 87, 0, 1, 0b001];
 /// assert_eq!(check_catalogue(&catalogue)?.entries, 3);
-/// let found = consult(&catalogue, &[80, 0, 2, 0, 129], &[0], &Terms::default(), &mut Tally::default())?;
+/// let found = consult(&catalogue, &[80, 0, 2, 0, 129], &[0], 0, &mut Tally::default())?;
 /// assert_eq!(found.listed().collect::<Vec<_>>(), [1]);
 /// assert_eq!(found.looked_at(0).collect::<Vec<_>>(), [1, 2]);
 /// catalogue[24] = 0b1000; // there is no fourth entry

@@ -1,5 +1,5 @@
 use crate::question::MAX_CONDITIONS;
-use crate::{Counts, Refusal, Tally, Terms, bit, check_catalogue, run};
+use crate::{Counts, Refusal, Tally, bit, check_catalogue, run};
 
 /// What an accepted run found: the listed entries, and the entries at which each condition was looked at.
 #[derive(Clone, Debug, PartialEq, Eq)]
@@ -11,29 +11,21 @@ pub struct Consultation {
     looks: Vec<u8>,
 }
 
-/// Runs a question over a catalogue in a running order, on the terms given, and adds the look count to their reader's
-/// number in the tally. A withdrawn entry is not listed and has no looks; a condition on a column that is closed to the
-/// reader is not looked at.
+/// Runs a question over a catalogue in a running order, and adds the look count to the reader's number in the tally. A
+/// withdrawn entry is not listed and has no looks.
 ///
 /// The reader is 0 to 15 ([`Tally::READERS`] of them); any other is refused with [`Refusal::NoSuchReader`]. The program
-/// `consult` is always reader 0, and closes nothing; this call names its terms.
+/// `consult` is always reader 0; this call names its reader.
 ///
 /// ```
-/// use searchroom::{Rights, Tally, Terms};
-///
 /// // Years 1701, 1822 and a blank. Year from 1700 to 1799, or year blank.
 /// let catalogue = [67, 0, 3, 0, 3, 1, 78, 0, 12, 0, 0, 6, 0xA5, 0, 0, 7, 0x1E, 255, 255, 255, 255];
 /// let question = [79, 0, 18, 80, 0, 10, 0, 0, 0, 0, 6, 0xA4, 0, 0, 7, 7, 80, 0, 2, 0, 1];
-/// let (terms, mut tally) = (Terms::of_reader(7), Tally::default());
-/// let found = searchroom::consult(&catalogue, &question, &[0, 1], &terms, &mut tally)?;
+/// let mut tally = searchroom::Tally::default();
+/// let found = searchroom::consult(&catalogue, &question, &[0, 1], 7, &mut tally)?;
 /// assert_eq!(found.listed().collect::<Vec<_>>(), [0, 2]);
 /// assert_eq!(found.looked_at(1).collect::<Vec<_>>(), [1, 2]); // entry 0 was settled by condition 0
 /// assert_eq!(tally.of(7), Some(5));
-///
-/// // The year is closed to reader 8: nothing is listed, for nothing is sure, and nothing is looked at.
-/// let terms = Terms { rights: Rights::default().close(8, 0), ..Terms::of_reader(8) };
-/// let found = searchroom::consult(&catalogue, &question, &[0, 1], &terms, &mut tally)?;
-/// assert_eq!((found.counts().found, tally.of(8)), (0, Some(0)));
 /// # Ok::<(), searchroom::Refusal>(())
 /// ```
 ///
@@ -44,14 +36,14 @@ pub fn consult(
     catalogue: &[u8],
     question: &[u8],
     order: &[u8],
-    terms: &Terms,
+    reader: u64,
     tally: &mut Tally,
 ) -> Result<Consultation, Refusal> {
     let row = usize::from(check_catalogue(catalogue)?.entries).div_ceil(8);
     let mut listed = vec![0; row];
     // An accepted order holds each condition once, so its length is their number.
     let mut looks = vec![0; row * order.len().min(MAX_CONDITIONS)];
-    let counts = run(catalogue, question, order, terms, &mut listed, &mut looks, tally.bytes_mut())?;
+    let counts = run(catalogue, question, order, reader, &mut listed, &mut looks, tally.bytes_mut())?;
     Ok(Consultation { counts, row, listed, looks })
 }
 

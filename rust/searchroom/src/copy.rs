@@ -2,7 +2,7 @@ use std::iter::FusedIterator;
 
 use crate::catalogue::MAX_ENTRIES;
 use crate::question::MAX_CONDITIONS;
-use crate::{Answer, Refusal, Terms, Word, check_catalogue, sys};
+use crate::{Answer, Refusal, Word, check_catalogue, sys};
 
 /// The bytes of a look's field.
 const FIELD: usize = 7;
@@ -10,8 +10,8 @@ const FIELD: usize = 7;
 /// Bytes that are enough for any copy: a field for each of 64 conditions at each of 2,048 entries.
 pub const COPY_BYTES: usize = FIELD * MAX_CONDITIONS * MAX_ENTRIES;
 
-/// Writes the steward's copy of the register: each look that a [`run`](crate::run) of the same catalogue, question, order
-/// and terms registers, with its outcome. Gives the number of bytes written, seven times the look count.
+/// Writes the steward's copy of the register: each look that a [`run`](crate::run) of the same catalogue, question and
+/// order registers, with its outcome. Gives the number of bytes written, seven times the look count.
 ///
 /// Each look has one field: tag 76, length 4, the entry (two bytes, most significant first), the condition's number, and
 /// what [`outcome`](crate::outcome) gives there ([`Answer::number`]). A withdrawn entry has none. Entries ascend; in which
@@ -21,42 +21,25 @@ pub const COPY_BYTES: usize = FIELD * MAX_CONDITIONS * MAX_ENTRIES;
 /// [`copy_of`] does the same with memory of its own.
 ///
 /// ```
-/// use searchroom::Terms;
-///
 /// // Years 1701 and a blank. Year from 1700 to 1799, or year blank.
 /// let catalogue = [67, 0, 3, 0, 2, 1, 78, 0, 8, 0, 0, 6, 0xA5, 255, 255, 255, 255];
 /// let question = [79, 0, 18, 80, 0, 10, 0, 0, 0, 0, 6, 0xA4, 0, 0, 7, 7, 80, 0, 2, 0, 1];
 /// let mut output = [0; 100];
-/// let written = searchroom::copy(&catalogue, &question, &[0, 1], &Terms::default(), &mut output)?;
+/// let written = searchroom::copy(&catalogue, &question, &[0, 1], &mut output)?;
 /// assert_eq!(written, 21); // entry 0 was settled by condition 0
 /// assert_eq!(output[..7], [76, 0, 4, 0, 0, 0, 1]);
 /// # Ok::<(), searchroom::Refusal>(())
 /// ```
 ///
 /// # Errors
-/// Those of [`check_question`](crate::check_question), then [`Refusal::BadOrder`], [`Refusal::NoSuchReader`] and
-/// [`Refusal::ShortOutput`].
-pub fn copy(
-    catalogue: &[u8],
-    question: &[u8],
-    order: &[u8],
-    terms: &Terms,
-    output: &mut [u8],
-) -> Result<usize, Refusal> {
-    let Terms { reader, rights } = terms;
-    Ok(copy_word(catalogue, question, order, *reader, rights.bytes(), output).accepted()?.third() as usize)
+/// Those of [`check_question`](crate::check_question), then [`Refusal::BadOrder`] and [`Refusal::ShortOutput`].
+pub fn copy(catalogue: &[u8], question: &[u8], order: &[u8], output: &mut [u8]) -> Result<usize, Refusal> {
+    Ok(copy_word(catalogue, question, order, output).accepted()?.third() as usize)
 }
 
 /// Writes a copy. The third result is the number of bytes written.
-pub fn copy_word(
-    catalogue: &[u8],
-    question: &[u8],
-    order: &[u8],
-    reader: u64,
-    rights: &[u8],
-    output: &mut [u8],
-) -> Word {
-    // SAFETY: the call reads the bytes of the first four slices and writes none but those of the last, which overlaps no
+pub fn copy_word(catalogue: &[u8], question: &[u8], order: &[u8], output: &mut [u8]) -> Word {
+    // SAFETY: the call reads the bytes of the first three slices and writes none but those of the last, which overlaps no
     // other, for it is borrowed alone. Nobody else writes to borrowed bytes.
     Word(unsafe {
         sys::searchroom_copy(
@@ -66,9 +49,6 @@ pub fn copy_word(
             question.len(),
             order.as_ptr(),
             order.len(),
-            reader,
-            rights.as_ptr(),
-            rights.len(),
             output.as_mut_ptr(),
             output.len(),
         )
@@ -78,12 +58,12 @@ pub fn copy_word(
 /// The steward's copy of the register: the bytes that [`copy`] writes, and no others.
 ///
 /// ```
-/// use searchroom::{Answer, Look, Terms};
+/// use searchroom::{Answer, Look};
 ///
 /// // Years 1701 and a blank. Year not from 1700 to 1799.
 /// let catalogue = [67, 0, 3, 0, 2, 1, 78, 0, 8, 0, 0, 6, 0xA5, 255, 255, 255, 255];
 /// let outside = [80, 0, 10, 0, 128, 0, 0, 6, 0xA4, 0, 0, 7, 7];
-/// let copy = searchroom::copy_of(&catalogue, &outside, &[0], &Terms::default())?;
+/// let copy = searchroom::copy_of(&catalogue, &outside, &[0])?;
 /// let looks: Vec<Look> = searchroom::looks(&copy).collect();
 /// assert_eq!(looks[0], Look { entry: 0, condition: 0, answer: Answer::No });
 /// assert_eq!(looks[1], Look { entry: 1, condition: 0, answer: Answer::Blank });
@@ -92,11 +72,11 @@ pub fn copy_word(
 ///
 /// # Errors
 /// Those of [`copy`], except [`Refusal::ShortOutput`].
-pub fn copy_of(catalogue: &[u8], question: &[u8], order: &[u8], terms: &Terms) -> Result<Vec<u8>, Refusal> {
+pub fn copy_of(catalogue: &[u8], question: &[u8], order: &[u8]) -> Result<Vec<u8>, Refusal> {
     let entries = usize::from(check_catalogue(catalogue)?.entries);
     // An accepted order holds each condition once, so its length is their number.
     let mut output = vec![0; FIELD * entries * order.len().min(MAX_CONDITIONS)];
-    let written = copy(catalogue, question, order, terms, &mut output)?;
+    let written = copy(catalogue, question, order, &mut output)?;
     output.truncate(written);
     output.shrink_to_fit();
     Ok(output)

@@ -21,11 +21,9 @@ mod consultation;
 mod copy;
 mod question;
 mod refusal;
-mod rights;
 mod run;
 mod sys;
 mod tally;
-mod terms;
 mod typed;
 mod word;
 
@@ -34,10 +32,8 @@ pub use consultation::{Consultation, consult};
 pub use copy::{COPY_BYTES, Look, Looks, copy, copy_of, looks};
 pub use question::{Answer, MAX_CONDITIONS, MAX_DEPTH, check_question, outcome};
 pub use refusal::Refusal;
-pub use rights::Rights;
 pub use run::{Counts, bit, run};
 pub use tally::Tally;
-pub use terms::Terms;
 pub use typed::{MAX_TYPED, TYPED_BYTES, typed, typed_question};
 pub use word::Word;
 

@@ -62,7 +62,6 @@ refusals! {
     BadMark = 23, "the mark of the catalogue has a wrong length or a stray bit",
         "The length has to fit the number of entries, and no bit after the last entry's may be one";
     NoSuchReader = 24, "there is no such reader: readers are 0 to 15";
-    BadRights = 25, "the rights table is not 32 bytes";
 }
 
 impl Refusal {

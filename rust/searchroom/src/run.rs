@@ -1,4 +1,4 @@
-use crate::{Refusal, Terms, Word, sys};
+use crate::{Refusal, Word, sys};
 
 /// The counts of an accepted run.
 #[derive(Clone, Copy, Debug, PartialEq, Eq, Hash)]
@@ -20,16 +20,14 @@ pub fn bit(row: &[u8], entry: usize) -> bool {
 }
 
 /// Runs a question over a catalogue in a running order, for a reader, into tables of the caller's. It takes
-/// [`Answer::Blank`](crate::Answer::Blank) as no. A withdrawn entry is not listed and has no looks. A condition on a column
-/// that the [`Rights`](crate::Rights) of the terms close to their reader is not looked at; an entry is listed exactly if it
-/// would be listed for every choice of outcomes of such conditions.
+/// [`Answer::Blank`](crate::Answer::Blank) as no. A withdrawn entry is not listed and has no looks.
 ///
 /// With E entries and n conditions, a row takes ceiling(E / 8) bytes: entry e is the bit of weight 2^(e mod 8) in byte
 /// e div 8, unused bits zero. `listed` receives one row, `looks` one row for each condition in condition-number order;
-/// further bytes of either stay as they are. The reader of the terms is 0 to 15
-/// ([`Tally::READERS`](crate::Tally::READERS) of them); any other is refused with [`Refusal::NoSuchReader`]. `tally` is the bytes of a [`Tally`](crate::Tally), which
+/// further bytes of either stay as they are. `reader` is 0 to 15 ([`Tally::READERS`](crate::Tally::READERS) of them); any
+/// other is refused with [`Refusal::NoSuchReader`]. `tally` is the bytes of a [`Tally`](crate::Tally), which
 /// [`Tally::bytes_mut`](crate::Tally::bytes_mut) lends: the look count is added to this reader's number, every other byte
-/// stays. Of an accepted run nothing but the tally and what is closed depends on the reader. A refusal alters none of the three.
+/// stays. Of an accepted run nothing but the tally depends on the reader. A refusal alters none of the three.
 ///
 /// [`consult`](crate::consult) does the same with tables of its own.
 ///
@@ -40,29 +38,26 @@ pub fn run(
     catalogue: &[u8],
     question: &[u8],
     order: &[u8],
-    terms: &Terms,
+    reader: u64,
     listed: &mut [u8],
     looks: &mut [u8],
     tally: &mut [u8],
 ) -> Result<Counts, Refusal> {
-    let Terms { reader, rights } = terms;
-    let word = run_word(catalogue, question, order, *reader, rights.bytes(), listed, looks, tally).accepted()?;
+    let word = run_word(catalogue, question, order, reader, listed, looks, tally).accepted()?;
     Ok(Counts { found: word.first(), looks: word.third() })
 }
 
 /// Runs a question. The first result is the number of listed entries, the third that of looks.
-#[expect(clippy::too_many_arguments, reason = "those of the call")]
 pub fn run_word(
     catalogue: &[u8],
     question: &[u8],
     order: &[u8],
     reader: u64,
-    rights: &[u8],
     listed: &mut [u8],
     looks: &mut [u8],
     tally: &mut [u8],
 ) -> Word {
-    // SAFETY: the call reads the bytes of the first four slices and writes none but those of the last three; these
+    // SAFETY: the call reads the bytes of the first three slices and writes none but those of the last three; these
     // overlap no other, for they are borrowed alone. Nobody else writes to borrowed bytes.
     Word(unsafe {
         sys::searchroom_run(
@@ -73,8 +68,6 @@ pub fn run_word(
             order.as_ptr(),
             order.len(),
             reader,
-            rights.as_ptr(),
-            rights.len(),
             listed.as_mut_ptr(),
             listed.len(),
             looks.as_mut_ptr(),

@@ -27,8 +27,6 @@ unsafe extern "C" {
         order: *const u8,
         order_len: usize,
         reader: u64,
-        rights: *const u8,
-        rights_len: usize,
         listed: *mut u8,
         listed_len: usize,
         looks: *mut u8,
@@ -44,9 +42,6 @@ unsafe extern "C" {
         question_len: usize,
         order: *const u8,
         order_len: usize,
-        reader: u64,
-        rights: *const u8,
-        rights_len: usize,
         output: *mut u8,
         output_len: usize,
     ) -> u64;

@@ -9,12 +9,12 @@ use crate::Refusal;
 /// may be kept in a file.
 ///
 /// ```
-/// use searchroom::{Refusal, Tally, Terms};
+/// use searchroom::{Refusal, Tally};
 ///
 /// // The year 1701. Year not blank.
 /// let (catalogue, question) = ([67, 0, 3, 0, 1, 1, 78, 0, 4, 0, 0, 6, 0xA5], [80, 0, 2, 0, 129]);
 /// let mut tally = Tally::default();
-/// searchroom::consult(&catalogue, &question, &[0], &Terms::of_reader(3), &mut tally)?;
+/// searchroom::consult(&catalogue, &question, &[0], 3, &mut tally)?;
 /// assert_eq!([tally.of(2), tally.of(3), tally.of(16)], [Some(0), Some(1), None]);
 ///
 /// let file: Vec<u8> = tally.bytes().to_vec();

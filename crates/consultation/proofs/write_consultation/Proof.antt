@@ -15,9 +15,6 @@ slice-aggregate-searchroom-run-2 c = refl
 slice-aggregate-searchroom-run-3 : tie.Need-slice-aggregate-searchroom-run-3
 slice-aggregate-searchroom-run-3 c = refl
 
-slice-aggregate-searchroom-run-4 : tie.Need-slice-aggregate-searchroom-run-4
-slice-aggregate-searchroom-run-4 c = refl
-
 searchroom-run-requires : tie.Need-searchroom-run-requires
 searchroom-run-requires c κs = tt
 
@@ -34,17 +31,17 @@ third-in-requires : tie.Need-third-in-requires
 third-in-requires c κs = tt
 
 slice-aggregate-write-register : tie.Need-slice-aggregate-write-register
-slice-aggregate-write-register c = sym c.before.before.before.before.before.before.before.before.searchroom-run.auto.1.1.1.1.1.0
+slice-aggregate-write-register c = sym c.before.before.before.before.before.before.before.before.searchroom-run.auto.1.1.1.1.0
 
 slice-aggregate-write-register-2 : tie.Need-slice-aggregate-write-register-2
-slice-aggregate-write-register-2 c = sym c.before.before.before.before.before.before.before.before.before.searchroom-run.auto.1.1.1.1.1.1.0
+slice-aggregate-write-register-2 c = sym c.before.before.before.before.before.before.before.before.before.searchroom-run.auto.1.1.1.1.1.0
 
 write-register-requires : tie.Need-write-register-requires
 write-register-requires c κs =
     let l = c.before.before.before.before.before.before in
     let run = l.before.before.before.before.searchroom-run.auto in
-    let s = c.before.before.before.before.before.before.before.before.before.before.before.before.before.before.before.before.before.before.before in
-    has_room _ _ _ _ _ (laid_few _ _ (decode_catalogue s.args.catalogue.now) l.lay-out.ensures) s.requires.0 (as_long run.1.1.1.1.1.0) (as_long run.1.1.1.1.1.1.0) s.requires.1
+    let s = c.before.before.before.before.before.before.before.before.before.before.before.before.before.before.before.before.before.before in
+    has_room _ _ _ _ _ (laid_few _ _ (decode_catalogue s.args.catalogue.now) l.lay-out.ensures) s.requires.0 (as_long run.1.1.1.1.0) (as_long run.1.1.1.1.1.0) s.requires.1
 
 same_length : tie.Need-same-length
 same_length c = c.before.before.write-register.auto.1.1.1.1.1.1.1.0
@@ -53,7 +50,7 @@ returns : tie.Need-returns
 returns c =
     let t = c.before.before.before.before.before.before in
     let o = t.before.before.before in
-    let s = o.before.before.before.before.before.before.before.before.before.before in
+    let s = o.before.before.before.before.before.before.before.before.before in
     let a = s.before.before.before.args in (
       consulted a.catalogue.now a.question.now a.order.now _ _ o.lay-out.ensures refl _ _ _ _ _ _ _ o.before.before.before.before.searchroom-run.ensures
           t.before.before.number_in.ensures t.before.first_in_lem.ensures t.third-in.ensures c.before.before.write-register.ensures,
@@ -68,7 +65,6 @@ write-consultation-spec =
     slice-aggregate-searchroom-run
     slice-aggregate-searchroom-run-2
     slice-aggregate-searchroom-run-3
-    slice-aggregate-searchroom-run-4
     searchroom-run-requires
     lay-out-requires
     number-in-requires

@@ -12,7 +12,7 @@ bytes-for-requires c κs = search rules
 
 count-whole-lines-requires : tie.Need-count-whole-lines-requires
 count-whole-lines-requires c κs =
-    let M = c.before.before.before.before.before.before.requires.3 in
+    let M = c.before.before.before.before.before.before.requires.2 in
     let few = M.few in
     let s = M.size in
     (size_short M c.bytes-for.ensures, omega arith, omega arith, marks_whole M c.bytes-for.ensures)
@@ -20,7 +20,7 @@ count-whole-lines-requires c κs =
 mul-size : tie.Need-overflow-mul-size
 mul-size c =
     let a = c.before.before.before.before.before.before.before in
-    omega (arith, looks_few a.args.n c.count-whole-lines.result a.requires.3.few c.count-whole-lines.ensures.1)
+    omega (arith, looks_few a.args.n c.count-whole-lines.result a.requires.2.few c.count-whole-lines.ensures.1)
 
 returns : tie.Need-returns
 returns c =
@@ -30,7 +30,7 @@ returns c =
 slice-aggregate-put-rows : tie.Need-slice-aggregate-put-rows
 slice-aggregate-put-rows c =
     let a = c.before.before.before.before.before.before.before.before.before in
-    let s = a.requires.3.size in
+    let s = a.requires.2.size in
     first_length a.args.marks.now (omega arith)
 
 sub-put-rows : tie.Need-overflow-sub-put-rows
@@ -56,7 +56,7 @@ returns-2 c =
     let a = c.before.before.before.before.before.before.before.before.before.before.before.before.before.before in
     let b = c.before.before.before.before.before.before.before.before in
     let n = c.before.before.before.before.before.before.before.count-whole-lines in
-    let few = looks_few a.args.n n.result a.requires.3.few n.ensures.1 in
+    let few = looks_few a.args.n n.result a.requires.2.few n.ensures.1 in
     record {
       fits = omega arith;
       leaves = log_written b.bytes-for.ensures n.ensures.0 a.args.output.now c.before.before.before.before.before.before.if1.false

@@ -2,11 +2,10 @@
 use native.Mathlib.Omega.{arith}
 use mathlib.Core.Path.{refl, sym}
 use lib.ListN.{length}
-use lib.Seq.{length-take-le}
 use Rattle.bitmaps.specs.TableLaws.{holds_none}
 use Rattle.marks.proofs.Marking.{empty_marks}
-use Rattle.request.proofs.Request.{request_fits}
-use Rattle.run.proofs.Running.{run_refused, rows_room, size_short, size_whole, run_declined, run_opens, run_turns, run_finished}
+use Rattle.request.proofs.Request.{request_order, request_fits}
+use Rattle.run.proofs.Running.{run_refused, rows_room, size_short, size_whole, run_declined, run_finished}
 use borrow.Author.Rules.{rules}
 use Rattle.run.proofs.run_question.Statement.{statement}
 use Rattle.run.proofs.run_question.Tie as tie
@@ -34,50 +33,27 @@ check-request-requires c κs =
 returns-2 : tie.Need-returns-2
 returns-2 c =
     let G = c.before.before.before.before.before.before.begin.ensures.accepts c.before.before.before.if1.false in
-    (run_declined G _ _ _ _ _ _ _ c.before.before.bytes-for.ensures _ c.before.check-request.ensures c.if2.true, omega arith)
-
-slice-aggregate-open-request : tie.Need-slice-aggregate-open-request
-slice-aggregate-open-request c = search rules
-
-slice-aggregate-open-request-2 : tie.Need-slice-aggregate-open-request-2
-slice-aggregate-open-request-2 c = search rules
-
-slice-aggregate-open-request-3 : tie.Need-slice-aggregate-open-request-3
-slice-aggregate-open-request-3 c = refl
-
-open-request-requires : tie.Need-open-request-requires
-open-request-requires c κs =
-    let a = c.before.before.before in
-    let x = a.before.before.before.before.before.before.before.before.before.before.before.before.before.before.before.before.args in
-    let G = a.before.before.before.before.before.before.begin.ensures.accepts a.before.before.before.if1.false in
-    (_, G, run_opens G x.order.now _ _ x.listed.now x.looks.now x.tally.now _ a.before.before.bytes-for.ensures _ a.before.check-request.ensures a.if2.false, refl)
-
-array-share-prefix-turns : tie.Need-array-share-prefix-turns
-array-share-prefix-turns c = search rules
+    (run_declined G _ _ _ _ _ _ c.before.before.bytes-for.ensures _ c.before.check-request.ensures c.if2.true, omega arith)
 
 slice-aggregate-work-run : tie.Need-slice-aggregate-work-run
-slice-aggregate-work-run c = sym (length-take-le _ _ c.before.before.open-request.ensures.0)
+slice-aggregate-work-run c = search rules
 
 slice-aggregate-work-run-2 : tie.Need-slice-aggregate-work-run-2
 slice-aggregate-work-run-2 c = search rules
 
 slice-aggregate-work-run-3 : tie.Need-slice-aggregate-work-run-3
-slice-aggregate-work-run-3 c = search rules
+slice-aggregate-work-run-3 c = refl
 
 slice-aggregate-work-run-4 : tie.Need-slice-aggregate-work-run-4
 slice-aggregate-work-run-4 c = refl
 
-slice-aggregate-work-run-5 : tie.Need-slice-aggregate-work-run-5
-slice-aggregate-work-run-5 c = refl
-
 work-run-requires : tie.Need-work-run-requires
 work-run-requires c κs =
-    let o = c.before.before.before.before.before.before in
-    let a = o.before.before.before.before in
-    let x = a.before.before.before.before.before.before.before.before.before.before.before.before.before.before.before.before.args in
+    let a = c.before.before.before.before in
+    let x = a.before.before.before.before.before.before.before.before.before.before.before.before.before.before.before.args in
     let G = a.before.before.before.before.before.before.begin.ensures.accepts a.before.before.before.if1.false in
-    let H = run_turns G x.order.now _ _ x.listed.now x.looks.now x.tally.now _ a.before.before.bytes-for.ensures _ a.before.check-request.ensures a.if2.false (o.open-request.ensures.1 _ G) in
-    ((G, (_, H)), (holds_none 1, empty_marks 64 (omega arith) (omega arith)))
+    let order = request_order _ a.before.before.bytes-for.result x.order.now x.reader (length x.listed.now) (length x.looks.now) _ a.before.check-request.ensures a.if2.false in
+    ((G, order), (holds_none 1, empty_marks 64 (omega arith) (omega arith)))
 
 slice-aggregate-finish : tie.Need-slice-aggregate-finish
 slice-aggregate-finish c = sym c.before.before.before.work-run.auto.1.1.1.1.1.1.0
@@ -87,16 +63,13 @@ slice-aggregate-finish-2 c = sym c.before.before.before.before.work-run.auto.1.1
 
 finish-requires : tie.Need-finish-requires
 finish-requires c κs =
-    let w = c.before.before.before.before.before.before.before in
-    let o = w.before.before.before.before.before.before.before in
-    let a = o.before.before.before.before in
-    let x = a.before.before.before.before.before.before.before.before.before.before.before.before.before.before.before.before.args in
+    let a = c.before.before.before.before.before.before.before.before.before.before.before.before in
+    let x = a.before.before.before.before.before.before.before.before.before.before.before.before.before.before.before.args in
     let G = a.before.before.before.before.before.before.begin.ensures.accepts a.before.before.before.if1.false in
-    let H = run_turns G x.order.now _ _ x.listed.now x.looks.now x.tally.now _ a.before.before.bytes-for.ensures _ a.before.check-request.ensures a.if2.false (o.open-request.ensures.1 _ G) in
-    let W = w.work-run.ensures _ H G.input G.decoded in (
-      (W.selected_size, w.work-run.auto.1.1.1.1.1.1.1.0, G.tabled.few, size_short G a.before.before.bytes-for.ensures),
+    let W = c.before.before.before.before.before.before.before.work-run.ensures G.input G.decoded in (
+      (W.selected_size, c.before.before.before.before.before.before.before.work-run.auto.1.1.1.1.1.1.1.0, G.tabled.few, size_short G a.before.before.bytes-for.ensures),
       (
-        request_fits _ _ x.order.now x.reader (length x.rights.now) _ _ _ a.before.check-request.ensures a.if2.false,
+        request_fits _ _ x.order.now x.reader _ _ _ a.before.check-request.ensures a.if2.false,
         (size_whole G _ _ a.before.before.bytes-for.ensures W.selected_whole, size_whole G _ _ a.before.before.bytes-for.ensures W.probed_whole),
       ),
     )
@@ -112,14 +85,10 @@ same-length-3 c = c.before.before.before.before.before.before.finish.auto.1.1.1.
 
 returns-3 : tie.Need-returns-3
 returns-3 c =
-    let w = c.before.before.before.before.before.before.before.before.before.before.before.before.before.before in
-    let o = w.before.before.before.before.before.before.before in
-    let a = o.before.before.before.before in
-    let x = a.before.before.before.before.before.before.before.before.before.before.before.before.before.before.before.before.args in
+    let a = c.before.before.before.before.before.before.before.before.before.before.before.before.before.before.before.before.before.before.before in
     let G = a.before.before.before.before.before.before.begin.ensures.accepts a.before.before.before.if1.false in
-    let H = run_turns G x.order.now _ _ x.listed.now x.looks.now x.tally.now _ a.before.before.bytes-for.ensures _ a.before.check-request.ensures a.if2.false (o.open-request.ensures.1 _ G) in
     let end = c.before.before.before.before.before.before.finish.ensures in
-    (run_finished G _ _ _ _ _ _ _ a.before.before.bytes-for.ensures _ a.before.check-request.ensures a.if2.false (w.work-run.ensures _ H) end.0, end.1)
+    (run_finished G _ _ _ _ _ _ a.before.before.bytes-for.ensures _ a.before.check-request.ensures a.if2.false c.before.before.before.before.before.before.before.before.before.before.before.before.before.before.work-run.ensures end.0, end.1)
 
 pub run-question-spec : {M : Type 1} → statement M
 run-question-spec =
@@ -132,16 +101,10 @@ run-question-spec =
     bytes-for-requires
     check-request-requires
     returns-2
-    slice-aggregate-open-request
-    slice-aggregate-open-request-2
-    slice-aggregate-open-request-3
-    open-request-requires
-    array-share-prefix-turns
     slice-aggregate-work-run
     slice-aggregate-work-run-2
     slice-aggregate-work-run-3
     slice-aggregate-work-run-4
-    slice-aggregate-work-run-5
     work-run-requires
     slice-aggregate-finish
     slice-aggregate-finish-2

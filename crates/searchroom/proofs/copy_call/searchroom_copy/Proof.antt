@@ -1,6 +1,5 @@
 -- `searchroom_copy` meets its contract: the answer of the copy, packed; the sequence that order 1 leaves open is that of the turns.
 use Rattle.task.specs.Input.{decode_input}
-use Rattle.demands.specs.Run.{request}
 use Rattle.probe_log.specs.Sequence.{in_turn}
 use Rattle.probe_log.proofs.InTurn.{in_turn_sequenced}
 use borrow.Author.Rules.{rules}
@@ -18,11 +17,11 @@ same_length c = search rules
 
 returns : tie.Need-returns
 returns c =
-    let a = c.before.before.before.before.before.before.before.before.before.before.args in
+    let a = c.before.before.before.before.before.before.before.before.before.args in
     let D = decode_input a.catalogue.now a.question.now in
     record {
-      sequence = in_turn D (request a.catalogue.now a.question.now a.order.now a.reader a.rights.now);
-      sequenced = in_turn_sequenced D (request a.catalogue.now a.question.now a.order.now a.reader a.rights.now);
+      sequence = in_turn D a.order.now;
+      sequenced = in_turn_sequenced D a.order.now;
       leaves = rw c.pack.ensures c.before.before.before.log-question.ensures.0;
     }
 
