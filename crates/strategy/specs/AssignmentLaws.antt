@@ -60,6 +60,7 @@ among? c (d ∷ ds) = go (same? c d) (among? c ds)
 
 pub elem_yes : (c : ℕ) (l : List ℕ) → Among c l → elem c l ≡ true
 unfolding elem
+elem_yes c [] x' = elim x' [ ]
 elem_yes c (d ∷ ds) (inl e) = rw (e, eqb_self d)
 elem_yes c (d ∷ ds) (inr m) = or_right (eqb c d) (elem_yes c ds m)
 

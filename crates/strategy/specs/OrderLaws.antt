@@ -74,6 +74,7 @@ count_le n (d ∷ ds) = omega (arith, one_le (ltb d n), count_le n ds)
 
 count_inside : (n : ℕ) (l : List ℕ) → count_below n l ≡ length l → (d : ℕ) → Among d l → d < n
 unfolding count_below one
+count_inside n [] e d m = elim m [ ]
 count_inside n (x ∷ l) e d m = go (which (ltb x n)) (λ k. count_inside n l k d) m
   where
     tail : count_below n l ≡ length l
@@ -96,12 +97,16 @@ occurs_none c (d ∷ ds) n = rw (eqb_ne c d (λ e. n (inl e))) (omega (arith, oc
 
 pub occurs_some : (c : ℕ) (l : List ℕ) → Among c l → 1 ≤ occurrences c l
 unfolding occurrences
+occurs_some c [] x' = elim x' [ ]
 occurs_some c (d ∷ ds) (inl e) = rw (e, eqb_self d) (omega arith)
 occurs_some c (d ∷ ds) (inr m) = omega (arith, occurs_some c ds m)
 
 pub occurs_once : (c : ℕ) (l : List ℕ) → Once l → Among c l → occurrences c l ≡ 1
 unfolding occurrences
-occurs_once c (d ∷ ds) o (inl e) = rw (e, eqb_self d) (omega (arith, occurs_none d ds o.0))
+occurs_once c [] o x'' = elim x'' [ ]
+occurs_once c (d ∷ ds) o (inl e) =
+  let n : occurrences c ds ≡ 0 = occurs_none c ds (λ m. o.0 (subst (λ x. Among x ds) e m)) in
+  rw (e, eqb_self d) (omega (arith, n))
 occurs_once c (d ∷ ds) o (inr m) = rw (eqb_ne c d (λ e. o.0 (subst (λ x. Among x ds) e m))) (omega (arith, occurs_once c ds o.1 m))
 
 pub once_of : (l : List ℕ) → ((c : ℕ) → Among c l → occurrences c l ≤ 1) → Once l

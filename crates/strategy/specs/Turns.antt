@@ -49,6 +49,7 @@ must_probe f c cs S a s n R D = go (S.probe c s) refl
 -- what a state holds stays in it
 among_append : (x : ℕ) (s t : State) → Among x (predicates s) → Among x (predicates (s ++ t))
 unfolding predicates
+among_append x [] t x'' = elim x'' [ ]
 among_append x (y ∷ s) t (inl e) = inl e
 among_append x (y ∷ s) t (inr m) = inr (among_append x s t m)
 
