@@ -22,8 +22,8 @@ use Rattle.bitmaps.specs.TableLaws.{lines_front, lines_behind}
 use Rattle.query.specs.Format.{predicate_limit}
 use Rattle.gather.specs.Turns.{HasLines}
 use Rattle.task.specs.Log.{log_fields}
-use Rattle.log.specs.MarkedLog.{marked_number}
-use Rattle.log.proofs.LogLaws.{marked_log_lem}
+use Rattle.copy_log.specs.MarkedLog.{marked_number}
+use Rattle.copy_log.proofs.LogLaws.{marked_log_lem}
 use Rattle.task.specs.Task.{told, made_at, is_probed}
 use Rattle.marks.specs.Marks.{met_line}
 use Rattle.rows.specs.Worked.{is_met, marking}

@@ -15,7 +15,7 @@ use Rattle.strategy.specs.TraceLaws.{trace_among, trace_once}
 use Rattle.strategy.specs.Tree.{eval}
 use Rattle.bitmaps.specs.Sums.{digit}
 use Rattle.bitmaps.specs.Table.{line_bit}
-use Rattle.log.specs.MarkedLog.{marked_at}
+use Rattle.copy_log.specs.MarkedLog.{marked_at}
 use Rattle.task.specs.Task.{told, due_at, made_at, is_probed}
 use Rattle.task.proofs.Withdrawn.{trace_holds}
 use Rattle.task.specs.Input.{Input}

@@ -3,7 +3,7 @@ ghost use Rattle.finish_log.specs.Finish.{HasMarks, LogFinished};
 
 use answers::refusal::Refusal;
 use answers::word::Answer;
-use log::field::ProbeField;
+use copy_log::field::ProbeField;
 use marks::MarkTable;
 
 // Ends a copy whose own table and plan are these: refusal 20, or the length and the fields.

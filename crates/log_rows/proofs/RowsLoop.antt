@@ -12,7 +12,7 @@ use Rattle.bitmaps.specs.Sums.{joined}
 use Rattle.bitmaps.specs.SumLaws.{joined_split, joined_grows, joined_same}
 use Rattle.bitmaps.specs.Table.{line_bit}
 use Rattle.bitmaps.specs.Word.{block_rows}
-use Rattle.log.specs.MarkedLog.{marked_number, field_if, marked_field, marked_row, marked_log, marked_from, blanks_in}
+use Rattle.copy_log.specs.MarkedLog.{marked_number, field_if, marked_field, marked_row, marked_log, marked_from, blanks_in}
 use Rattle.task.specs.Task.{Task}
 use Rattle.blanks.specs.Blanks.{blank_turn, BlankTurns}
 use Rattle.log_rows.specs.Written.{task_log, LogReady}

@@ -2,7 +2,7 @@
 use Rattle.std.specs.Prelude.{ℕ, ◌≤◌, List, length}
 use Rattle.fields.specs.Output.{Wrote}
 use Rattle.bitmaps.specs.Table.{line_bits}
-use Rattle.log.specs.MarkedLog.{marked_log}
+use Rattle.copy_log.specs.MarkedLog.{marked_log}
 use Rattle.task.specs.Task.{Task}
 use Rattle.blanks.specs.Blanks.{ProbesOf, blank_turn}
 

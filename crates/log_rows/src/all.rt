@@ -25,7 +25,7 @@ pub fn put_rows(
         let count = if left < Word::ROWS { left } else { Word::ROWS };
         let mut blanks = [0u64; Word::ROWS];
         blanks::gather_blanks(catalogue, plan, turns, probed, met, base, &mut blanks);
-        at = log::block::put_block(out, at, turns, probed, met, &blanks, base, count);
+        at = copy_log::block::put_block(out, at, turns, probed, met, &blanks, base, count);
         base += Word::ROWS;
     }
     at

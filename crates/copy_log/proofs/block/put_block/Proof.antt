@@ -5,9 +5,9 @@ use borrow.Author.Rules.{rules}
 use mathlib.Core.Path.{◌≡◌, refl}
 use Rattle.bitmaps.specs.Word.{block_rows}
 use Rattle.bitmaps.specs.TableLaws.{zeros}
-use Rattle.log.proofs.BlockLoop.{BlockLoop, block_start, due_turns, row_room, block_next}
-use Rattle.log.proofs.block.put_block.Statement.{statement}
-use Rattle.log.proofs.block.put_block.Tie as tie
+use Rattle.copy_log.proofs.BlockLoop.{BlockLoop, block_start, due_turns, row_room, block_next}
+use Rattle.copy_log.proofs.block.put_block.Statement.{statement}
+use Rattle.copy_log.proofs.block.put_block.Tie as tie
 
 abbrev invariant-loop : tie.invariant-loop
 invariant-loop out₀ at turns probed met blanks base count dues mets end₀ d₀ out end d = (d ≤ count) × BlockLoop turns probed met blanks base at out₀ d end out

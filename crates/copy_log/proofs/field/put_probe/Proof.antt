@@ -2,8 +2,8 @@
 use borrow.Author.Rules.{rules}
 use Rattle.fields.proofs.OutputLaws.{wrote_same}
 use Rattle.task.proofs.Fields.{probe_bytes}
-use Rattle.log.proofs.field.put_probe.Statement.{statement}
-use Rattle.log.proofs.field.put_probe.Tie as tie
+use Rattle.copy_log.proofs.field.put_probe.Statement.{statement}
+use Rattle.copy_log.proofs.field.put_probe.Tie as tie
 
 cast-t9 : tie.Need-overflow-cast-t9
 cast-t9 c = search rules

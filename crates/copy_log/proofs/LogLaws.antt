@@ -10,7 +10,7 @@ use Rattle.bitmaps.specs.Sums.{joined}
 use Rattle.bitmaps.specs.SumLaws.{joined_same, joined_first}
 use Rattle.bitmaps.specs.Table.{line_bit}
 use Rattle.task.specs.Log.{probe_field, row_fields, log_fields}
-use Rattle.log.specs.MarkedLog.{marked_number, field_if, marked_field, marked_row, marked_log, marked_at}
+use Rattle.copy_log.specs.MarkedLog.{marked_number, field_if, marked_field, marked_row, marked_log, marked_at}
 
 module _ (P M : List ℕ) (row : ℕ) (o : ℕ → ℕ) where
   -- marks say what the outcomes are where the row was probed

@@ -2,7 +2,7 @@
 ghost use Rattle.std.specs.Prelude.{◌+◌, ◌≤◌, length};
 ghost use Rattle.fields.specs.Output.{Wrote};
 ghost use Rattle.task.specs.Log.{probe_field_size, probe_field};
-ghost use Rattle.log.specs.MarkedLog.{turn_fields, HasTurns};
+ghost use Rattle.copy_log.specs.MarkedLog.{turn_fields, HasTurns};
 
 #[derive(Drop)]
 pub struct ProbeField;

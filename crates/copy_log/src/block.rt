@@ -3,7 +3,7 @@ ghost use Rattle.std.specs.Prelude.{◌+◌, ◌≤◌, ◌≡◌, length};
 ghost use Rattle.fields.specs.Output.{Wrote};
 ghost use Rattle.bitmaps.specs.Word.{block_rows, BlockAt};
 ghost use Rattle.gather.specs.Turns.{HasLines};
-ghost use Rattle.log.specs.MarkedLog.{marked_from, blanks_in};
+ghost use Rattle.copy_log.specs.MarkedLog.{marked_from, blanks_in};
 
 use bitmaps::word::Word;
 

@@ -16,7 +16,7 @@ use Rattle.bitmaps.specs.SumLaws.{joined_same, joined_grows}
 use Rattle.bitmaps.specs.Table.{line_bit}
 use Rattle.bitmaps.specs.Word.{block_rows}
 use Rattle.gather.specs.Turns.{TurnsFor}
-use Rattle.log.specs.MarkedLog.{marked_number, field_if, turn_field, turn_fields, marked_field, marked_row, marked_from, blanks_in, HasTurns}
+use Rattle.copy_log.specs.MarkedLog.{marked_number, field_if, turn_field, turn_fields, marked_field, marked_row, marked_from, blanks_in, HasTurns}
 
 pub record BlockLoop (turns P M blanks : List ℕ) (base at : ℕ) (old : List ℕ) (d end : ℕ) (new : List ℕ) : Type 0 where
   pub wrote : Wrote at (marked_from turns P M (blanks_in blanks) base d) old end new

@@ -1,9 +1,9 @@
 -- `put_row` meets its contract. Invariant: the fields of the turns passed are written, the turns that are still due are left.
 use native.Mathlib.Omega.{arith}
 use borrow.Author.Rules.{rules}
-use Rattle.log.proofs.RowLoop.{mark_small, RowLoop, row_start, row_next, row_end, next_inside, next_room}
-use Rattle.log.proofs.field.put_row.Statement.{statement}
-use Rattle.log.proofs.field.put_row.Tie as tie
+use Rattle.copy_log.proofs.RowLoop.{mark_small, RowLoop, row_start, row_next, row_end, next_inside, next_room}
+use Rattle.copy_log.proofs.field.put_row.Statement.{statement}
+use Rattle.copy_log.proofs.field.put_row.Tie as tie
 
 abbrev invariant-loop : tie.invariant-loop
 invariant-loop out₀ at turns row due met blank end₀ left₀ out end left = RowLoop turns row due met blank at out₀ left end out
