@@ -1,4 +1,6 @@
 // What a planned predicate gives: its outcome at a row, and the due rows of a block at which it is met, or blank.
+#![tactic(auto)]
+
 ghost use Rattle.std.specs.Prelude.{◌≡◌, ◌<◌, length};
 ghost use Rattle.predicate.specs.Outcome.{Folds};
 ghost use Rattle.query.specs.Format.{predicate_limit};

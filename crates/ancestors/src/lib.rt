@@ -1,5 +1,7 @@
 // The groups around each predicate, the innermost first: a line of the table for each predicate, with how many there are and
 // of each the first predicate, the end of its predicates and its tag.
+#![tactic(auto)]
+
 ghost use Rattle.ancestors.specs.Ancestors.{Closable, Closed};
 
 use query::format::{Group, Predicate};

@@ -1,4 +1,6 @@
 // Bitmaps: the selection and the probes of a run, marked bit by bit in tables of the run's own and copied out.
+#![tactic(auto)]
+
 pub mod bit;
 pub mod copy;
 pub mod size;

@@ -1,4 +1,6 @@
 // The blanks of a block by row: of each row the turns whose predicates were probed there with outcome blank.
+#![tactic(auto)]
+
 ghost use Rattle.std.specs.Prelude.{◌≡◌, length, get_or};
 ghost use Rattle.bitmaps.specs.Word.{block_rows, BlockAt};
 ghost use Rattle.blanks.specs.Blanks.{NoesIn, HasProbes, BlankTurns};

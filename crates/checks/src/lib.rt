@@ -1,4 +1,6 @@
 // The calls that only check: a catalogue, and a question against one.
+#![tactic(auto)]
+
 ghost use Rattle.catalogue.specs.Decode.{decode_catalogue};
 ghost use Rattle.task.specs.Input.{decode_input};
 ghost use Rattle.answers.specs.Answers.{catalogue_answer, question_answer, Answered};

@@ -1,2 +1,4 @@
 // A typed condition, read into its field.
+#![tactic(auto)]
+
 pub mod condition;

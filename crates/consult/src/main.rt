@@ -1,4 +1,6 @@
 // The program `consult`: reads three files from the folder it is run in and prints the register.
+#![tactic(auto)]
+
 mod file;
 
 ghost use Rattle.std.specs.Prelude.{◌≤◌, length};

@@ -1,4 +1,6 @@
 // One consultation: a run of reader 0 with the tally at zero, and its register.
+#![tactic(auto)]
+
 ghost use Rattle.std.specs.Prelude.{◌≤◌, length};
 ghost use Rattle.fields.specs.Numbers.{Bytes};
 ghost use Rattle.query.specs.Format.{predicate_limit};

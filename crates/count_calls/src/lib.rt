@@ -1,4 +1,6 @@
 // The counts alone, as calls of an archive of their own, for the benchmark and the tests: no part of the engine.
+#![tactic(auto)]
+
 ghost use Rattle.std.specs.Prelude.{◌≡◌, min};
 ghost use Rattle.bitmaps.specs.Bitmap.{ones_in};
 ghost use Rattle.count_calls.specs.Counted.{counted, counted_lines};

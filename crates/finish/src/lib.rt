@@ -1,4 +1,6 @@
 // How a run ends: what will go out is counted, the tally tested, and only then the lent tables written.
+#![tactic(auto)]
+
 ghost use Rattle.std.specs.Prelude.{◌≡◌, ◌*◌, ◌≤◌, ◌<◌, length};
 ghost use Rattle.query.specs.Format.{predicate_limit};
 ghost use Rattle.bitmaps.specs.Table.{line_size};

@@ -1,4 +1,6 @@
 // How a copy ends: its looks are counted, the output measured, and only then the fields written.
+#![tactic(auto)]
+
 ghost use Rattle.finish_log.specs.Finish.{HasMarks, LogFinished};
 
 use answers::refusal::Refusal;

@@ -1,4 +1,6 @@
 // Equals and begins at the rows that a filter left, tested exactly.
+#![tactic(auto)]
+
 pub mod sure;
 
 ghost use Rattle.std.specs.Prelude.{◌≡◌, true, ◌+◌, ◌≤◌, length};

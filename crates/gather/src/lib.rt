@@ -1,4 +1,6 @@
 // The marks of a block by row: words with a bit for each of 64 rows, one for each turn, made into sets of turns, one for each row.
+#![tactic(auto)]
+
 ghost use Rattle.std.specs.Prelude.{◌<◌, ◌≡◌, length, get_or};
 ghost use Rattle.sets.specs.Set.{below_set};
 ghost use Rattle.bitmaps.specs.Word.{block_rows, BlockAt};

@@ -1,4 +1,6 @@
 // A whole catalogue checked, and where its columns and its mark lie.
+#![tactic(auto)]
+
 ghost use Rattle.std.specs.Prelude.{◌≡◌, ◌≤◌, length};
 ghost use Rattle.fields.specs.Decoded.{and_then};
 ghost use Rattle.catalogue.specs.Format.{row_limit, column_limit};

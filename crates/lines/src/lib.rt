@@ -1,5 +1,7 @@
 // Lines of a text: a label, a number in decimal digits, and byte 10, written into a lent output.
 // Each function writes from `at` on and gives the place behind.
+#![tactic(auto)]
+
 ghost use Rattle.std.specs.Prelude.{◌+◌, ◌≤◌, length};
 ghost use Rattle.fields.specs.Decimal.{digits_of, decimal};
 ghost use Rattle.fields.specs.Output.{Wrote};

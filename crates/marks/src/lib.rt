@@ -1,4 +1,6 @@
 // Marks in a table of lines: a line for the probes of each predicate and, in a longer table, then one for its yes.
+#![tactic(auto)]
+
 ghost use Rattle.marks.specs.Marks.{MarkReady, Marked};
 
 use bitmaps::copy::Line;

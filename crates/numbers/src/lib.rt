@@ -1,4 +1,6 @@
 // A number condition at the due rows of a block of 64 rows, as a word: bit d is row base + d.
+#![tactic(auto)]
+
 ghost use Rattle.std.specs.Prelude.{◌≡◌, ◌+◌, ◌*◌, ◌%◌, ◌^◌, ◌<◌, ◌≤◌, length};
 ghost use Rattle.fields.specs.Numbers.{number_at};
 ghost use Rattle.catalogue.specs.Format.{number_tag, number_size};

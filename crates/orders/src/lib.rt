@@ -1,4 +1,6 @@
 // The check of an order, by the set of the numbers seen.
+#![tactic(auto)]
+
 ghost use Rattle.std.specs.Prelude.{◌≡◌, ◌≤◌};
 ghost use Rattle.strategy.specs.Order.{is_order};
 

@@ -1,4 +1,6 @@
 // Working out one condition at one entry.
+#![tactic(auto)]
+
 ghost use Rattle.std.specs.Prelude.{◌≡◌};
 ghost use Rattle.task.specs.Input.{decode_input};
 ghost use Rattle.input.specs.Beginning.{HasInputOffsets};

@@ -1,4 +1,6 @@
 // The check of one condition's payload: column byte, kind byte, operand.
+#![tactic(auto)]
+
 ghost use Rattle.std.specs.Prelude.{◌≡◌};
 ghost use Rattle.predicate.specs.Payload.{kind_fits, operand_fits, range_fits, valid_payload};
 

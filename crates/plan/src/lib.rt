@@ -1,2 +1,4 @@
 // The plan of a run: of each predicate where its outcome comes from.
+#![tactic(auto)]
+
 pub mod table;

@@ -1,4 +1,6 @@
 // The rows that take part in a run, order 6's entries still in the house.
+#![tactic(auto)]
+
 ghost use Rattle.std.specs.Prelude.{◌≡◌, ◌+◌, ◌≤◌, ◌<◌, length, drop};
 ghost use Rattle.bitmaps.specs.Table.{line_size};
 ghost use Rattle.bitmaps.specs.Word.{BlockAt};

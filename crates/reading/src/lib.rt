@@ -1,3 +1,5 @@
 // The reading of a query: its members, each with those of its own, and the whole.
+#![tactic(auto)]
+
 pub mod member;
 pub mod whole;

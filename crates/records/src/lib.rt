@@ -1,4 +1,6 @@
 // The table of records: one for each predicate, in their order.
+#![tactic(auto)]
+
 ghost use Rattle.std.specs.Prelude.{◌≡◌, ◌++◌, ◌+◌, ◌≤◌, length, drop};
 ghost use Rattle.predicate.specs.Payload.{payload_head};
 ghost use Rattle.records.specs.Offsets.{HasFields};

@@ -1,2 +1,4 @@
 // The text of the register that `consult` prints.
+#![tactic(auto)]
+
 pub mod text;

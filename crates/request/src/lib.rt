@@ -1,4 +1,6 @@
 // The checks of a request that need no work.
+#![tactic(auto)]
+
 ghost use Rattle.std.specs.Prelude.{◌≡◌, ◌≤◌};
 ghost use Rattle.bitmaps.specs.Table.{line_size};
 ghost use Rattle.query.specs.Format.{predicate_limit};

@@ -1,4 +1,6 @@
 // Running a question in a given order, for a reader.
+#![tactic(auto)]
+
 ghost use Rattle.answers.specs.Word.{packed, FitsWord};
 ghost use Rattle.demands.specs.Run.{lent};
 ghost use Rattle.demands.specs.Calls.{RunGives};

@@ -1,4 +1,6 @@
 // The engine's exported calls: numbers and byte slices in, one packed word out.
+#![tactic(auto)]
+
 pub mod catalogue_call;
 pub mod copy_call;
 pub mod outcome_call;

@@ -1,5 +1,7 @@
 // A set of numbers below 64, held as the bits of a u64.
 // A loop over the numbers of a set x takes first(x) and goes on with rest(x).
+#![tactic(auto)]
+
 ghost use Rattle.std.specs.Prelude.{◌≡◌, cond, ◌*◌, ◌^◌, ◌≤◌, ◌<◌};
 ghost use Rattle.sets.specs.Set.{has, one_set, below_set, set_minus, set_with};
 ghost use Rattle.sets.specs.Kept.{FirstIs, RestIs};

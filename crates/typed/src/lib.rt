@@ -1,4 +1,6 @@
 // A typed question read against a catalogue: its bytes, checked as every question's are, go out to the lent output.
+#![tactic(auto)]
+
 ghost use Rattle.std.specs.Prelude.{◌^◌, ◌<◌, length, ◌≡◌};
 ghost use Rattle.query.specs.Decode.{decode_tagged};
 ghost use Rattle.answers.specs.Word.{packed, FitsWord};
