@@ -18,7 +18,7 @@ text_shown b start row rows ts s l =
     let n : get_or b at 0 ≡ at + 1 + get_or b at 0 - (at + 1) = omega arith in
     ap (λ (k : ℕ). take k (drop (at + 1) b)) n ∙ text_is b start row at (get_or b at 0) refl refl rows ts s l
 
-module _ {b : List ℕ} {start row : ℕ} where
+module _ (b : List ℕ) (start row : ℕ) where
   pub text_value : HasRow b text_tag start row → (t : List ℕ) → TextIs b start row t → t ≡ text_of b start row
   text_value (rows, numbers ns, s, l) t value = let z : text_tag ≡ number_tag = s.0 in absurd (omega arith)
   text_value (rows, texts ts, s, l) t value = value rows ts s l ∙ sym (text_shown b start row rows ts s l)

@@ -19,7 +19,7 @@ size-fits-requires c κs = search rules
 returns : tie.Need-returns
 returns c =
     let p = c.before.before.before.before.before.before.requires in
-    let t = text_value p.1 _ c.before.before.text_at.ensures in
+    let t = text_value _ _ _ p.1 _ c.before.before.text_at.ensures in
     other_size _ _ _ p.2 (sym c.before.size-fits.ensures ∙ not-true _ c.if1.true) ∙ ap (text_test _ _) t
 
 mul-is-sure : tie.Need-overflow-mul-is-sure
@@ -39,12 +39,12 @@ rest-matches-requires c κs =
     let text = c.before.before.before.before.text_at in
     let h = has_text _ _ _ p.1 in
     let l = long_enough a.kind a.operand.now text.result.now p.2 (sym c.before.before.before.size-fits.ensures ∙ not-false _ c.before.before.if1.false) in
-    (p.0, l, sure_begins a.operand.now a.b.now a.k _ (text_value p.1 _ text.ensures) h.0 h.1 (λ i. omega (arith, bytes.given i)) p.3 (sym c.before.is-sure.ensures ∙ c.if2.true) l)
+    (p.0, l, sure_begins a.operand.now a.b.now a.k _ (text_value _ _ _ p.1 _ text.ensures) h.0 h.1 (λ i. omega (arith, bytes.given i)) p.3 (sym c.before.is-sure.ensures ∙ c.if2.true) l)
 
 returns-2 : tie.Need-returns-2
 returns-2 c =
     let p = c.before.before.before.before.before.before.before.before.before.requires in
-    let t = text_value p.1 _ c.before.before.before.before.before.text_at.ensures in
+    let t = text_value _ _ _ p.1 _ c.before.before.before.before.before.text_at.ensures in
     front_test _ _ _ p.2 (sym c.before.before.before.before.size-fits.ensures ∙ not-false _ c.before.before.before.if1.false) _ c.rest-matches.ensures ∙ ap (text_test _ _) t
 
 begins-with-requires : tie.Need-begins-with-requires
@@ -53,7 +53,7 @@ begins-with-requires c κs = c.before.before.before.before.before.before.before.
 returns-3 : tie.Need-returns-3
 returns-3 c =
     let p = c.before.before.before.before.before.before.before.before.before.requires in
-    let t = text_value p.1 _ c.before.before.before.before.before.text_at.ensures in
+    let t = text_value _ _ _ p.1 _ c.before.before.before.before.before.text_at.ensures in
     front_test _ _ _ p.2 (sym c.before.before.before.before.size-fits.ensures ∙ not-false _ c.before.before.before.if1.false) _ c.begins-with.ensures ∙ ap (text_test _ _) t
 
 pub row-passes-spec : {M : Type 1} → statement M

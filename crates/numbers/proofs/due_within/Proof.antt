@@ -57,7 +57,7 @@ loop-again c =
     let w = c.before.before.before.before.widen.ensures.0 in
     let a = c.before.before.before.before.before.before.before.before.before.args in
     let row = c.before.before.before.before.before.before.before.before.before.requires.0 _ (sort_among s f w) in
-    sort_next s f w c.before.before.before.rest.ensures (c.before.is_Within.ensures ∙ ap (within a.low a.width) (number_value row _ c.before.before.number_at.ensures)) c.kept.ensures
+    sort_next s f w c.before.before.before.rest.ensures (c.before.is_Within.ensures ∙ ap (within a.low a.width) (number_value _ _ _ row _ c.before.before.number_at.ensures)) c.kept.ensures
 
 returns : tie.Need-returns invariant-loop decreases-loop
 returns c = sort_end c.before.loop.invariant (omega arith)
