@@ -7,7 +7,7 @@ ghost use Rattle.filters.specs.Windows.{InReach, PairFor, pair_at};
 
 use heads::byte_test::ByteTest;
 
-#[derive(Drop)]
+#[derive(Clone, Copy)]
 pub struct Pair {
     pub gap: usize,
     pub first: ByteTest,

@@ -4,7 +4,7 @@ ghost use Rattle.predicate.specs.Outcome.{Folds};
 ghost use Rattle.fronts.specs.Sure.{front_size, is_letter, asked_bits, SureSize, sure_passes, SureFor};
 
 // A word passes where it has the bits of the value in all places that are asked for.
-#[derive(Drop)]
+#[derive(Clone, Copy)]
 pub struct Sure {
     pub asked: u64,
     pub value: u64,

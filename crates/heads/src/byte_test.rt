@@ -3,7 +3,7 @@ ghost use Rattle.std.specs.Prelude.{◌≡◌, cond};
 ghost use Rattle.heads.specs.ByteTest.{test_passes, any_byte, is_loose, tight_bits, loose_bits, tight_test, loose_test};
 
 // A byte passes where, with the mask's bits set, it is the value.
-#[derive(Drop)]
+#[derive(Clone, Copy)]
 pub struct ByteTest {
     pub mask: u8,
     pub value: u8,

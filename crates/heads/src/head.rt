@@ -9,7 +9,7 @@ use crate::byte_test::ByteTest;
 use predicate::kind::Kind;
 
 // A slot passes where its head has the value's bits in all places that are asked for.
-#[derive(Drop)]
+#[derive(Clone, Copy)]
 pub struct Head {
     pub asked: u32,
     pub value: u32,

@@ -6,7 +6,7 @@ ghost use Rattle.parser.specs.Reading.{GroupAt, GroupsOpenable, Opened, GroupsCl
 use query::format::Group;
 
 // How far the text is read and the output written, and where the length of the innermost open group stands, 0 where none is open.
-#[derive(Drop)]
+#[derive(Clone, Copy)]
 pub struct Place {
     pub at: usize,
     pub end: usize,

@@ -10,7 +10,7 @@ use fields::header::Header;
 use payload::Payload;
 
 // Document 01's record of a condition: the operand is the len bytes of the query from place on.
-#[derive(Drop)]
+#[derive(Clone, Copy)]
 pub struct PredicateRecord {
     pub column: u8,
     pub kind: u8,

@@ -6,7 +6,7 @@ ghost use Rattle.scan.specs.Met.{RangeFor};
 
 use catalogue::format::Number;
 
-#[derive(Drop)]
+#[derive(Clone, Copy)]
 pub struct Range {
     pub low: u32,
     pub width: u32,
