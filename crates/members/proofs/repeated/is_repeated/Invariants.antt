@@ -1,0 +1,10 @@
+-- `is_repeated` meets its contract: none of the predicates from the number left on has the payload, and the others decide.
+use Rattle.members.proofs.Repeats.{Unlike}
+use Rattle.std.specs.Prelude.{◌≤◌}
+use Rattle.members.proofs.repeated.is_repeated.Given as goal
+
+abbrev pub invariant-loop-left : goal.invariant-loop-left
+invariant-loop-left l = (l.left ≤ l.n) × Unlike l.payload l.q l.offsets l.left l.n
+
+abbrev pub decreases-loop-left : goal.decreases-loop-left
+decreases-loop-left l = l.left
