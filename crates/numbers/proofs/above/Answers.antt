@@ -16,6 +16,6 @@ returns c =
     let read = turned in
     let a = read.args in (
       in_order_signed a.b.now a.at (λ k. (read.shared_slice_known-1.given k).fits) _ _ a.low _ read.half_at-x.ensures.0 refl
-          turned.wrapping_sub_u32-turned.ensures c.wrapping_sub_u32-first.ensures c.wrapping_add_u32.ensures c.wrapping_sub_u32.ensures,
+          turned.wrapping_sub_u32-turned.ensures.value c.wrapping_sub_u32-first.ensures.value c.wrapping_add_u32.ensures.value c.wrapping_sub_u32.ensures.value,
       omega arith,
     )

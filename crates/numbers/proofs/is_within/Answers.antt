@@ -4,4 +4,4 @@ use Rattle.std.proofs.Common.{arith}
 use Rattle.numbers.proofs.is_within.Goals as goal
 
 pub returns : goal.returns
-returns c = let a = c.args in within_wraps a.low a.width a.n _ (omega arith) c.requires c.wrapping_sub_u32.ensures
+returns c = let a = c.args in within_wraps a.low a.width a.n _ (omega arith) c.requires c.wrapping_sub_u32.ensures.value
