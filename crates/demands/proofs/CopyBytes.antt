@@ -58,7 +58,7 @@ unfolding occurrences
 place_once [] j k x y o e = absurd (omega arith)
 place_once (d ∷ ds) zero zero x y o e = refl
 place_once (d ∷ ds) zero (suc k) x y o e = absurd (twice d ds k (omega arith) e o)
-place_once (d ∷ ds) (suc j) zero x y o e = absurd (twice d ds j (omega arith) (sym e) (rw e at o))
+place_once (d ∷ ds) (suc j) zero x y o e = absurd (twice d ds j (omega arith) (sym e) (subst (λ (x : ℕ). occurrences x (d ∷ ds) ≤ 1) e o))
 place_once (d ∷ ds) (suc j) (suc k) x y o e = ap suc (place_once ds j k (omega arith) (omega arith) (omega arith) e)
 
 -- FIELDS IN THE BYTES
