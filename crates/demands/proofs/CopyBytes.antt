@@ -13,7 +13,7 @@ use Rattle.fields.specs.Numbers.{bytes_of}
 use Rattle.fields.specs.Header.{field_of}
 use Rattle.strategy.specs.Order.{occurrences}
 use Rattle.bitmaps.specs.Sums.{sum_of, joined, digit}
-use Rattle.bitmaps.specs.SumLaws.{sum_split}
+use Rattle.bitmaps.proofs.SumLaws.{sum_split}
 use Rattle.task.specs.Log.{probe_field, row_fields, log_fields}
 use Rattle.task.proofs.LogLength.{log_length}
 use Rattle.task.specs.Task.{is_probed}

@@ -1,9 +1,9 @@
 -- `log_question` meets its contract: the first check that fails, or the log of what was read.
-use Rattle.bitmaps.specs.TableLaws.{holds_none}
+use Rattle.bitmaps.proofs.TableLaws.{holds_none}
 use Rattle.marks.proofs.Marking.{empty_marks}
 use Rattle.probe_log.proofs.Logging.{has_marks, log_finished, log_not_order, log_refused}
 use Rattle.std.proofs.Common.{arith, refl, sym}
-use Rattle.strategy.specs.OrderLaws.{order_is}
+use Rattle.strategy.proofs.OrderLaws.{order_is}
 use Rattle.probe_log.proofs.log_question.Goals as goal
 
 pub slice_bounds-begin-end : goal.slice_bounds-begin-end

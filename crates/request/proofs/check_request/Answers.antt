@@ -1,7 +1,7 @@
 -- `check_request` meets its contract: the order, then each table, then the reader, by its number.
 use Rattle.request.proofs.Request.{lines_fit, listed_short, looks_short, no_such_reader_lem, not_order_lem, request_holds}
 use Rattle.std.proofs.Common.{arith}
-use Rattle.strategy.specs.OrderLaws.{order_is}
+use Rattle.strategy.proofs.OrderLaws.{order_is}
 use Rattle.request.proofs.check_request.Goals as goal
 
 pub returns-then-not-is_order : goal.returns-then-not-is_order

@@ -1,5 +1,5 @@
 -- `run_question` meets its contract: the first check that fails, or the run of what was read.
-use Rattle.bitmaps.specs.TableLaws.{holds_none}
+use Rattle.bitmaps.proofs.TableLaws.{holds_none}
 use Rattle.marks.proofs.Marking.{empty_marks}
 use Rattle.request.proofs.Request.{request_fits, request_order}
 use Rattle.run.proofs.Running.{rows_room, run_declined, run_finished, run_refused, size_short, size_whole}

@@ -1,5 +1,5 @@
 -- `put_block` meets its contract. Invariant: the fields of the rows passed are written.
-use Rattle.bitmaps.specs.TableLaws.{zeros}
+use Rattle.bitmaps.proofs.TableLaws.{zeros}
 use Rattle.bitmaps.specs.Word.{block_rows}
 use Rattle.copy_log.proofs.BlockLoop.{block_next, block_start, due_turns, row_room}
 use Rattle.std.proofs.Common.{arith}

@@ -1,5 +1,5 @@
 -- `put_rows` meets its contract. Invariant: the log of the rows passed is written.
-use Rattle.bitmaps.specs.TableLaws.{zeros}
+use Rattle.bitmaps.proofs.TableLaws.{zeros}
 use Rattle.bitmaps.specs.Word.{block_rows}
 use Rattle.log_rows.proofs.RowsLoop.{block_room, rows_end, rows_next, rows_start}
 use Rattle.std.proofs.Common.{arith}

@@ -1,5 +1,5 @@
 -- `work_block` meets its contract. Invariant: at every row of the block the turns left make of it what all make of it.
-use Rattle.bitmaps.specs.TableLaws.{zeros}
+use Rattle.bitmaps.proofs.TableLaws.{zeros}
 use Rattle.query.specs.Format.{predicate_limit}
 use Rattle.rows.proofs.BlockLoop.{in_words, turn_ancestors, turn_few, turn_mark, turn_outcomes, turning_end, turning_idle, turning_next, turning_start, turns_left}
 use Rattle.std.proofs.Common.{length-set, sym, ◌∙◌}

@@ -3,10 +3,10 @@ use Rattle.std.specs.Prelude.{ℕ, ◌+◌, ◌≤◌, ◌≡◌, refl, Bool, tr
 use Rattle.std.proofs.Common.{arith, sym, ap, ◌∙◌, subst, inl, inr, length-append}
 use Rattle.std.proofs.lemmas.Bool.{false≢true}
 use Rattle.strategy.specs.Assignment.{Assignment, update, Among, Once, AgreeOn, AgreeOff, keep_if}
-use Rattle.strategy.specs.AssignmentLaws.{update_other, update_off, off_more}
+use Rattle.strategy.proofs.AssignmentLaws.{update_other, update_off, off_more}
 use Rattle.strategy.specs.Strategy.{Formula, Due, State, Strategy, turn, final_state_from, predicates}
 use Rattle.strategy.specs.Trace.{due, trace}
-use Rattle.strategy.specs.DueLaws.{due_law, settled_none}
+use Rattle.strategy.proofs.DueLaws.{due_law, settled_none}
 
 -- right from a state on, for the assignments that have `a`'s outcomes off the turns to come
 abbrev pub RightFrom : Formula → List ℕ → Strategy → Assignment → State → Type 0

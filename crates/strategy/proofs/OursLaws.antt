@@ -6,11 +6,11 @@ use Rattle.std.proofs.Math.Bool.{true, false}
 use mathlib.Core.List.{List, [], ◌∷◌, ◌++◌, append_assoc, append-nil}
 use Rattle.bools.specs.Bools.{iff_eq, eqb_self, eqb_ne}
 use Rattle.strategy.specs.Assignment.{Assignment, all_no, update, Among, Once, AgreeOff, AgreeOn, keep_if}
-use Rattle.strategy.specs.AssignmentLaws.{update_same, update_other, update_off, off_more, among?}
+use Rattle.strategy.proofs.AssignmentLaws.{update_same, update_other, update_off, off_more, among?}
 use Rattle.strategy.specs.Strategy.{Formula, Due, State, Strategy, turn, final_state_from, final_state, answer_of, Right}
 use Rattle.strategy.specs.Fixing.{ReadsOnly, RightFixing}
 use Rattle.strategy.specs.Trace.{due, trace}
-use Rattle.strategy.specs.DueLaws.{due_law, idle}
+use Rattle.strategy.proofs.DueLaws.{due_law, idle}
 use Rattle.strategy.specs.Ours.{recall, passed_as_no, later_than, ours}
 
 -- a probe adds its outcome to what the state tells

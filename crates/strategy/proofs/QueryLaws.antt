@@ -6,11 +6,11 @@ use Rattle.strategy.specs.Strategy.{final_state, Right}
 use Rattle.strategy.specs.Trace.{trace}
 use Rattle.strategy.specs.Fixing.{ReadsOnly}
 use Rattle.strategy.specs.Ours.{ours}
-use Rattle.strategy.specs.OursLaws.{ours_trace, ours_right}
+use Rattle.strategy.proofs.OursLaws.{ours_trace, ours_right}
 use Rattle.strategy.specs.Tree.{Tree, eval, size, Numbered}
-use Rattle.strategy.specs.TreeLaws.{eval_span}
+use Rattle.strategy.proofs.TreeLaws.{eval_span}
 use Rattle.strategy.specs.Order.{is_order, Order}
-use Rattle.strategy.specs.OrderLaws.{order_law}
+use Rattle.strategy.proofs.OrderLaws.{order_law}
 
 module _ (t : Tree ℕ) (n : Numbered t 0) (order : List ℕ) (accepted : is_order (size t) order ≡ true) where
   held : Order (size t) order

@@ -5,12 +5,12 @@ use Rattle.std.proofs.Math.Bool.{not}
 use Rattle.std.proofs.Math.Logic.{inl, inr}
 use Rattle.bools.specs.Bools.{clash, iff_eq, each, both, and_parts, or_cases, or_left, or_right, eqb_self, eqb_eq, same?, ltb_yes, ltb_no, not_of_true}
 use Rattle.strategy.specs.Assignment.{Assignment, update, Among, AgreeOff}
-use Rattle.strategy.specs.AssignmentLaws.{update_same, update_other, update_twice, update_agrees, among?, elem_yes, elem_no}
+use Rattle.strategy.proofs.AssignmentLaws.{update_same, update_other, update_twice, update_agrees, among?, elem_yes, elem_no}
 use Rattle.strategy.specs.Strategy.{Due}
 use Rattle.strategy.specs.Trace.{due}
-use Rattle.strategy.specs.DueLaws.{due_law}
+use Rattle.strategy.proofs.DueLaws.{due_law}
 use Rattle.strategy.specs.Tree.{Tree, leaf, group, Forest, none, more, join, settles, eval, evals, size, sizes, Numbered, Numbereds, InSpan}
-use Rattle.strategy.specs.TreeLaws.{settles_not, settles_no, join_unit_left, join_unit_right, join_not, join_cases, Toward, eval_toward, evals_toward, eval_span, evals_span}
+use Rattle.strategy.proofs.TreeLaws.{settles_not, settles_no, join_unit_left, join_unit_right, join_not, join_cases, Toward, eval_toward, evals_toward, eval_span, evals_span}
 use Rattle.strategy.specs.Alone.{unseen, seen, Partial, hide, status_as, unseen_as, alone, alone_in}
 
 -- the two places in a group where `c` can be alone: its first member, with the others not settling, or among the others

@@ -5,12 +5,12 @@ use Rattle.std.proofs.Math.Path.{refl, sym, ap}
 use Rattle.std.proofs.Math.Bool.{true, not}
 use Rattle.bools.specs.Bools.{which, clash, not_true, iff_eq, each, self_or_not, not_self, not_of_true, not_of_false, and_parts, eqb_eq, ltb_yes, ltb_no, ltb_lt, ltb_le}
 use Rattle.strategy.specs.Tree.{Tree, leaf, group, Forest, none, more, eval, evals, size, sizes, Numbered, Numbereds, InSpan}
-use Rattle.strategy.specs.TreeLaws.{join_unit_left, join_left, join_right, Toward, evals_toward, eval_span, evals_span}
+use Rattle.strategy.proofs.TreeLaws.{join_unit_left, join_left, join_right, Toward, evals_toward, eval_span, evals_span}
 use Rattle.strategy.specs.Alone.{Status, unseen, seen, Partial, is_unseen, status_as, unseen_as, alone, alone_in}
-use Rattle.strategy.specs.AloneLaws.{Either, alone_places, alone_at, alone_span, alone_in_span}
-use Rattle.strategy.specs.PartialLaws.{see, see_same, see_other, SameIn, alone_same, alone_in_same, alone_either, alone_in_either, eithers_alone, unseen_of}
+use Rattle.strategy.proofs.AloneLaws.{Either, alone_places, alone_at, alone_span, alone_in_span}
+use Rattle.strategy.proofs.PartialLaws.{see, see_same, see_other, SameIn, alone_same, alone_in_same, alone_either, alone_in_either, eithers_alone, unseen_of}
 use Rattle.strategy.specs.Live.{Live, meets, Step, through, settle, settle_in}
-use Rattle.strategy.specs.LiveLaws.{without_in, without_off, meets_gives, meets_none, through_settles, through_asks, through_stopped}
+use Rattle.strategy.proofs.LiveLaws.{without_in, without_off, meets_gives, meets_none, through_settles, through_asks, through_stopped}
 
 -- THE INVARIANT: of a span just the unseen predicates that are alone are live
 abbrev pub LiveAlone : ℕ → ℕ → (ℕ → Bool) → Partial → Live → Type 0

@@ -8,10 +8,10 @@ use mathlib.Core.List.{List, [], ◌∷◌, ◌++◌}
 use Rattle.strategy.specs.Assignment.{Assignment, Among, elem, Once, keep_if}
 use Rattle.strategy.specs.Strategy.{Formula, Due, State, predicates}
 use Rattle.strategy.specs.Trace.{due, trace}
-use Rattle.strategy.specs.DueLaws.{due_law}
+use Rattle.strategy.proofs.DueLaws.{due_law}
 use Rattle.strategy.specs.Fixing.{ReadsOnly}
 use Rattle.strategy.specs.Ours.{passed_as_no, ours}
-use Rattle.strategy.specs.OursLaws.{ours_trace, ours_right}
+use Rattle.strategy.proofs.OursLaws.{ours_trace, ours_right}
 
 -- at each turn the predicate is in the trace, or it is not
 module _ (f : Formula) (a : Assignment) where

@@ -12,10 +12,10 @@ use Rattle.strategy.specs.Trace.{trace}
 use Rattle.strategy.specs.Order.{Order}
 use Rattle.strategy.specs.Tree.{Tree, eval, size, Numbered, NonEmpty}
 use Rattle.strategy.specs.Live.{Live, Step, without, leaf_step}
-use Rattle.strategy.specs.LiveLaws.{without_in, without_off}
+use Rattle.strategy.proofs.LiveLaws.{without_in, without_off}
 use Rattle.strategy.specs.Propagation.{enclosing, propagate}
-use Rattle.strategy.specs.PropagationLaws.{propagate_stopped, propagate_empties}
-use Rattle.strategy.specs.Walk.{Walk, walk_start, walk_end, walk_pass, walk_probe, walk_last, trace_pass, trace_probe}
+use Rattle.strategy.proofs.PropagationLaws.{propagate_stopped, propagate_empties}
+use Rattle.strategy.proofs.Walk.{Walk, walk_start, walk_end, walk_pass, walk_probe, walk_last, trace_pass, trace_probe}
 use Rattle.strategy.specs.Row.{RowProgress, unworked, asked, after_turn, turn, work}
 
 -- what is not live is taken out of the live set in vain

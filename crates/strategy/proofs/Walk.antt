@@ -4,20 +4,20 @@ use Rattle.std.proofs.Common.{arith, sym, ap, ◌∙◌, subst, true≢false, in
 use Rattle.std.proofs.Math.Path.{fun_ext}
 use Rattle.bools.specs.Bools.{clash, not_self, same?}
 use Rattle.strategy.specs.Assignment.{Assignment, Among, Once, AgreeOff}
-use Rattle.strategy.specs.AssignmentLaws.{among?}
+use Rattle.strategy.proofs.AssignmentLaws.{among?}
 use Rattle.strategy.specs.Trace.{due, trace}
-use Rattle.strategy.specs.DueLaws.{due_passed}
-use Rattle.strategy.specs.Turns.{trace_settled}
+use Rattle.strategy.proofs.DueLaws.{due_passed}
+use Rattle.strategy.proofs.Turns.{trace_settled}
 use Rattle.strategy.specs.Order.{Order}
 use Rattle.strategy.specs.Tree.{Tree, eval, size, Numbered, NonEmpty, InSpan}
-use Rattle.strategy.specs.TreeLaws.{eval_toward, eval_span}
+use Rattle.strategy.proofs.TreeLaws.{eval_toward, eval_span}
 use Rattle.strategy.specs.Alone.{unseen, seen, hide, is_unseen, status_as, unseen_as, alone}
-use Rattle.strategy.specs.AloneLaws.{hide_in, hide_off, due_alone}
-use Rattle.strategy.specs.PartialLaws.{see, see_hide, SameIn, alone_same, alone_either, either_alone, nothing_seen, first_either, first_alone}
+use Rattle.strategy.proofs.AloneLaws.{hide_in, hide_off, due_alone}
+use Rattle.strategy.proofs.PartialLaws.{see, see_hide, SameIn, alone_same, alone_either, either_alone, nothing_seen, first_either, first_alone}
 use Rattle.strategy.specs.Live.{Live, Step, leaf_step, settle}
-use Rattle.strategy.specs.SettleLaws.{LiveAlone, TreeAfter, settle_after}
+use Rattle.strategy.proofs.SettleLaws.{LiveAlone, TreeAfter, settle_after}
 use Rattle.strategy.specs.Propagation.{enclosing, propagate}
-use Rattle.strategy.specs.PropagationLaws.{propagate_settle}
+use Rattle.strategy.proofs.PropagationLaws.{propagate_settle}
 
 -- `live` is right for the turns of `cs` to come, and the tree can still come to either value
 pub record Walk (t : Tree ℕ) (a : Assignment) (cs : List ℕ) (live : Live) : Type 0 where

@@ -3,7 +3,7 @@ use Rattle.std.specs.Prelude.{ℕ, zero, suc, ◌+◌, ◌≡◌, refl, Bool, tr
 use Rattle.std.proofs.Common.{arith, inl, inr}
 use Rattle.bools.specs.Bools.{which, clash, not_true, both, and_parts, or_cases, or_fails, same?, ltb_yes, ltb_lt, leb_yes, leb_le}
 use Rattle.strategy.specs.Tree.{InSpan}
-use Rattle.strategy.specs.TreeLaws.{settles_self, settles_not}
+use Rattle.strategy.proofs.TreeLaws.{settles_self, settles_not}
 use Rattle.strategy.specs.Live.{Live, in_span, without, meets, Step, through}
 
 module _ (i n d : ℕ) where

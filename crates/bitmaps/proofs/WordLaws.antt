@@ -9,7 +9,7 @@ use Rattle.sets.specs.SetLaws.{has_and, has_below}
 use Rattle.fields.specs.Numbers.{Bytes}
 use Rattle.words.specs.Words.{word_at}
 use Rattle.bitmaps.specs.Bit.{bit}
-use Rattle.bitmaps.specs.BitLaws.{bit_at}
+use Rattle.bitmaps.proofs.BitLaws.{bit_at}
 use Rattle.bitmaps.specs.Word.{block_rows, word_size, rows_set}
 
 -- the bits below k, and those from k on

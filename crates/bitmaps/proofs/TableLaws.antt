@@ -6,10 +6,10 @@ use Rattle.std.proofs.lemmas.List.{length-replicate, get_or-replicate}
 use Rattle.bools.specs.Bools.{which, ltb_yes, ltb_lt, ltb_le}
 use Rattle.sets.specs.Set.{has}
 use Rattle.sets.specs.SetLaws.{has_none}
-use Rattle.bitmaps.specs.SumLaws.{joined_same}
+use Rattle.bitmaps.proofs.SumLaws.{joined_same}
 use Rattle.bitmaps.specs.Bitmap.{bytes_for, bitmap, bitmaps}
 use Rattle.bitmaps.specs.Bit.{bit}
-use Rattle.bitmaps.specs.BitmapLaws.{bits_bitmap, bitmaps_one}
+use Rattle.bitmaps.proofs.BitmapLaws.{bits_bitmap, bitmaps_one}
 use Rattle.bitmaps.specs.Table.{line_size, line_bits, line_bit, lines_of, HoldsBits, within}
 
 pub zeros : (n i : ℕ) → ◌≡◌ {A = ℕ} (get_or (replicate n 0) i 0) 0

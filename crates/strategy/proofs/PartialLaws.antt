@@ -5,11 +5,11 @@ use Rattle.std.proofs.Math.Path.{fun_ext}
 use Rattle.std.proofs.lemmas.Bool.{false≢true}
 use Rattle.bools.specs.Bools.{which, clash, each, eqb_self, eqb_eq, eqb_ne, same?, ltb_lt, ltb_le}
 use Rattle.strategy.specs.Assignment.{Assignment, Among}
-use Rattle.strategy.specs.AssignmentLaws.{among?}
+use Rattle.strategy.proofs.AssignmentLaws.{among?}
 use Rattle.strategy.specs.Tree.{Tree, leaf, group, Forest, none, more, join, eval, evals, size, sizes, Numbered, Numbereds, HasMember, NonEmpty, NonEmpties, InSpan}
-use Rattle.strategy.specs.TreeLaws.{join_unit_left, join_left, join_right, join_not, join_cases, eval_span, evals_span}
+use Rattle.strategy.proofs.TreeLaws.{join_unit_left, join_left, join_right, join_not, join_cases, eval_span, evals_span}
 use Rattle.strategy.specs.Alone.{Status, unseen, seen, Partial, hide, is_unseen, status_as, unseen_as, alone, alone_in}
-use Rattle.strategy.specs.AloneLaws.{Either, alone_places, alone_at, hide_in, hide_off}
+use Rattle.strategy.proofs.AloneLaws.{Either, alone_places, alone_at, hide_in, hide_off}
 
 -- a partial assignment with one predicate seen
 unfoldable pub see : Partial → ℕ → Bool → Partial

@@ -11,7 +11,7 @@ use Rattle.strategy.specs.Alone.{Partial, hide, status_as, alone}
 use Rattle.strategy.specs.Live.{Live, in_span, without, meets, leaf_step, through}
 use Rattle.strategy.specs.Propagation.{enclosing, propagate}
 use Rattle.strategy.specs.Row.{RowProgress, work}
-use Rattle.strategy.specs.Parish.{parish}
+use Rattle.strategy.proofs.Parish.{parish}
 
 abbrev two : Tree ℕ → Tree ℕ → Forest ℕ
 two s t = more s (more t none)

@@ -9,12 +9,12 @@ use Rattle.bools.specs.Bools.{which, ltb_yes, ltb_no, ltb_lt, ltb_le}
 use Rattle.sets.specs.Set.{has}
 use Rattle.sets.specs.SetLaws.{has_none, same_set}
 use Rattle.bitmaps.specs.Sums.{sum_of, joined, digit, count_of}
-use Rattle.bitmaps.specs.SumLaws.{sum_below_lem, sum_same, count_same, joined_length, joined_line, listed_length, listed_at}
+use Rattle.bitmaps.proofs.SumLaws.{sum_below_lem, sum_same, count_same, joined_length, joined_line, listed_length, listed_at}
 use Rattle.bitmaps.specs.Bitmap.{bytes_for, binary, bitmap, bitmaps, ones_in}
-use Rattle.bitmaps.specs.OnesLaws.{ones_joined}
+use Rattle.bitmaps.proofs.OnesLaws.{ones_joined}
 use Rattle.fields.specs.Numbers.{Bytes}
 use Rattle.bitmaps.specs.Bit.{bit}
-use Rattle.bitmaps.specs.BitLaws.{has_high, binary_lt, has_binary, bit_at, ones_bits}
+use Rattle.bitmaps.proofs.BitLaws.{has_high, binary_lt, has_binary, bit_at, ones_bits}
 
 -- how many of the first `rows` hold, counted up to any bound beyond
 pub count_inside : (f : ℕ → Bool) (rows m : ℕ) → rows ≤ m → count_of (λ e. ltb e rows && f e) m ≡ count_of f rows

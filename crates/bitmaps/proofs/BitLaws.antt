@@ -10,7 +10,7 @@ use Rattle.bools.specs.Bools.{which, iff_eq, same?, eqb_self, eqb_ne, ltb_yes, l
 use Rattle.sets.specs.Set.{has, one_set}
 use Rattle.sets.specs.SetLaws.{has_or, has_one, has_none, same_set}
 use Rattle.bitmaps.specs.Sums.{sum_of, digit, count_of}
-use Rattle.bitmaps.specs.SumLaws.{sum_split, count_same}
+use Rattle.bitmaps.proofs.SumLaws.{sum_split, count_same}
 use Rattle.bitmaps.specs.Bitmap.{binary, ones_in}
 use Rattle.fields.specs.Numbers.{Bytes}
 use Rattle.bitmaps.specs.Bit.{bit}

@@ -4,7 +4,7 @@ use Rattle.std.proofs.Common.{sym, ap, ◌∙◌, subst, inl, inr}
 use Rattle.std.proofs.Math.Path.{fun_ext}
 use Rattle.bools.specs.Bools.{clash, not_true, stable, iff_eq, or_cases, or_left, or_right, xor_differ, differ_xor, same?}
 use Rattle.strategy.specs.Assignment.{Assignment, update, Among, AgreeOff}
-use Rattle.strategy.specs.AssignmentLaws.{update_same, update_other, update_self, update_twice, update_swap, update_off, off_more}
+use Rattle.strategy.proofs.AssignmentLaws.{update_same, update_other, update_self, update_twice, update_swap, update_off, off_more}
 use Rattle.strategy.specs.Strategy.{Formula, Due}
 use Rattle.strategy.specs.Trace.{decides, some_outcomes, due}
 

@@ -3,7 +3,7 @@ use Rattle.std.specs.Prelude.{ℕ, zero, suc, ◌+◌, ◌≤◌, ◌<◌, ◌�
 use Rattle.std.proofs.Common.{arith, sym, ap, ◌∙◌, subst, inl, inr}
 use Rattle.bools.specs.Bools.{which, both, and_parts, eqb_self, eqb_eq, eqb_ne, same?, ltb_yes, ltb_no, ltb_lt, ltb_le}
 use Rattle.strategy.specs.Assignment.{Among, Once}
-use Rattle.strategy.specs.AssignmentLaws.{among?}
+use Rattle.strategy.proofs.AssignmentLaws.{among?}
 use Rattle.strategy.specs.Order.{occurrences, all_below, is_order, Order}
 
 pub all_below_gives : (n : ℕ) (P : ℕ → Bool) → all_below n P ≡ true → (c : ℕ) → c < n → P c ≡ true

@@ -5,7 +5,7 @@ use Rattle.std.proofs.Math.Bool.{and-false}
 use Rattle.bools.specs.Bools.{clash, not_true, not_of_true, iff_eq, both, and_parts, or_cases, or_left, or_right, eqb_self, eqb_eq, ltb_yes, ltb_no, ltb_lt}
 use Rattle.strategy.specs.Assignment.{Among, Once}
 use Rattle.strategy.specs.Order.{all_below, is_order, add, checks}
-use Rattle.strategy.specs.OrderLaws.{all_below_gives, all_below_of, order_law}
+use Rattle.strategy.proofs.OrderLaws.{all_below_gives, all_below_of, order_law}
 
 -- what the check of the rest asks
 record Left (n : ℕ) (cs : List ℕ) (set : ℕ → Bool) : Type 0 where

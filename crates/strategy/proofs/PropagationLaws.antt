@@ -3,9 +3,9 @@ use Rattle.std.specs.Prelude.{ℕ, ◌+◌, ◌≤◌, ◌<◌, ◌≡◌, refl,
 use Rattle.std.proofs.Common.{arith, sym, ap, ◌∙◌, inl, inr}
 use Rattle.bools.specs.Bools.{which, clash, not_of_true, ltb_lt, ltb_le}
 use Rattle.strategy.specs.Tree.{Tree, leaf, group, Forest, none, more, settles, size, sizes, InSpan}
-use Rattle.strategy.specs.TreeLaws.{settles_yes, settles_no}
+use Rattle.strategy.proofs.TreeLaws.{settles_yes, settles_no}
 use Rattle.strategy.specs.Live.{Live, Step, in_span, without, meets, leaf_step, through, settle, settle_in}
-use Rattle.strategy.specs.LiveLaws.{without_in, meets_none, through_settles, through_asks, through_stopped}
+use Rattle.strategy.proofs.LiveLaws.{without_in, meets_none, through_settles, through_asks, through_stopped}
 use Rattle.strategy.specs.Propagation.{Ancestor, enclosing, enclosing_in, propagate}
 
 -- a propagation that has stopped stays as it is
