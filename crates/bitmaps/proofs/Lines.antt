@@ -11,7 +11,7 @@ use Rattle.bitmaps.specs.Sums.{joined}
 use Rattle.fields.specs.Output.{Wrote}
 use Rattle.fields.proofs.OutputLaws.{wrote_then}
 use Rattle.bitmaps.specs.Table.{line_size, lines_of}
-use Rattle.bitmaps.specs.SumLaws.{joined_length}
+use Rattle.bitmaps.proofs.SumLaws.{joined_length}
 
 lines_length : (size : ℕ) (from : List ℕ) (n : ℕ) → size ≤ line_size → n * line_size ≤ length from → length (lines_of size from n) ≡ n * size
 unfolding lines_of

@@ -12,9 +12,9 @@ use Rattle.bools.specs.Bools.{same?}
 use Rattle.fields.specs.Numbers.{Bytes}
 use Rattle.sets.specs.Set.{has}
 use Rattle.bitmaps.specs.Bit.{bit}
-use Rattle.bitmaps.specs.BitLaws.{bit_at}
+use Rattle.bitmaps.proofs.BitLaws.{bit_at}
 use Rattle.bitmaps.specs.Word.{block_rows, word_size, WordPut}
-use Rattle.bitmaps.specs.WordLaws.{byte_has}
+use Rattle.bitmaps.proofs.WordLaws.{byte_has}
 
 set_bytes : (t : List ℕ) (i x : ℕ) → i < length t → x < 256 → Bytes t → Bytes (set t i x)
 set_bytes t i x h l b j = go (same? j i)

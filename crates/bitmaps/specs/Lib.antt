@@ -1,11 +1,5 @@
 pub mod Sums
-pub mod SumLaws
 pub mod Bitmap
-pub mod OnesLaws
 pub mod Bit
-pub mod BitLaws
 pub mod Word
-pub mod WordLaws
-pub mod BitmapLaws
 pub mod Table
-pub mod TableLaws

@@ -10,9 +10,9 @@ use lib.Seq.{get_or-set_same, get_or-set_other}
 use lib.Bits.{bit_and, bit_or}
 use Rattle.bools.specs.Bools.{which, iff_eq, or_left, or_right, or_cases, same?}
 use Rattle.strategy.specs.Tree.{settles, InSpan}
-use Rattle.strategy.specs.TreeLaws.{settles_yes, settles_no}
+use Rattle.strategy.proofs.TreeLaws.{settles_yes, settles_no}
 use Rattle.strategy.specs.Live.{Live, Step, in_span, without, meets, through}
-use Rattle.strategy.specs.LiveLaws.{in_span_yes, in_span_of, in_span_no, meets_gives, meets_yes, meets_no, through_settles, through_asks, through_stopped}
+use Rattle.strategy.proofs.LiveLaws.{in_span_yes, in_span_of, in_span_no, meets_gives, meets_yes, meets_no, through_settles, through_asks, through_stopped}
 use Rattle.strategy.specs.Propagation.{Ancestor}
 use Rattle.sets.specs.Set.{has, set_minus}
 use Rattle.sets.specs.SetLaws.{has_and, has_or, has_none, minus_has, minus_and}

@@ -6,7 +6,7 @@ use mathlib.Core.Bool.{Bool}
 use mathlib.Core.List.{List, [], ◌∷◌}
 use lib.ListN.{length, get_or}
 use Rattle.strategy.specs.Propagation.{Ancestor, propagate}
-use Rattle.strategy.specs.PropagationLaws.{propagate_stopped}
+use Rattle.strategy.proofs.PropagationLaws.{propagate_stopped}
 use Rattle.sets.specs.Set.{has}
 use Rattle.sets.specs.SetLaws.{has_none}
 use Rattle.query.specs.Decode.{settling_of}

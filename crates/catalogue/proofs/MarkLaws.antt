@@ -24,7 +24,7 @@ use Rattle.sets.specs.Set.{has}
 use Rattle.sets.specs.SetLaws.{has_none}
 use Rattle.bitmaps.specs.Bit.{bit}
 use Rattle.bitmaps.specs.Bitmap.{bytes_for}
-use Rattle.bitmaps.specs.BitLaws.{bit_at, bit_past, has_high, below_high}
+use Rattle.bitmaps.proofs.BitLaws.{bit_at, bit_past, has_high, below_high}
 use Rattle.catalogue.specs.declared.mark.MarkField.{MarkField}
 use Rattle.catalogue.specs.declared.mark.MarkField.TheVariants.{Refused, Absent, Marked}
 use Rattle.catalogue.specs.Format.{mark_tag, row_limit, bytes_left_over, bad_mark}

@@ -12,7 +12,7 @@ use Rattle.fields.specs.Output.{Wrote}
 use Rattle.fields.proofs.OutputLaws.{wrote_then, wrote_none, wrote_same}
 use Rattle.sets.specs.Set.{has}
 use Rattle.bitmaps.specs.Sums.{joined}
-use Rattle.bitmaps.specs.SumLaws.{joined_same, joined_grows}
+use Rattle.bitmaps.proofs.SumLaws.{joined_same, joined_grows}
 use Rattle.bitmaps.specs.Table.{line_bit}
 use Rattle.bitmaps.specs.Word.{block_rows}
 use Rattle.gather.specs.Turns.{TurnsFor}

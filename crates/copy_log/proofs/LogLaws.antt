@@ -7,7 +7,7 @@ use mathlib.Core.List.{List, [], ◌∷◌, ◌++◌}
 use lib.ListN.{length, get_or}
 use Rattle.strategy.specs.Assignment.{keep_if}
 use Rattle.bitmaps.specs.Sums.{joined}
-use Rattle.bitmaps.specs.SumLaws.{joined_same, joined_first}
+use Rattle.bitmaps.proofs.SumLaws.{joined_same, joined_first}
 use Rattle.bitmaps.specs.Table.{line_bit}
 use Rattle.task.specs.Log.{probe_field, row_fields, log_fields}
 use Rattle.copy_log.specs.MarkedLog.{marked_number, field_if, marked_field, marked_row, marked_log, marked_at}

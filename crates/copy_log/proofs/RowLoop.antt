@@ -16,7 +16,7 @@ use Rattle.sets.specs.SetLaws.{has_none}
 use Rattle.sets.specs.Kept.{FirstIs, RestIs}
 use Rattle.sets.specs.KeptLaws.{first_least, rest_has}
 use Rattle.bitmaps.specs.Sums.{joined, digit}
-use Rattle.bitmaps.specs.SumLaws.{joined_below, joined_grows}
+use Rattle.bitmaps.proofs.SumLaws.{joined_below, joined_grows}
 use Rattle.task.specs.Log.{probe_field_size, probe_field}
 use Rattle.copy_log.specs.MarkedLog.{marked_number, turn_field, turn_fields, HasTurns}
 use Rattle.task.proofs.Fields.{probe_length}

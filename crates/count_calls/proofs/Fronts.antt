@@ -1,5 +1,5 @@
 -- The front of a table is what the calls count of it.
-use Prim.Native.Nat.{ℕ, ◌^◌, ◌≤◌, ◌<◌, min}
+use Prim.Native.Nat.{ℕ, ◌/◌, ◌^◌, ◌≤◌, ◌<◌, min}
 use native.Mathlib.Omega.{arith}
 use mathlib.Core.Path.{◌≡◌, sym, ap, ◌∙◌}
 use mathlib.Core.Bool.{true, false}
@@ -9,7 +9,9 @@ use lib.ListN.{length, take, length-take}
 use lib.Seq.{take_all, length-take-le}
 use lib.Dec.{ltb}
 use Rattle.bools.specs.Bools.{which, ltb_lt, ltb_le}
-use Rattle.count_calls.specs.Counted.{table_limit, counted}
+use Rattle.bitmaps.specs.Bitmap.{ones_in}
+use Rattle.bitmaps.specs.Table.{line_size, lines_of}
+use Rattle.count_calls.specs.Counted.{table_limit, counted, counted_lines}
 
 module _ {end : ℕ} (t : List ℕ) (e : end ≡ min table_limit (length t)) where
   pub front_length : length (take end t) ≡ end
@@ -29,3 +31,7 @@ module _ {end : ℕ} (t : List ℕ) (e : end ≡ min table_limit (length t)) whe
 
 pub counted_small : {front : List ℕ} (t : List ℕ) → front ≡ counted t → length front < 2 ^ 61
 counted_small t e = rw e (simp length-take (omega arith))
+
+pub front_lines : {front : List ℕ} {n k r : ℕ} (t : List ℕ) (lines size : ℕ) → front ≡ counted t → n ≡ min (length front / line_size) lines → k ≡ min line_size size
+    → r ≡ ones_in (lines_of k front n) → r ≡ ones_in (counted_lines t lines size)
+front_lines t lines size e a b h = h ∙ rw (a, b, e)

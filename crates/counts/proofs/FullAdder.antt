@@ -8,8 +8,8 @@ use lib.Count.{ones}
 use Rattle.sets.specs.Set.{has}
 use Rattle.sets.specs.SetLaws.{has_and, has_or, has_xor}
 use Rattle.bitmaps.specs.Sums.{sum_of, digit, count_of}
-use Rattle.bitmaps.specs.SumLaws.{count_same}
-use Rattle.bitmaps.specs.BitLaws.{ones_has}
+use Rattle.bitmaps.proofs.SumLaws.{count_same}
+use Rattle.bitmaps.proofs.BitLaws.{ones_has}
 
 abbrev sum_bit : Bool → Bool → Bool → Bool
 sum_bit a b c = xor (xor a b) c

@@ -11,9 +11,9 @@ use lib.Count.{ones}
 use Rattle.fields.specs.Numbers.{Bytes}
 use Rattle.words.specs.Words.{word_at}
 use Rattle.bitmaps.specs.Sums.{sum_of, joined}
-use Rattle.bitmaps.specs.SumLaws.{sum_same, sum_added, joined_same, joined_split}
+use Rattle.bitmaps.proofs.SumLaws.{sum_same, sum_added, joined_same, joined_split}
 use Rattle.bitmaps.specs.Bitmap.{ones_in}
-use Rattle.bitmaps.specs.OnesLaws.{ones_append, ones_joined}
+use Rattle.bitmaps.proofs.OnesLaws.{ones_append, ones_joined}
 use Rattle.bitmaps.specs.Table.{line_size, lines_of}
 use Rattle.bitmaps.specs.Word.{word_size}
 use Rattle.counts.proofs.WordOnes.{ones_word}

@@ -9,11 +9,11 @@ use lib.Dec.{ltb}
 use borrow.Author.Tests.{le-ltb}
 use Rattle.bools.specs.Bools.{which, ltb_yes, ltb_lt}
 use Rattle.bitmaps.specs.Sums.{digit, count_of}
-use Rattle.bitmaps.specs.SumLaws.{sum_same, sum_below_lem, count_same}
+use Rattle.bitmaps.proofs.SumLaws.{sum_same, sum_below_lem, count_same}
 use Rattle.bitmaps.specs.Bitmap.{bytes_for, ones_in}
-use Rattle.bitmaps.specs.BitmapLaws.{bitmaps_ones}
+use Rattle.bitmaps.proofs.BitmapLaws.{bitmaps_ones}
 use Rattle.bitmaps.specs.Table.{line_bits, lines_of, HoldsBits}
-use Rattle.bitmaps.specs.TableLaws.{holds_bitmaps}
+use Rattle.bitmaps.proofs.TableLaws.{holds_bitmaps}
 use Rattle.counts.specs.Whole.{whole_words, NoneBehind}
 
 module _ (f : ℕ → ℕ → Bool) (n rows : ℕ) {g : ℕ → ℕ → Bool} {lines : ℕ} (t : List ℕ) (fits : n ≤ lines) (short : rows ≤ line_bits) (h : HoldsBits g lines t)

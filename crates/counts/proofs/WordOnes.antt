@@ -10,7 +10,7 @@ use lib.Count.{ones, ones_cat, ones-le}
 use Rattle.fields.specs.Numbers.{Bytes}
 use Rattle.words.specs.Words.{word_at}
 use Rattle.bitmaps.specs.Bitmap.{ones_in}
-use Rattle.bitmaps.specs.OnesLaws.{ones_append}
+use Rattle.bitmaps.proofs.OnesLaws.{ones_append}
 use Rattle.bitmaps.specs.Word.{word_size}
 
 -- the bytes passed by a loop: where they end, and the ones counted in them

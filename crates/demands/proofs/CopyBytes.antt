@@ -13,7 +13,7 @@ use Rattle.fields.specs.Numbers.{bytes_of}
 use Rattle.fields.specs.Header.{field_of}
 use Rattle.strategy.specs.Order.{occurrences}
 use Rattle.bitmaps.specs.Sums.{sum_of, joined, digit}
-use Rattle.bitmaps.specs.SumLaws.{sum_split}
+use Rattle.bitmaps.proofs.SumLaws.{sum_split}
 use Rattle.task.specs.Log.{probe_field, row_fields, log_fields}
 use Rattle.task.proofs.LogLength.{log_length}
 use Rattle.task.specs.Task.{is_probed}
@@ -58,7 +58,7 @@ unfolding occurrences
 place_once [] j k x y o e = absurd (omega arith)
 place_once (d ∷ ds) zero zero x y o e = refl
 place_once (d ∷ ds) zero (suc k) x y o e = absurd (twice d ds k (omega arith) e o)
-place_once (d ∷ ds) (suc j) zero x y o e = absurd (twice d ds j (omega arith) (sym e) (rw e at o))
+place_once (d ∷ ds) (suc j) zero x y o e = absurd (twice d ds j (omega arith) (sym e) (subst (λ (x : ℕ). occurrences x (d ∷ ds) ≤ 1) e o))
 place_once (d ∷ ds) (suc j) (suc k) x y o e = ap suc (place_once ds j k (omega arith) (omega arith) (omega arith) e)
 
 -- FIELDS IN THE BYTES

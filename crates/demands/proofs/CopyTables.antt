@@ -7,11 +7,11 @@ use mathlib.Core.Logic.{◌⊎◌, inl, inr}
 use mathlib.Core.List.{List}
 use lib.ListN.{length}
 use Rattle.strategy.specs.Assignment.{Among, elem, Once}
-use Rattle.strategy.specs.AssignmentLaws.{among?, elem_yes, elem_no}
+use Rattle.strategy.proofs.AssignmentLaws.{among?, elem_yes, elem_no}
 use Rattle.strategy.specs.Order.{occurrences}
-use Rattle.strategy.specs.OrderLaws.{occurs_none, occurs_some, once_of}
+use Rattle.strategy.proofs.OrderLaws.{occurs_none, occurs_some, once_of}
 use Rattle.bitmaps.specs.Sums.{sum_of, digit, count_of}
-use Rattle.bitmaps.specs.SumLaws.{sum_same, count_same}
+use Rattle.bitmaps.proofs.SumLaws.{sum_same, count_same}
 use Rattle.task.specs.Log.{probe_field_size}
 use Rattle.task.proofs.LogLength.{log_length}
 use Rattle.task.specs.Task.{is_probed}

@@ -11,19 +11,19 @@ use lib.Seq.{take-append_seam, drop-append_seam}
 use lib.Dec.{eqb}
 use Rattle.bools.specs.Bools.{both, not_of_true, and_parts, eqb_eq, eqb_self, eqb_ne, same?, ltb_yes, ltb_no}
 use Rattle.strategy.specs.Assignment.{Assignment, Among, elem, Once}
-use Rattle.strategy.specs.AssignmentLaws.{elem_yes, elem_among, elem_no}
+use Rattle.strategy.proofs.AssignmentLaws.{elem_yes, elem_among, elem_no}
 use Rattle.strategy.specs.Order.{occurrences, all_below, is_order, Order}
-use Rattle.strategy.specs.OrderLaws.{all_below_gives, all_below_of, order_law}
+use Rattle.strategy.proofs.OrderLaws.{all_below_gives, all_below_of, order_law}
 use Rattle.strategy.specs.Strategy.{State, Due, predicates}
 use Rattle.strategy.specs.Trace.{trace}
-use Rattle.strategy.specs.TraceLaws.{trace_among, trace_once, trace_due}
+use Rattle.strategy.proofs.TraceLaws.{trace_among, trace_once, trace_due}
 use Rattle.bitmaps.specs.Sums.{sum_of, digit, count_of}
-use Rattle.bitmaps.specs.SumLaws.{sum_same, sum_added, sum_zero, count_same}
+use Rattle.bitmaps.proofs.SumLaws.{sum_same, sum_added, sum_zero, count_same}
 use Rattle.fields.specs.Output.{put_front}
 use Rattle.fields.proofs.OutputLaws.{part_of_front}
 use Rattle.bitmaps.specs.Bitmap.{bytes_for, bitmap}
 use Rattle.bitmaps.specs.Bit.{bit}
-use Rattle.bitmaps.specs.BitmapLaws.{bitmap_length, bitmap_bytes, bitmap_bit, bitmap_ones, bitmaps_length, bitmaps_line, bitmaps_ones}
+use Rattle.bitmaps.proofs.BitmapLaws.{bitmap_length, bitmap_bytes, bitmap_bit, bitmap_ones, bitmaps_length, bitmaps_line, bitmaps_ones}
 use Rattle.catalogue.specs.Catalogue.{is_withdrawn}
 use Rattle.task.specs.Task.{is_selected, due_at, trace_at, is_probed}
 use Rattle.task.proofs.Withdrawn.{probed_is}

@@ -39,16 +39,16 @@ use Rattle.predicate.specs.Payload.{tags_of, valid_payload, predicate_of}
 use Rattle.bools.specs.Bools.{which, not_true, and_parts, ltb_yes, ltb_lt, ltb_le}
 use Rattle.strategy.specs.Assignment.{Assignment, Among}
 use Rattle.strategy.specs.Tree.{eval, size}
-use Rattle.strategy.specs.TreeLaws.{all_none, all_more, any_none, any_more}
+use Rattle.strategy.proofs.TreeLaws.{all_none, all_more, any_none, any_more}
 use Rattle.strategy.specs.Order.{is_order}
 use Rattle.strategy.specs.Strategy.{Strategy, State, Right, final_state, predicates, probes}
 use Rattle.strategy.specs.Trace.{trace}
 use Rattle.strategy.specs.Ours.{ours}
-use Rattle.strategy.specs.OursLaws.{ours_rule}
-use Rattle.strategy.specs.Optimality.{optimal, optimal_count}
-use Rattle.strategy.specs.QueryLaws.{query_ours, query_right}
+use Rattle.strategy.proofs.OursLaws.{ours_rule}
+use Rattle.strategy.proofs.Optimality.{optimal, optimal_count}
+use Rattle.strategy.proofs.QueryLaws.{query_ours, query_right}
 use Rattle.bitmaps.specs.Sums.{sum_of, count_of}
-use Rattle.bitmaps.specs.SumLaws.{sum_same}
+use Rattle.bitmaps.proofs.SumLaws.{sum_same}
 use Rattle.bitmaps.specs.Bit.{bit}
 use Rattle.task.specs.Task.{predicate_at, is_selected, is_probed}
 use Rattle.task.specs.Input.{Input, with_query, decode_input}

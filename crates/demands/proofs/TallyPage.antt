@@ -10,7 +10,7 @@ use lib.Dec.{eqb}
 use Rattle.fields.specs.Numbers.{number_at, Bytes}
 use Rattle.fields.proofs.PlaceLaws.{number_of_part}
 use Rattle.bools.specs.Bools.{eqb_self, eqb_ne, same?}
-use Rattle.bitmaps.specs.TableLaws.{zeros}
+use Rattle.bitmaps.proofs.TableLaws.{zeros}
 use Rattle.task.specs.Input.{Input}
 use Rattle.demands.specs.Run.{Lent, counter_at}
 use Rattle.demands.specs.Demands.{InBytes, after, counter_bytes, Kept, FirstBroken}

@@ -13,12 +13,12 @@ use Rattle.predicate.specs.declared.outcome.Outcome.TheVariants.{No, Yes, Blank}
 use Rattle.predicate.specs.Meaning.{truth}
 use Rattle.predicate.specs.Outcome.{is_blank}
 use Rattle.strategy.specs.Assignment.{Among}
-use Rattle.strategy.specs.AssignmentLaws.{among_at}
+use Rattle.strategy.proofs.AssignmentLaws.{among_at}
 use Rattle.strategy.specs.Order.{is_order, Order}
-use Rattle.strategy.specs.OrderLaws.{order_law}
+use Rattle.strategy.proofs.OrderLaws.{order_law}
 use Rattle.bitmaps.specs.Bitmap.{bytes_for, ones_in}
 use Rattle.bitmaps.specs.Table.{line_size, line_bits, line_bit, lines_of, HoldsBits}
-use Rattle.bitmaps.specs.TableLaws.{lines_front, lines_behind}
+use Rattle.bitmaps.proofs.TableLaws.{lines_front, lines_behind}
 use Rattle.query.specs.Format.{predicate_limit}
 use Rattle.gather.specs.Turns.{HasLines}
 use Rattle.task.specs.Log.{log_fields}

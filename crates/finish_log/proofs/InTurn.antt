@@ -6,12 +6,12 @@ use mathlib.Core.Logic.{◌⊎◌, inl, inr}
 use mathlib.Core.List.{List, [], ◌∷◌}
 use Rattle.bools.specs.Bools.{eqb_self, eqb_ne}
 use Rattle.strategy.specs.Assignment.{Assignment, Among, elem, Once, keep_if}
-use Rattle.strategy.specs.AssignmentLaws.{among?, elem_yes, elem_no}
+use Rattle.strategy.proofs.AssignmentLaws.{among?, elem_yes, elem_no}
 use Rattle.strategy.specs.Order.{occurrences, is_order}
-use Rattle.strategy.specs.OrderLaws.{occurs_none, occurs_once, order_law}
+use Rattle.strategy.proofs.OrderLaws.{occurs_none, occurs_once, order_law}
 use Rattle.strategy.specs.Strategy.{Formula, State, predicates}
 use Rattle.strategy.specs.Trace.{due, trace}
-use Rattle.strategy.specs.TraceLaws.{trace_among, trace_once}
+use Rattle.strategy.proofs.TraceLaws.{trace_among, trace_once}
 use Rattle.strategy.specs.Tree.{eval}
 use Rattle.bitmaps.specs.Sums.{digit}
 use Rattle.bitmaps.specs.Table.{line_bit}

@@ -13,10 +13,10 @@ use Rattle.words.specs.Words.{word_at}
 use Rattle.sets.specs.Set.{has, one_set, set_with}
 use Rattle.sets.specs.SetLaws.{has_none, has_or, has_one}
 use Rattle.bitmaps.specs.Bit.{bit}
-use Rattle.bitmaps.specs.BitLaws.{or_false, below_more}
+use Rattle.bitmaps.proofs.BitLaws.{or_false, below_more}
 use Rattle.bitmaps.specs.Table.{line_size, line_bits, line_bit}
 use Rattle.bitmaps.specs.Word.{block_rows, word_size, BlockAt}
-use Rattle.bitmaps.specs.WordLaws.{word_has}
+use Rattle.bitmaps.proofs.WordLaws.{word_has}
 use Rattle.gather.specs.Turns.{HasLines, TurnsWhere, Added}
 
 -- where the word of a turn's predicate lies

@@ -7,7 +7,7 @@ use catalogue::format::Column;
 use reading::whole::Reading;
 
 // The number of the first check that fails, or 0 and what the later steps ask for.
-#[derive(Drop)]
+#[derive(Clone, Copy)]
 pub struct Beginning {
     pub refusal: u8,
     pub rows: usize,

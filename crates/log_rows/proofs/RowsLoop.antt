@@ -9,7 +9,7 @@ use Rattle.bools.specs.Bools.{ltb_yes}
 use Rattle.fields.specs.Output.{Wrote}
 use Rattle.fields.proofs.OutputLaws.{wrote_then, wrote_none, wrote_same}
 use Rattle.bitmaps.specs.Sums.{joined}
-use Rattle.bitmaps.specs.SumLaws.{joined_split, joined_grows, joined_same}
+use Rattle.bitmaps.proofs.SumLaws.{joined_split, joined_grows, joined_same}
 use Rattle.bitmaps.specs.Table.{line_bit}
 use Rattle.bitmaps.specs.Word.{block_rows}
 use Rattle.copy_log.specs.MarkedLog.{marked_number, field_if, marked_field, marked_row, marked_log, marked_from, blanks_in}

@@ -11,7 +11,7 @@ use Rattle.bools.specs.Bools.{which, same?, ltb_lt, ltb_le}
 use Rattle.sets.specs.Set.{has}
 use Rattle.bitmaps.specs.Bit.{bit}
 use Rattle.bitmaps.specs.Table.{line_size, line_bits, line_bit}
-use Rattle.bitmaps.specs.TableLaws.{holds_none}
+use Rattle.bitmaps.proofs.TableLaws.{holds_none}
 use Rattle.bitmaps.specs.Word.{block_rows, BlockAt, WordPut}
 use Rattle.query.specs.Format.{predicate_limit}
 use Rattle.marks.specs.Marks.{met_line, MarkReady, Marked, HasEmptyMarks}

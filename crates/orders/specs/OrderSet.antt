@@ -3,8 +3,8 @@ use Rattle.std.specs.Prelude.{ℕ, ◌+◌, ◌^◌, ◌≤◌, ◌<◌, ◌≡�
 use Rattle.std.proofs.Common.{sym, ap, ◌∙◌, inl, inr, pow_pos}
 use Rattle.std.proofs.Math.Path.{fun_ext}
 use Rattle.strategy.specs.Order.{is_order, checks, all_below, add}
-use Rattle.strategy.specs.OrderLaws.{all_below_gives, all_below_of}
-use Rattle.strategy.specs.OrderCheck.{order_checks, check_high, check_again, check_next, check_end}
+use Rattle.strategy.proofs.OrderLaws.{all_below_gives, all_below_of}
+use Rattle.strategy.proofs.OrderCheck.{order_checks, check_high, check_again, check_next, check_end}
 use Rattle.bools.specs.Bools.{which, iff_eq, eqb_self, eqb_eq, ltb_yes, ltb_lt, ltb_le}
 use Rattle.sets.specs.Set.{has, one_set, below_set, set_with}
 use Rattle.sets.specs.SetLaws.{empty_has, has_or, has_one, has_below, has_high, below_lt, same_set, with_lt}

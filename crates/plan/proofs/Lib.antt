@@ -1,4 +1,2 @@
 pub mod Plans
-pub mod Again
-pub mod RecordArray
 pub mod Recorded

@@ -1,8 +1,5 @@
 -- A table that begins with the records of the first n predicates: what is planned of its records is planned of the predicates'.
-use mathlib.Core.Path.{◌≡◌, sym, ap, subst, ◌∙◌}
-use Prim.Native.Nat.{ℕ, ◌<◌}
-use mathlib.Core.List.{List, ◌++◌}
-use lib.ListN.{drop}
+use Rattle.std.proofs.Common.{◌≡◌, sym, ap, subst, ◌∙◌, ℕ, ◌<◌, List, ◌++◌, drop}
 use Rattle.records.specs.declared.PredicateRecord.{PredicateRecord}
 use Rattle.records.specs.Table.{record_at, record_in, records_of}
 use Rattle.records.proofs.Tabulated.{record_in_lem}

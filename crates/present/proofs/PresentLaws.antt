@@ -18,9 +18,9 @@ use Rattle.sets.specs.Set.{has}
 use Rattle.sets.specs.SetLaws.{minus_and}
 use Rattle.bitmaps.specs.Bit.{bit}
 use Rattle.bitmaps.specs.Table.{line_size}
-use Rattle.bitmaps.specs.TableLaws.{zeros}
+use Rattle.bitmaps.proofs.TableLaws.{zeros}
 use Rattle.bitmaps.specs.Word.{block_rows, word_size, rows_set}
-use Rattle.bitmaps.specs.WordLaws.{word_has, rows_has}
+use Rattle.bitmaps.proofs.WordLaws.{word_has, rows_has}
 use Rattle.present.specs.Present.{WithdrawnFor, present_set}
 
 -- THE LINE

@@ -10,11 +10,11 @@ use lib.Seq.{get_or-set_same, get_or-set_other}
 use lib.Bits.{bit_and, bit_or}
 use Rattle.bools.specs.Bools.{clash, same?}
 use Rattle.strategy.specs.Assignment.{Once}
-use Rattle.strategy.specs.AssignmentLaws.{among_at}
-use Rattle.strategy.specs.OrderLaws.{order_law}
+use Rattle.strategy.proofs.AssignmentLaws.{among_at}
+use Rattle.strategy.proofs.OrderLaws.{order_law}
 use Rattle.strategy.specs.Live.{Step}
 use Rattle.strategy.specs.Propagation.{Ancestor, enclosing}
-use Rattle.strategy.specs.PropagationLaws.{propagate_less}
+use Rattle.strategy.proofs.PropagationLaws.{propagate_less}
 use Rattle.sets.specs.Set.{has}
 use Rattle.sets.specs.SetLaws.{has_none}
 use Rattle.sets.specs.Kept.{KeptBy}

@@ -13,10 +13,10 @@ use lib.Bits.{bit_and, bit_or}
 use Rattle.bools.specs.Bools.{which, same?, eqb_self, eqb_ne, ltb_yes, ltb_lt}
 use Rattle.strategy.specs.Assignment.{Among, Once}
 use Rattle.strategy.specs.Live.{Live, Step, without}
-use Rattle.strategy.specs.LiveLaws.{without_in, without_off}
+use Rattle.strategy.proofs.LiveLaws.{without_in, without_off}
 use Rattle.strategy.specs.Propagation.{enclosing, propagate}
 use Rattle.strategy.specs.Row.{RowProgress, asked, after_turn, turn, work}
-use Rattle.strategy.specs.RowLaws.{turn_idle, work_place}
+use Rattle.strategy.proofs.RowLaws.{turn_idle, work_place}
 use Rattle.sets.specs.Set.{has}
 use Rattle.sets.specs.SetLaws.{has_and, has_or, has_none}
 use Rattle.sets.specs.Kept.{KeptBy}

@@ -10,19 +10,19 @@ use lib.ListN.{length, drop}
 use Rattle.fields.specs.Numbers.{Bytes}
 use Rattle.bools.specs.Bools.{which, not_true, and_right, ltb_yes, ltb_no, ltb_lt, ltb_le}
 use Rattle.strategy.specs.Assignment.{elem}
-use Rattle.strategy.specs.AssignmentLaws.{elem_among}
+use Rattle.strategy.proofs.AssignmentLaws.{elem_among}
 use Rattle.strategy.specs.Order.{Order}
-use Rattle.strategy.specs.OrderLaws.{order_law}
+use Rattle.strategy.proofs.OrderLaws.{order_law}
 use Rattle.strategy.specs.Strategy.{predicates}
-use Rattle.strategy.specs.TraceLaws.{trace_among}
+use Rattle.strategy.proofs.TraceLaws.{trace_among}
 use Rattle.strategy.specs.Tree.{eval, size}
-use Rattle.strategy.specs.RowLaws.{work_row}
+use Rattle.strategy.proofs.RowLaws.{work_row}
 use Rattle.sets.specs.Set.{has}
 use Rattle.sets.specs.SetLaws.{has_below}
 use Rattle.bitmaps.specs.Bit.{bit}
-use Rattle.bitmaps.specs.BitLaws.{bit_past}
+use Rattle.bitmaps.proofs.BitLaws.{bit_past}
 use Rattle.bitmaps.specs.Table.{line_size, line_bits, line_bit, HoldsBits, within}
-use Rattle.bitmaps.specs.TableLaws.{holds_same, holds_bitmap, holds_bitmaps}
+use Rattle.bitmaps.proofs.TableLaws.{holds_same, holds_bitmap, holds_bitmaps}
 use Rattle.bitmaps.specs.Word.{block_rows, word_size, WordPut}
 use Rattle.counts.proofs.Whole.{none_behind}
 use Rattle.catalogue.specs.Catalogue.{is_withdrawn}

@@ -8,5 +8,3 @@ invariant-loop-c l = (l.a ≤ l.c) × (l.c ≤ l.m) × (length l.ancestors ≡ a
 
 abbrev pub decreases-loop-c : goal.decreases-loop-c
 decreases-loop-c l = l.m - l.c
-
--- inside the loop l.c is l.a predicate of the group, with room for one ancestor more

@@ -1,8 +1,13 @@
--- the table's front has the lines that are counted
+-- `searchroom_count_lines` meets its contract: the table's front has the lines that it counts.
+use Rattle.count_calls.proofs.Fronts.{counted_small, front_lines}
 use Rattle.std.proofs.Common.{arith}
-use Rattle.count_calls.proofs.Fronts.{counted_small}
 use Rattle.count_calls.proofs.searchroom_count_lines.Goals as goal
 
 pub count_lines-requires : goal.count_lines-requires
-count_lines-requires c =
-    (omega (arith, c.lesser-2.ensures), omega (arith, c.lesser.ensures), counted_small c.args.table.now c.front-whole.ensures)
+count_lines-requires c = (omega arith, omega arith, counted_small c.args.table.now c.front-whole.ensures)
+
+pub returns : goal.returns
+returns c =
+    let f = c in
+    let a = f.args in
+    front_lines a.table.now a.lines a.size f.front-whole.ensures c.lesser.ensures c.lesser-2.ensures c.count_lines.ensures.0

@@ -1,9 +1,8 @@
 -- `lay_out_columns` meets its contract. The invariant is `Reading`: the layout shows the columns read so far, and the rest decides.
 use Rattle.layout.proofs.Columns.{reading_all, reading_none, reading_numbers, reading_refused, reading_texts}
-use Rattle.std.proofs.Common.{arith}
-use Rattle.std.specs.Prelude.{refl}
-use mathlib.Core.Logic.{⊎_elim}
+use Rattle.std.proofs.Common.{arith, refl}
 use Rattle.layout.proofs.lay_out_columns.Goals as goal
+use Rattle.layout.proofs.lay_out_columns.Goals.{in-Numbers, in-Texts}
 
 pub loop-i-init : goal.loop-i-init
 loop-i-init c = reading_none _ _ _ _ _ _ refl refl (omega arith) (omega arith)
@@ -20,10 +19,10 @@ pub loop-i-preserved : goal.loop-i-preserved
 loop-i-preserved c =
     let inv = c.loop-i.invariant in
     let read = c.read_column.ensures in
-    ⊎_elim
-    (λ w. reading_numbers _ _ _ _ _ _ _ _ inv _ read.0 read.1 (omega arith) _ _ _ _ _ w.1.given.1 w.3 w.4 w.5)
-    (λ w. reading_texts _ _ _ _ _ _ _ _ inv _ read.0 read.1 (omega arith) _ _ _ _ _ w.1.given.1 w.3 w.4 w.5)
-    c.match-read_column.branch
+    elim c.match-read_column.branch [
+      | in-Numbers w ↦ reading_numbers _ _ _ _ _ _ _ _ inv _ read.0 read.1 (omega arith) _ _ _ _ _ w.in-Numbers.is w.tags-is w.starts-is w.at-is
+      | in-Texts w ↦ reading_texts _ _ _ _ _ _ _ _ inv _ read.0 read.1 (omega arith) _ _ _ _ _ w.in-Texts.is w.tags-is w.starts-is w.at-is
+    ]
 
 pub returns : goal.returns
 returns c = reading_all _ _ _ _ _ _ _ _ c.loop-i.invariant _ (omega arith) refl

@@ -2,8 +2,8 @@
 use Rattle.catalogue.specs.declared.mark.MarkField.TheVariants.{Marked}
 use Rattle.layout.proofs.Laid.{laid_all, laid_end, laid_left, laid_refusal}
 use Rattle.std.proofs.Common.{ap, inl, inr, sym, ◌∙◌}
-use mathlib.Core.Logic.{⊎_elim}
 use Rattle.layout.proofs.lay_out_from.Goals as goal
+use Rattle.layout.proofs.lay_out_from.Goals.{in-Absent, in-Marked}
 
 pub returns-then-laid-ne0 : goal.returns-then-laid-ne0
 returns-then-laid-ne0 c = let o = c.refuse.ensures in laid_refusal _ _ _ _ _ c.lay_out_columns-laid.ensures _ c.if-laid-ne0.true o.0 o.1 o.2
@@ -14,16 +14,15 @@ read_mark-requires c = (laid_end _ _ _ _ _ c.lay_out_columns-laid.ensures c.if-l
 pub returns-in-Refused : goal.returns-in-Refused
 returns-in-Refused c =
     let o = c.refuse-in-Refused.ensures in
-    let m = c in
-    let k = m in
-    laid_left _ _ _ _ _ k.lay_out_columns-laid.ensures k.if-laid-ne0.false _ m.read_mark.ensures.0 m.read_mark.ensures.1 _ _ c.in-Refused.is o.0 o.1 o.2
+    let m = c.read_mark.ensures in
+    laid_left _ _ _ _ _ c.lay_out_columns-laid.ensures c.if-laid-ne0.false _ m.0 m.1 _ _ c.in-Refused.is o.0 o.1 o.2
 
 pub returns : goal.returns
 returns c =
-    let w = c in
-    let m = w in
-    let k = m in
-    let l = k in
-    let p = l.requires in
-    laid_all _ _ _ _ _ l.lay_out_columns-laid.ensures k.if-laid-ne0.false _ m.read_mark.ensures.0 m.read_mark.ensures.1 _ p.0 p.1
-    (⊎_elim (λ w. inl (w.1.given.1, w.2)) (λ w. inr (w.1.given.1 ∙ ap Marked (sym w.3))) w.match-read_mark.branch)
+    let m = c.read_mark.ensures in
+    let p = c.requires in
+    laid_all _ _ _ _ _ c.lay_out_columns-laid.ensures c.if-laid-ne0.false _ m.0 m.1 _ p.0 p.1
+    (elim c.match-read_mark.branch [
+      | in-Absent w ↦ inl (w.in-Absent.is, w.mark-is)
+      | in-Marked w ↦ inr (w.in-Marked.is ∙ ap Marked (sym w.mark-is))
+    ])

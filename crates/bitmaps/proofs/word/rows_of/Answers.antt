@@ -1,5 +1,5 @@
 -- `rows_of` meets its contract, by `rows_are`.
-use Rattle.bitmaps.specs.WordLaws.{rows_are}
+use Rattle.bitmaps.proofs.WordLaws.{rows_are}
 use Rattle.std.proofs.Common.{arith}
 use Rattle.bitmaps.proofs.word.rows_of.Goals as goal
 

@@ -1,0 +1,22 @@
+-- `sift` meets its contract: the filter of each kind passes what its test passes.
+use Rattle.filters.proofs.Passing.{contains_sifts, front_sifts}
+use Rattle.std.proofs.Common.{arith}
+use Rattle.filters.proofs.sift.sift.Goals as goal
+
+pub returns-then-kind-eq-CONTAINS : goal.returns-then-kind-eq-CONTAINS
+returns-then-kind-eq-CONTAINS c =
+    let s = c in
+    let a = s.args in
+    let h = s.requires in
+    contains_sifts a.b.now (λ i. omega (arith, s.shared_slice_known-2-1.given i)) _ _ a.operand.now _ h.1 h.4 _ _ c.if-kind-eq-CONTAINS.true c.contains_rows.ensures
+
+pub front_rows-requires : goal.front_rows-requires
+front_rows-requires c = c.requires.1
+
+pub returns : goal.returns
+returns c =
+    let other = c.if-kind-eq-CONTAINS.false in
+    let s = c in
+    let a = s.args in
+    let h = s.requires in
+    front_sifts a.b.now (λ i. omega (arith, s.shared_slice_known-2-1.given i)) _ _ a.operand.now _ h.1 h.4 _ _ _ c.head_of-k.ensures h.2 (omega arith) c.front_rows.ensures

@@ -1,0 +1,9 @@
+-- `of_fronts` meets its contract.
+use Rattle.fields.proofs.Tests.{tests}
+use Rattle.fronts.proofs.of_fronts.Goals as goal
+
+pub returns-then-kind-eq-EQUALS : goal.returns-then-kind-eq-EQUALS
+returns-then-kind-eq-EQUALS c = search tests
+
+pub returns-else-kind-eq-EQUALS : goal.returns-else-kind-eq-EQUALS
+returns-else-kind-eq-EQUALS c = search tests

@@ -1,0 +1,27 @@
+-- `add_turn` meets its contract. Invariant: the rows of the word that are not to come any more have the turn.
+use Rattle.gather.proofs.Adding.{all_of}
+use Rattle.sets.specs.ChangedLaws.{change_end, change_next, change_start}
+use Rattle.sets.specs.Set.{set_with}
+use Rattle.std.proofs.Common.{arith}
+use Rattle.gather.proofs.add_turn.Goals as goal
+
+pub returns-then-word-below : goal.returns-then-word-below
+returns-then-word-below c =
+    let t = c in
+    let f = t in
+    all_of f.args.i f.if-word-below.true f.below.ensures t.add_to_all.ensures
+
+pub loop-left-init : goal.loop-left-init
+loop-left-init c = let a = c.args in change_start (λ s. set_with s a.i) a.word a.gathered.now
+
+pub loop-left-preserved : goal.loop-left-preserved
+loop-left-preserved c =
+    let w = c.widen-d in
+    let l = c.loop-left in
+    change_next l.invariant w.result w.ensures.0 c.first.ensures c.rest-left.ensures (omega arith) c.with.ensures
+
+pub shape_of-gathered : goal.shape_of-gathered
+shape_of-gathered c = c.loop-left.invariant.changed.size
+
+pub returns : goal.returns
+returns c = change_end c.loop-left.invariant (omega arith)

@@ -1,0 +1,6 @@
+-- `is_within_at` meets its contract: the distance from low, wrapped, is not over the width.
+use Rattle.numbers.proofs.Within.{within_wraps}
+use Rattle.numbers.proofs.is_within_at.Goals as goal
+
+pub returns : goal.returns
+returns c = let a = c in within_wraps a.args.low a.args.width _ _ c.above.ensures.1 a.requires.1 c.above.ensures.0

@@ -1,0 +1,25 @@
+-- `numbers_blank` meets its contract: where every row is due, `due` is the whole block; else the blank is a range of its one number.
+use Rattle.numbers.proofs.Within.{is_blank_lem}
+use Rattle.numbers.specs.Within.{number_in_row}
+use Rattle.predicate.specs.Meaning.{number_blank}
+use Rattle.sets.specs.KeptLaws.{kept_same}
+use Rattle.sets.specs.Set.{below_set}
+use Rattle.std.proofs.Common.{arith, ◌+◌, ◌≡◌}
+use Rattle.numbers.proofs.numbers_blank.Goals as goal
+
+pub below-full-requires : goal.below-full-requires
+below-full-requires c = omega arith
+
+pub all_blank-requires : goal.all_blank-requires
+all_blank-requires c = let e : c.args.due ≡ below_set 64 = omega arith in rw e at c.requires
+
+pub returns-then-due-full : goal.returns-then-due-full
+returns-then-due-full c = let e : c.args.due ≡ below_set 64 = omega arith in rw e c.all_blank.ensures
+
+pub due_within-requires : goal.due_within-requires
+due_within-requires c = (c.requires, omega arith)
+
+pub returns : goal.returns
+returns c =
+    let a = c.args in
+    kept_same _ (λ d. number_blank (number_in_row a.b.now a.start (a.base + d))) a.due c.due_within.result (λ d m. is_blank_lem (number_in_row a.b.now a.start (a.base + d))) c.due_within.ensures
