@@ -1,6 +1,8 @@
 # The commands of README.md.
 archive := target/staticlib/libsearchroom.a
-sources := crates.txt $(shell find crates -name '*.rt' -o -name '*.antt')
+counts := target/staticlib/libcount_calls.a
+# without what rt makes in crates/NAME/out
+sources := crates.txt $(shell find crates -name out -prune -o '(' -name '*.rt' -o -name '*.antt' ')' -print)
 # where Debian's packages put the sources of crates, as .cargo/config.toml says
 registry := /usr/share/cargo/registry
 
@@ -16,16 +18,23 @@ endef
 parish: target/bin/consult
 	@cd examples/parish && ../../target/bin/consult
 
+# rt also runs what it has built, here where the three files are not: that register, a refusal, is let go
 target/bin/consult: $(sources)
 	$(need_rt)
-	rt check consult
+	cd crates/consult && rt run > /dev/null
+	install -D crates/consult/out/consult $@
 
 # the archive that C and the Rust crate searchroom link
 library: $(archive)
 
-$(archive): $(sources)
+# the archive of the counts alone, for the benchmark and the tests
+counts: $(counts)
+
+# a library of Rattle's and an archive are two crates: rt builds NAME_c, and C links it as libNAME.a
+target/staticlib/lib%.a: $(sources)
 	$(need_rt)
-	rt staticlib searchroom
+	cd crates/$*_c && rt lib
+	install -D -m 644 crates/$*_c/out/lib$*_c.a $@
 
 # the desk, for people, as target/bin/searchroom; what it needs beside the engine is looked for before that is proved
 desk: desk_needs $(archive)
@@ -57,4 +66,4 @@ install-desk: PREFIX ?= /usr/local
 install-desk: desk
 	install -D target/bin/searchroom $(DESTDIR)$(PREFIX)/bin/searchroom
 
-.PHONY: parish library desk desk_needs test kit install install-desk
+.PHONY: parish library counts desk desk_needs test kit install install-desk

@@ -1,4 +1,4 @@
-//! Links the archive that the crate's `links` names, which `rt staticlib` writes to `target/staticlib` of the repository.
+//! Links the archive that the crate's `links` names, which `make` writes to `target/staticlib` of the repository.
 //! The environment variable `SEARCHROOM_LIB_DIR` names another folder that holds it.
 
 use std::env;
@@ -18,7 +18,7 @@ fn main() {
     let Some(folder) = folders.iter().find(|folder| folder.join(&archive).is_file()) else {
         let tried: Vec<String> = folders.iter().map(|folder| folder.display().to_string()).collect();
         println!(
-            "cargo::error=there is no {archive} in {}: run `rt staticlib {name}` at the root of the repository, \
+            "cargo::error=there is no {archive} in {}: run `make target/staticlib/{archive}` at the root of the repository, \
              or name the folder that holds the archive in SEARCHROOM_LIB_DIR",
             tried.join(", nor in ")
         );

@@ -3,16 +3,16 @@ Where it errs it finds too much, since a variable with the name of a definition 
 import functools
 import re
 
-NAME = r"[^\W\d_][\w′-]*"
+NAME = r"[^\W\d_][\w'-]*"
 # a function, a field or a constructor is declared by `NAME :`, a type by `record NAME` or `data NAME`, one of the code by `enum NAME`
 DECLARED = re.compile(rf"(?:(?:abbrev|unfoldable|mutual|pub) )*(?:(?:record|data|enum) ({NAME})|({NAME}) :)")
 VARIANT = re.compile(rf"({NAME})(?:,| {{|\()")
 STATEMENT = re.compile(rf"abbrev pub ({NAME}) : Type 0")
-USE = re.compile(r"(?:ghost )?use Rattle·(\w+)(?:·specs)?\.((?:specs|proofs)\.[\w.-]+?)(?:\.\{([^}]*)\}| as (\w+));?")
+USE = re.compile(r"(?:ghost )?use Rattle\.(\w+)\.((?:specs|proofs)\.[\w.-]+?)(?:\.\{([^}]*)\}| as (\w+));?")
 
 
 class Definition:
-    """A line at the margin with what is indented under it, and the clauses up to a blank line; comments left out."""
+    """A line at the margin with what is indented under it, and the clauses up to a blank line; comments left out, and attributes."""
 
     def __init__(self, path, lines):
         self.path, self.lines, self.names = path, lines, []
@@ -44,6 +44,8 @@ class File:
                 blank = True
             elif re.match(r"(ghost )?use ", text):
                 self.add_import(text)
+            elif path.suffix == ".rt" and re.match(r"#!?\[", text):
+                continue
             elif text:
                 if blank and not line.startswith(" "):
                     parts.append([])
@@ -55,7 +57,7 @@ class File:
     def add_import(self, text):
         """Names of a module, or the module under an alias; what is no crate of ours is the kit's."""
         found = USE.fullmatch(text)
-        if not found and "Rattle·" in text:
+        if not found and "Rattle." in text:
             raise SystemExit(f"{self.path}: this import cannot be read: {text}")
         crates = next(folder for folder in self.path.parents if folder.name == "crates")
         if found and (crates / found[1]).is_dir():
@@ -69,8 +71,8 @@ class File:
 
 def module_file(crate, module):
     """The file of a module, and the enum if it is that of one: from `enum Outcome` of src/outcome.rt the kit makes
-    `specs.declared.outcome.Outcome`, and in it `the-variants`."""
-    parts = module.removesuffix(".the-variants").split(".")
+    `specs.declared.outcome.Outcome`, and in it `TheVariants`."""
+    parts = module.removesuffix(".TheVariants").split(".")
     if parts[1] == "declared":
         *folders, enum = parts[2:]
         return crate.joinpath("src", *folders or ["lib"]).with_suffix(".rt"), enum
@@ -92,13 +94,13 @@ def defined(path, name):
 def cites(definition):
     """The definitions that this one names: those of its file, imported ones, and by an alias `alias.name`."""
     file = read(definition.path)
-    text = re.sub(r"(?<![\w′])\.[\w-]+", "", "\n".join(definition.lines))
-    found = []
+    text, found = "\n".join(definition.lines), []
     for alias, name in re.findall(rf"\b(\w+)\.({NAME})", text):
         if alias in file.aliases:
             path, enum = file.aliases[alias]
             found.append(defined(path, enum or name))
-    for name in re.findall(NAME, text):
+    # what else stands behind a dot is a field
+    for name in re.findall(NAME, re.sub(rf"\.{NAME}", "", text)):
         if name in file.cited:
             found.append(file.cited[name])
         elif name in file.imports:

@@ -1,8 +1,11 @@
 -- What reading a file gives, and how long each file may be.
-use Rattle.std.specs.Prelude.{ℕ, List}
-use Rattle.io.specs.Counts.{IsPrefixLen}
+use Rattle.std.specs.Prelude.{ℕ, ◌≤◌, ◌≡◌, List, length, take}
 use Rattle.consult.specs.declared.file.File.{File}
 use Rattle.consult.specs.declared.file.File.TheVariants.{Unreadable, Bytes}
+
+-- so many bytes stand at the front of the space, and as many are there
+abbrev pub IsPrefixLen : ℕ → List ℕ → Type 0
+IsPrefixLen n xs = (n ≤ length xs) × (n ≡ length (take n xs))
 
 -- a number of bytes at the front of the space; of a file that cannot be read nothing is said
 abbrev pub Held : List ℕ → File → Type 0

@@ -1,6 +1,10 @@
 // Reading a file whole.
 ghost use Rattle.consult.specs.File.{Held};
 
+use std::fs;
+use std::io::Read;
+use std::rt::Files;
+
 #[derive(Drop)]
 pub enum File {
     Unreadable,
@@ -30,24 +34,22 @@ impl OrderFile {
 }
 
 // One read; no bytes at the end of the file.
-fn read_some(fd: i32, space: &mut [u8]) -> File
+fn read_some(file: &mut impl Read, space: &mut [u8]) -> File
     ensures { Held space.new result }
 {
-    let got = libc::read(fd, space);
-    if got < 0 {
-        return File::Unreadable;
+    match file.read(space) {
+        Ok(n) => File::Bytes(n),
+        Err(_) => File::Unreadable,
     }
-    File::Bytes(io::count(got, space))
 }
 
 // All bytes of an open file; unreadable where a read fails or the file is longer than the space.
-fn read_all(fd: i32, space: &mut [u8]) -> File
+fn read_all(file: &mut impl Read, space: &mut [u8]) -> File
     ensures { Held space.new result }
 {
     let mut at: usize = 0;
     while at < space.len() {
-        let some = read_some(fd, &mut space[at..]);
-        let File::Bytes(n) = some else {
+        let File::Bytes(n) = read_some(file, &mut space[at..]) else {
             return File::Unreadable;
         };
         if n == 0 {
@@ -56,20 +58,17 @@ fn read_all(fd: i32, space: &mut [u8]) -> File
         at += n;
     }
     let mut more = [0u8; 1];
-    if libc::read(fd, &mut more) != 0 {
+    let File::Bytes(0) = read_some(file, &mut more) else {
         return File::Unreadable;
-    }
+    };
     File::Bytes(at)
 }
 
-pub fn read_file(path: &[u8], space: &mut [u8]) -> File
+pub fn read_file(rt: &impl Files, path: &str, space: &mut [u8]) -> File
     ensures { Held space.new result }
 {
-    let fd = os::open_read(path);
-    if fd < 0 {
+    let Ok(mut file) = fs::open(rt, path) else {
         return File::Unreadable;
-    }
-    let file = read_all(fd, space);
-    libc::close(fd);
-    file
+    };
+    read_all(&mut file, space)
 }

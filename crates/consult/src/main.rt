@@ -4,15 +4,17 @@
 mod file;
 
 ghost use Rattle.std.specs.Prelude.{◌≤◌, length};
-ghost use Rattle.io.specs.Counts.{IsPrefixLen};
 ghost use Rattle.consultation.specs.Consultation.{longest};
+ghost use Rattle.consult.specs.File.{IsPrefixLen};
 ghost use Rattle.consult.specs.Prints.{Prints};
 
 use file::{CatalogueFile, File, OrderFile, QuestionFile};
-use libc::STDOUT_FILENO;
+use std::io;
+use std::io::Write;
+use std::rt::Files;
 
 // The register of the files, or of a file that cannot be read; its length.
-fn consult(out: &mut [u8]) -> usize
+fn consult(rt: &impl Files, out: &mut [u8]) -> usize
     requires { longest ≤ length out.old }
     ensures prints { Prints out.old result out.new }
     ensures prefix_len { IsPrefixLen result out.new }
@@ -20,9 +22,9 @@ fn consult(out: &mut [u8]) -> usize
     let mut catalogue = [0u8; CatalogueFile::LIMIT];
     let mut question = [0u8; QuestionFile::LIMIT];
     let mut order = [0u8; OrderFile::LIMIT];
-    let first = file::read_file(b"catalogue.bin", &mut catalogue);
-    let second = file::read_file(b"question.bin", &mut question);
-    let third = file::read_file(b"order.bin", &mut order);
+    let first = file::read_file(rt, "catalogue.bin", &mut catalogue);
+    let second = file::read_file(rt, "question.bin", &mut question);
+    let third = file::read_file(rt, "order.bin", &mut order);
     let File::Bytes(c) = first else {
         return consultation::write_unreadable(out);
     };
@@ -35,8 +37,8 @@ fn consult(out: &mut [u8]) -> usize
     consultation::write_consultation(&catalogue[..c], &question[..q], &order[..o], out)
 }
 
-fn main() {
-    let mut out = io::large_buffer();
-    let n = consult(&mut out);
-    io::write_all(STDOUT_FILENO, &out[..n]);
+fn main(rt: HostRuntime) -> io::Result<()> {
+    let mut out = [0u8; 65536];
+    let n = consult(&rt, &mut out);
+    io::writer(&rt).write_all(&out[..n])
 }

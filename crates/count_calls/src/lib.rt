@@ -31,24 +31,21 @@ fn front(table: &[u8]) -> &[u8]
 }
 
 // The ones of a table, a word at a time.
-#[unsafe(no_mangle)]
-pub extern "C" fn searchroom_count(table: &[u8]) -> u64
+pub fn searchroom_count(table: &[u8]) -> u64
     ensures { result ≡ ones_in (counted table.now) }
 {
     counts::ones::count_ones(front(table))
 }
 
 // The same byte by byte, as counts were taken before order 3.
-#[unsafe(no_mangle)]
-pub extern "C" fn searchroom_count_bytes(table: &[u8]) -> u64
+pub fn searchroom_count_bytes(table: &[u8]) -> u64
     ensures { result ≡ ones_in (counted table.now) }
 {
     counts::bytes::count_bytes(front(table))
 }
 
 // The ones of the first bytes of each of a table's first lines; a run counts its looks so, up to the end of a word.
-#[unsafe(no_mangle)]
-pub extern "C" fn searchroom_count_lines(table: &[u8], lines: usize, size: usize) -> u64
+pub fn searchroom_count_lines(table: &[u8], lines: usize, size: usize) -> u64
     ensures { result ≡ ones_in (counted_lines table.now lines size) }
 {
     let whole = front(table);

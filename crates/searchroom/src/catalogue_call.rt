@@ -1,8 +1,7 @@
 // Checking a catalogue.
 ghost use Rattle.demands.specs.Calls.{CatalogueGives};
 
-#[unsafe(no_mangle)]
-pub extern "C" fn searchroom_check_catalogue(catalogue: &[u8]) -> u64
+pub fn searchroom_check_catalogue(catalogue: &[u8]) -> u64
     ensures { CatalogueGives catalogue.now result }
 {
     answers::word::pack(checks::check_catalogue(catalogue))

@@ -2,13 +2,7 @@
 ghost use Rattle.demands.specs.Run.{request};
 ghost use Rattle.demands.specs.Log.{LogGives};
 
-#[unsafe(no_mangle)]
-pub extern "C" fn searchroom_copy(
-    catalogue: &[u8],
-    question: &[u8],
-    order: &[u8],
-    output: &mut [u8],
-) -> u64
+pub fn searchroom_copy(catalogue: &[u8], question: &[u8], order: &[u8], output: &mut [u8]) -> u64
     ensures { LogGives (request catalogue.now question.now order.now)
         output.old result output.new }
 {

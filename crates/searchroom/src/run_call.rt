@@ -2,8 +2,7 @@
 ghost use Rattle.demands.specs.Run.{lent};
 ghost use Rattle.demands.specs.Calls.{RunGives};
 
-#[unsafe(no_mangle)]
-pub extern "C" fn searchroom_run(
+pub fn searchroom_run(
     catalogue: &[u8],
     question: &[u8],
     order: &[u8],

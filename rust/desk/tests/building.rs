@@ -20,12 +20,12 @@ fn found(command: &str) -> PathBuf {
     PathBuf::from(Said::of(said).done().trim_end())
 }
 
-/// A room like the repository before anything is built. In its `bin` these commands stand, and do nothing, beside those that
-/// every recipe needs.
+/// A room like the repository before anything is built, but for what the kit, which does nothing here, would leave. In its
+/// `bin` these commands stand, and do nothing, beside those that every recipe needs.
 fn repository(idle: &[&str]) -> Room {
     let room = Room::new();
     room.set("crates.txt", "");
-    fs::create_dir(room.path("crates")).expect("a new folder");
+    room.set("crates/searchroom_c/out/libsearchroom_c.a", "");
     fs::create_dir(room.path("bin")).expect("a new folder");
     fs::copy(Path::new(ROOT).join("Makefile"), room.path("Makefile")).expect("the Makefile");
     let idle = idle.iter().map(|&name| (name, PathBuf::from("/bin/true")));
@@ -62,7 +62,12 @@ fn without_the_kit_every_target_says_what_it_is() {
 #[test]
 fn with_the_kit_it_is_used() {
     let room = repository(&["rt"]);
-    assert_eq!(make(&room, &["library"]).done(), "rt staticlib searchroom\n");
+    assert_eq!(
+        make(&room, &["library"]).done(),
+        "cd crates/searchroom_c && rt lib\n\
+         install -D -m 644 crates/searchroom_c/out/libsearchroom_c.a target/staticlib/libsearchroom.a\n"
+    );
+    assert!(room.path("target/staticlib/libsearchroom.a").is_file());
     assert_eq!(make(&room, &["-s", "kit"]).done(), "");
 }
 
@@ -172,7 +177,7 @@ fn archive_that_is_nowhere() {
         let told = told(&room, named, Some(at));
         let place = format!("cargo::error=there is no libengine.a in {}: ", places.join(", nor in "));
         let error = told.iter().find(|line| line.starts_with(&place)).unwrap_or_else(|| panic!("{told:?}"));
-        assert!(error.contains("`rt staticlib engine`") && error.contains("SEARCHROOM_LIB_DIR"), "{error}");
+        assert!(error.contains("`make target/staticlib/libengine.a`") && error.contains("SEARCHROOM_LIB_DIR"), "{error}");
         assert!(!told.iter().any(|line| line.contains("link")), "{told:?}");
     }
 }

@@ -32,7 +32,7 @@ impl Room {
             fs::copy(&program, room.path("consult"))
         };
         if let Err(error) = copied {
-            panic!("{}: {error}; `rt check consult` makes the program", program.display());
+            panic!("{}: {error}; `make target/bin/consult` makes the program", program.display());
         }
         room.set("catalogue.bin", catalogue);
         room.set("question.bin", question);

@@ -1,0 +1,16 @@
+// The copy of the register: one field for each look of a run.
+ghost use Rattle.demands.specs.Run.{request};
+ghost use Rattle.demands.specs.Log.{LogGives};
+
+#[unsafe(no_mangle)]
+pub extern "C" fn searchroom_copy(
+    catalogue: &[u8],
+    question: &[u8],
+    order: &[u8],
+    output: &mut [u8],
+) -> u64
+    ensures { LogGives (request catalogue.now question.now order.now)
+        output.old result output.new }
+{
+    searchroom::copy_call::searchroom_copy(catalogue, question, order, output)
+}
