@@ -1,7 +1,13 @@
 -- A table that is filled from the front: the records of the first c predicates, and after them what stood there before.
-use Rattle.std.proofs.Common.{◌≡◌, refl, sym, ap, ◌∙◌, ℕ, zero, suc, ◌+◌, ◌<◌, inl, inr, List, [], ◌∷◌, ◌++◌, lt_of_lt_of_le, le_of_suc-le-suc, not-suc-le-zero, eq-or-lt_of_le, add-one, arith, length, get_or, set, drop, length-append, drop-cons}
-use Rattle.std.proofs.Math.ListN.{get_or-append}
-use Rattle.std.proofs.Math.Seq.{append_snoc, set_at, get_or_at}
+use mathlib.Core.Path.{◌≡◌, refl, sym, ap, ◌∙◌}
+use Prim.Native.Nat.{ℕ, zero, suc, ◌+◌, ◌≤◌, ◌<◌}
+use mathlib.Core.Logic.{inl, inr}
+use mathlib.Core.List.{List, [], ◌∷◌, ◌++◌}
+use native.Mathlib.Nat.{lt_of_lt_of_le, le_of_suc-le-suc, not-suc-le-zero, eq-or-lt_of_le}
+use native.Mathlib.Numerals.{add-one}
+use native.Mathlib.Omega.{arith}
+use lib.ListN.{length, get_or, set, drop, length-append, length-drop, get_or-append}
+use lib.Seq.{drop-cons, append_snoc, set_at, get_or_at}
 use Rattle.records.specs.declared.PredicateRecord.{PredicateRecord}
 use Rattle.records.specs.Offsets.{HasFields}
 use Rattle.records.specs.Table.{record_at, no_record, record_in, records_of, HasRecord}
@@ -36,6 +42,9 @@ module _ (q offsets : List ℕ) where
     pub filled_none : filled 0 ≡ table
     unfolding records_of
     filled_none = refl
+
+    pub length_filled : (c : ℕ) → c ≤ length table → length (filled c) ≡ length table
+    length_filled c h = let e = length-append (records_of q offsets c) (drop c table) in omega (arith, e, length_records c, length-drop c table)
 
     -- one record more
     pub filled_next : (c : ℕ) (r : PredicateRecord) → c < length table → r ≡ record_at q offsets c → set (filled c) c r ≡ filled (c + 1)

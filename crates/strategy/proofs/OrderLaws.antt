@@ -105,8 +105,8 @@ pub occurs_once : (c : ℕ) (l : List ℕ) → Once l → Among c l → occurren
 unfolding occurrences
 occurs_once c [] o x'' = elim x'' [ ]
 occurs_once c (d ∷ ds) o (inl e) =
-  let n : occurrences c ds ≡ 0 = occurs_none c ds (λ m. o.0 (subst (λ x. Among x ds) e m)) in
-  rw (e, eqb_self d) (omega (arith, n))
+    let n : occurrences c ds ≡ 0 = occurs_none c ds (λ m. o.0 (subst (λ x. Among x ds) e m)) in
+    rw (e, eqb_self d) (omega (arith, n))
 occurs_once c (d ∷ ds) o (inr m) = rw (eqb_ne c d (λ e. o.0 (subst (λ x. Among x ds) e m))) (omega (arith, occurs_once c ds o.1 m))
 
 pub once_of : (l : List ℕ) → ((c : ℕ) → Among c l → occurrences c l ≤ 1) → Once l
