@@ -64,9 +64,13 @@ fn read_all(file: &mut impl Read, space: &mut [u8]) -> File
     File::Bytes(at)
 }
 
-pub fn read_file(rt: &impl Files, path: &str, space: &mut [u8]) -> File
+// A path that is no text names no file here.
+pub fn read_file(rt: &impl Files, path: &[u8], space: &mut [u8]) -> File
     ensures { Held space.new result }
 {
+    let Ok(path) = str::from_utf8(path) else {
+        return File::Unreadable;
+    };
     let Ok(mut file) = fs::open(rt, path) else {
         return File::Unreadable;
     };

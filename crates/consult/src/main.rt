@@ -22,9 +22,9 @@ fn consult(rt: &impl Files, out: &mut [u8]) -> usize
     let mut catalogue = [0u8; CatalogueFile::LIMIT];
     let mut question = [0u8; QuestionFile::LIMIT];
     let mut order = [0u8; OrderFile::LIMIT];
-    let first = file::read_file(rt, "catalogue.bin", &mut catalogue);
-    let second = file::read_file(rt, "question.bin", &mut question);
-    let third = file::read_file(rt, "order.bin", &mut order);
+    let first = file::read_file(rt, b"catalogue.bin", &mut catalogue);
+    let second = file::read_file(rt, b"question.bin", &mut question);
+    let third = file::read_file(rt, b"order.bin", &mut order);
     let File::Bytes(c) = first else {
         return consultation::write_unreadable(out);
     };
