@@ -1,11 +1,11 @@
-"""Which definitions cite which: those of specs/*.antt, and of src/*.rt the enums and the contracts. A reading of text, not the checker's.
+"""Which definitions cite which: those of specs/*.antt, and of src/*.rt the types and the contracts. A reading of text, not the checker's.
 Where it errs it finds too much, since a variable with the name of a definition counts as a citation; at what it cannot read it stops."""
 import functools
 import re
 
 NAME = r"[^\W\d_][\w'-]*"
-# a function, a field or a constructor is declared by `NAME :`, a type by `record NAME` or `data NAME`, one of the code by `enum NAME`
-DECLARED = re.compile(rf"(?:(?:abbrev|unfoldable|mutual|pub) )*(?:(?:record|data|enum) ({NAME})|({NAME}) :)")
+# a function, a field or a constructor is declared by `NAME :`, a type by `record NAME` or `data NAME`, one of the code by `enum NAME` or `struct NAME`
+DECLARED = re.compile(rf"(?:(?:abbrev|unfoldable|mutual|pub) )*(?:(?:record|data|enum|struct) ({NAME})|({NAME}) :)")
 VARIANT = re.compile(rf"({NAME})(?:,| {{|\()")
 STATEMENT = re.compile(rf"abbrev pub ({NAME}) : Type 0")
 USE = re.compile(r"(?:ghost )?use Rattle\.(\w+)\.((?:specs|proofs)\.[\w.-]+?)(?:\.\{([^}]*)\}| as (\w+));?")

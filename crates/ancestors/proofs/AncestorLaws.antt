@@ -5,8 +5,9 @@ use native.Mathlib.Omega.{arith}
 use mathlib.Core.Path.{◌≡◌, refl, ap, ◌∙◌}
 use mathlib.Core.Logic.{◌⊎◌, inl, inr}
 use mathlib.Core.List.{List, [], ◌∷◌, ◌++◌}
-use lib.ListN.{length, get_or, set, length-set}
+use lib.ListN.{length, get_or, set}
 use lib.Seq.{get_or-set_same, get_or-set_other}
+use Rattle.std.proofs.lemmas.Grind.{common_steps}
 use Rattle.bools.specs.Bools.{same?}
 use Rattle.query.specs.Format.{depth_limit}
 use Rattle.ancestors.specs.Ancestors.{ancestor_size, ancestors_width, height_at, ancestor_place, ancestor_over, ancestor_at, ancestors_from, ancestors_of, Low, IsSpan, Spans, Closed}
@@ -57,18 +58,13 @@ closed_none a m tag A l s = record {
 }
 
 -- the next predicate of the group, c, gets its ancestor
-module _ (A : List ℕ) (a c m tag h i first end : ℕ) (is-height : h ≡ height_at A c) (is-place : i ≡ ancestor_place c h) (is-first : first ≡ a) (is-end : end ≡ m)
+module _ (A : List ℕ) (a c m tag h i : ℕ) (is-height : h ≡ height_at A c) (is-place : i ≡ ancestor_place c h)
     (low : h < depth_limit) (fits : ancestors_width * c + ancestors_width ≤ length A) where
-  abbrev written : List ℕ
-  written = set (set (set A (i + 0) first) (i + 1) end) (i + 2) tag
-
   abbrev raised : List ℕ
-  raised = set written (ancestors_width * c) (h + 1)
+  raised = set (set (set (set A (i + 0) a) (i + 1) m) (i + 2) tag) (ancestors_width * c) (h + 1)
 
   off_place : (p : ℕ) → (p ≡ i → ⊥) → (p ≡ i + 1 → ⊥) → (p ≡ i + 2 → ⊥) → (p ≡ ancestors_width * c → ⊥) → get_or raised p 0 ≡ get_or A p 0
-  off_place p x y z l =
-      get_or-set_other written (ancestors_width * c) p (h + 1) 0 l ∙ get_or-set_other (set (set A (i + 0) first) (i + 1) end) (i + 2) p tag 0 z
-      ∙ get_or-set_other (set A (i + 0) first) (i + 1) p end 0 y ∙ get_or-set_other A (i + 0) p first 0 (λ e. x (omega arith))
+  off_place p x y z l = grind (arith, common_steps)
 
   other_line : (d : ℕ) → (d ≡ c → ⊥) → SameLine A raised d
   other_line d n p from to = off_place p (λ e. n (omega arith)) (λ e. n (omega arith)) (λ e. n (omega arith)) (λ e. n (omega arith))
@@ -76,28 +72,17 @@ module _ (A : List ℕ) (a c m tag h i first end : ℕ) (is-height : h ≡ heigh
   earlier : (p : ℕ) → ancestors_width * c < p → p < i → get_or raised p 0 ≡ get_or A p 0
   earlier p from to = off_place p (λ e. omega arith) (λ e. omega arith) (λ e. omega arith) (λ e. omega arith)
 
-  sized : length written ≡ length A
-  sized = simp length-set
-
   raised_height : height_at raised c ≡ h + 1
-  raised_height = get_or-set_same written (ancestors_width * c) (h + 1) 0 (omega (arith, sized))
+  raised_height = grind (arith, common_steps)
 
   raised_first : get_or raised i 0 ≡ a
-  raised_first =
-      get_or-set_other written (ancestors_width * c) i (h + 1) 0 (λ e. omega arith)
-      ∙ get_or-set_other (set (set A (i + 0) first) (i + 1) end) (i + 2) i tag 0 (λ e. omega arith)
-      ∙ get_or-set_other (set A (i + 0) first) (i + 1) i end 0 (λ e. omega arith) ∙ (let e : i + 0 ≡ i = omega arith in rw e (get_or-set_same A i first 0 (omega arith))) ∙ is-first
+  raised_first = grind (arith, common_steps)
 
   raised_end : get_or raised (i + 1) 0 ≡ m
-  raised_end =
-      get_or-set_other written (ancestors_width * c) (i + 1) (h + 1) 0 (λ e. omega arith)
-      ∙ get_or-set_other (set (set A (i + 0) first) (i + 1) end) (i + 2) (i + 1) tag 0 (λ e. omega arith)
-      ∙ get_or-set_same (set A (i + 0) first) (i + 1) end 0 (omega (arith, length-set A (i + 0) first)) ∙ is-end
+  raised_end = grind (arith, common_steps)
 
   raised_tag : get_or raised (i + 2) 0 ≡ tag
-  raised_tag =
-      get_or-set_other written (ancestors_width * c) (i + 2) (h + 1) 0 (λ e. omega arith)
-      ∙ get_or-set_same (set (set A (i + 0) first) (i + 1) end) (i + 2) tag 0 (omega (arith, length-set A (i + 0) first, length-set (set A (i + 0) first) (i + 1) end))
+  raised_tag = grind (arith, common_steps)
 
   raised_line : ancestors_of raised c ≡ ancestors_of A c ++ (ancestor_over a m tag ∷ [])
   raised_line =

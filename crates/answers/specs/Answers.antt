@@ -7,8 +7,7 @@ use Rattle.predicate.specs.declared.outcome.Outcome.TheVariants.{No, Yes, Blank}
 use Rattle.predicate.specs.Meaning.{outcome}
 use Rattle.task.specs.Task.{predicate_at}
 use Rattle.task.specs.Input.{Input}
-use Rattle.answers.specs.declared.word.Answer.{Answer}
-use Rattle.answers.specs.declared.word.Answer.TheVariants.{Refused, Accepted}
+use Rattle.answers.specs.Answer.{Answer, Refused, Accepted}
 use Rattle.answers.specs.Word.{FitsWord}
 use Rattle.answers.specs.Refusals.{no_such_row_or_predicate}
 

@@ -1,7 +1,6 @@
 -- "An operation's results travel to it packed in one eight-byte number."
 use Rattle.std.specs.Prelude.{ℕ, ◌+◌, ◌*◌, ◌/◌, ◌%◌, ◌^◌, ◌<◌}
-use Rattle.answers.specs.declared.word.Answer.{Answer}
-use Rattle.answers.specs.declared.word.Answer.TheVariants.{Refused, Accepted}
+use Rattle.answers.specs.Answer.{Answer, Refused, Accepted}
 
 -- document 01's number and values for each case: "Accepted is 0", "A refusal gives its number, with zeros for every other result"
 abbrev pub number_of : Answer → ℕ

@@ -1,6 +1,6 @@
 -- What a call that writes one lent output leaves: the packed word and the output.
 use Rattle.std.specs.Prelude.{ℕ, List}
-use Rattle.answers.specs.declared.word.Answer.TheVariants.{Refused}
+use Rattle.answers.specs.Answer.{Refused}
 use Rattle.answers.specs.Word.{packed}
 
 pub record Written : Type 0 where

@@ -1,21 +1,54 @@
-// Document 01's refusals 15 to 18, order 1's 20, order 4's 21 and 22, order 7's 24; the contracts tie them to those of specs/Refusals.antt.
-#[derive(Drop)]
-pub struct Refusal;
+// Every refusal of a call: the catalogue's and the question's own, then document 01's 15 to 18, order 1's 20, order 4's 21 and 22, order 7's 24.
+ghost use Rattle.std.specs.Prelude.{◌≡◌};
+ghost use Rattle.answers.specs.declared.refusal.Refusal.TheVariants.{Catalogue, Question};
+ghost use Rattle.answers.specs.Refusal.{refusal_number};
+
+#[derive(Clone, Copy)]
+pub enum Refusal {
+    Catalogue(catalogue::refusal::Refusal),
+    Question(query::refusal::Refusal),
+    NotOrder,
+    TableTooShort,
+    TallyRefused,
+    NoSuchRowOrPredicate,
+    OutputTooShort,
+    TextMisspelled,
+    TypedOutputTooShort,
+    NoSuchReader,
+}
 
 impl Refusal {
-    pub const NOT_ORDER: u8 = 15;
+    // The paper's number.
+    pub fn number(self) -> u8
+        ensures { result ≡ refusal_number self }
+    {
+        match self {
+            Refusal::Catalogue(own) => own.number(),
+            Refusal::Question(own) => own.number(),
+            Refusal::NotOrder => 15,
+            Refusal::TableTooShort => 16,
+            Refusal::TallyRefused => 17,
+            Refusal::NoSuchRowOrPredicate => 18,
+            Refusal::OutputTooShort => 20,
+            Refusal::TextMisspelled => 21,
+            Refusal::TypedOutputTooShort => 22,
+            Refusal::NoSuchReader => 24,
+        }
+    }
+}
 
-    pub const TABLE_TOO_SHORT: u8 = 16;
+impl From<catalogue::refusal::Refusal> for Refusal {
+    ghost from_gives = { λ refusal r. r ≡ Catalogue refusal };
 
-    pub const TALLY_REFUSED: u8 = 17;
+    fn from(refusal: catalogue::refusal::Refusal) -> Refusal {
+        Refusal::Catalogue(refusal)
+    }
+}
 
-    pub const NO_SUCH_ROW_OR_PREDICATE: u8 = 18;
+impl From<query::refusal::Refusal> for Refusal {
+    ghost from_gives = { λ refusal r. r ≡ Question refusal };
 
-    pub const OUTPUT_TOO_SHORT: u8 = 20;
-
-    pub const TEXT_MISSPELLED: u8 = 21;
-
-    pub const TYPED_OUTPUT_TOO_SHORT: u8 = 22;
-
-    pub const NO_SUCH_READER: u8 = 24;
+    fn from(refusal: query::refusal::Refusal) -> Refusal {
+        Refusal::Question(refusal)
+    }
 }

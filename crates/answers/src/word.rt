@@ -1,12 +1,16 @@
 // The packed word in which a call's results travel to C.
 ghost use Rattle.std.specs.Prelude.{◌≡◌};
+ghost use Rattle.answers.specs.Answer.{answer_of};
 ghost use Rattle.answers.specs.Word.{packed, FitsWord, number_in, first_in, third_in};
 
-// What a call gives: a refusal, or its results in the order of the call's description.
-#[derive(Drop)]
-pub enum Answer {
-    Refused(u8),
-    Accepted { first: u64, second: u64, third: u64 },
+use crate::refusal::Refusal;
+
+// What a call that is not refused gives: its results in the order of the call's description.
+#[derive(Clone, Copy)]
+pub struct Answer {
+    pub first: u64,
+    pub second: u64,
+    pub third: u64,
 }
 
 // Bits 0 to 7 the number, 8 to 23 the first result, 24 to 39 the second, 40 to 63 the third: the lowest bit of each result.
@@ -21,17 +25,17 @@ impl PackedWord {
     pub const THIRD: u64 = 1 << 40;
 }
 
-pub fn pack(answer: Answer) -> u64
-    requires { FitsWord answer }
-    ensures { result ≡ packed answer }
+pub fn pack(answer: Result<Answer, Refusal>) -> u64
+    requires { FitsWord (answer_of answer) }
+    ensures { result ≡ packed (answer_of answer) }
 {
     match answer {
-        Answer::Refused(number) => fields::number::widen64(number),
-        Answer::Accepted {
-            first,
-            second,
-            third,
-        } => PackedWord::FIRST * first + PackedWord::SECOND * second + PackedWord::THIRD * third,
+        Ok(answer) => {
+            PackedWord::FIRST * answer.first
+                + PackedWord::SECOND * answer.second
+                + PackedWord::THIRD * answer.third
+        }
+        Err(refusal) => u64::from(refusal.number()),
     }
 }
 

@@ -1,82 +1,86 @@
--- The bytes of a word stored one after the other are the table with its bits.
-use Prim.Native.Nat.{ℕ, zero, suc, ◌+◌, ◌*◌, ◌/◌, ◌%◌, ◌^◌, ◌≤◌, ◌<◌}
-use native.Mathlib.Nat.{add-zero, mod-lt, div-one}
-use native.Mathlib.Omega.{arith}
-use mathlib.Core.Path.{◌≡◌, refl, ap, ◌∙◌, subst}
-use mathlib.Core.Logic.{◌⊎◌, inl, inr}
-use mathlib.Core.List.{List}
-use lib.ListN.{length, get_or, set, length-set}
-use lib.Dec.{eqb}
-use lib.Seq.{get_or-set_same, get_or-set_other}
-use Rattle.bools.specs.Bools.{same?}
+-- A table with the eight bytes of a word put in their place is the table with the word's bits.
+use Rattle.std.proofs.Common.{◌≡◌, ℕ, ◌+◌, ◌*◌, ◌/◌, ◌%◌, ◌^◌, ◌≤◌, ◌<◌, ◌⊎◌, inl, inr, true, false, ltb, refl, ◌-◌, zero, suc, List, ◌++◌, length, take, drop, get_or, eqb, sym, ap, ◌∙◌, arith, length-append, length-drop, get_or-take, get_or-drop, mod-lt}
+use Rattle.std.proofs.Math.ListN.{get_or-append, get_or-eq_default}
+use Rattle.std.proofs.Math.Nat.{div-one}
+use Rattle.std.proofs.Math.Seq.{length-take-le}
+use Rattle.std.proofs.lemmas.List.{get_or-append_right}
+use Rattle.std.specs.Int.{w64, to_le_bytes, bytes_low_first}
+use borrow.Rule.Slice.PartMut.{put_mid}
+use Rattle.bools.specs.Bools.{which, ltb_lt, ltb_le}
 use Rattle.fields.specs.Numbers.{Bytes}
+use Rattle.fields.proofs.ByteLaws.{bytes_take, bytes_drop, bytes_append}
 use Rattle.sets.specs.Set.{has}
 use Rattle.bitmaps.specs.Bit.{bit}
 use Rattle.bitmaps.proofs.BitLaws.{bit_at}
 use Rattle.bitmaps.specs.Word.{block_rows, word_size, WordPut}
 use Rattle.bitmaps.proofs.WordLaws.{byte_has}
 
-set_bytes : (t : List ℕ) (i x : ℕ) → i < length t → x < 256 → Bytes t → Bytes (set t i x)
-set_bytes t i x h l b j = go (same? j i)
-  where
-    go : (j ≡ i) ⊎ (j ≡ i → ⊥) → get_or (set t i x) j 0 < 256
-    go (inl y) = rw (y, get_or-set_same t i x 0 h) l
-    go (inr z) = rw (get_or-set_other t i j x 0 z) (b j)
+-- byte i of those from byte j on
+low_byte : (x j n i : ℕ) → i < n → get_or (bytes_low_first j n x) i 0 ≡ x / 256 ^ (j + i) % 256
+low_byte x j zero i l = absurd (omega arith)
+low_byte x zero (suc n) zero l = ap (λ (y : ℕ). y % 256) (sym (div-one x))
+low_byte x (suc j) (suc n) zero l = let z : suc j + 0 ≡ suc j = omega arith in rw z
+low_byte x j (suc n) (suc i) l = let z : j + suc i ≡ suc j + i = omega arith in rw z (low_byte x (suc j) n i (omega arith))
 
-module _ (t : List ℕ) (at x : ℕ) where
-  abbrev byte_of : ℕ → ℕ
-  byte_of i = x / 256 ^ i % 256
+module _ (t : List ℕ) (at x k : ℕ) (eight : k ≡ word_size) (fits : at + word_size ≤ length t) where
+  abbrev front : List ℕ
+  front = take at t
 
-  -- the first n bytes stored
-  abbrev stored : ℕ → List ℕ
-  stored zero = t
-  stored (suc n) = set (stored n) (at + n) (byte_of n)
+  abbrev word : List ℕ
+  word = to_le_bytes w64 x
 
-  stored_size : (n : ℕ) → length (stored n) ≡ length t
-  stored_size zero = refl
-  stored_size (suc n) = length-set (stored n) (at + n) (byte_of n) ∙ stored_size n
+  abbrev behind : List ℕ
+  behind = drop k (drop at t)
 
-  stored_bytes : (n : ℕ) → at + n ≤ length t → Bytes t → Bytes (stored n)
-  stored_bytes zero l b = b
-  stored_bytes (suc n) l b =
-      set_bytes (stored n) (at + n) (byte_of n) (omega (arith, stored_size n)) (mod-lt (x / 256 ^ n) (omega arith)) (stored_bytes n (omega arith) b)
+  abbrev stored : List ℕ
+  stored = put_mid at k t word
 
-  stored_here : (n i : ℕ) → i < n → at + n ≤ length t → get_or (stored n) (at + i) 0 ≡ byte_of i
-  stored_here zero i h l = absurd (omega arith)
-  stored_here (suc n) i h l = go (same? i n) (stored_here n i)
+  front_size : length front ≡ at
+  front_size = length-take-le at t (omega arith)
+
+  word_bytes : Bytes word
+  word_bytes i = go (which (ltb i 8))
     where
-      go : (i ≡ n) ⊎ (i ≡ n → ⊥) → (i < n → at + n ≤ length t → get_or (stored n) (at + i) 0 ≡ byte_of i) → get_or (stored (suc n)) (at + i) 0 ≡ byte_of i
-      go (inl e) less = rw e (get_or-set_same (stored n) (at + n) (byte_of n) 0 (omega (arith, stored_size n)))
-      go (inr ne) less = get_or-set_other (stored n) (at + n) (at + i) (byte_of n) 0 (λ e. ne (omega arith)) ∙ less (omega (arith, ne)) (omega arith)
+      go : (ltb i 8 ≡ true) ⊎ (ltb i 8 ≡ false) → get_or word i 0 < 256
+      go (inl y) = rw (low_byte x 0 8 i (ltb_lt i 8 y)) (mod-lt (x / 256 ^ (0 + i)) (omega arith))
+      go (inr y) = rw (get_or-eq_default word 0 (ltb_le i 8 y)) (omega arith)
 
-  stored_elsewhere : (n i : ℕ) → (i < at) ⊎ (at + n ≤ i) → get_or (stored n) i 0 ≡ get_or t i 0
-  stored_elsewhere zero i o = refl
-  stored_elsewhere (suc n) i (inl l) = get_or-set_other (stored n) (at + n) i (byte_of n) 0 (λ e. omega arith) ∙ stored_elsewhere n i (inl l)
-  stored_elsewhere (suc n) i (inr l) = get_or-set_other (stored n) (at + n) i (byte_of n) 0 (λ e. omega arith) ∙ stored_elsewhere n i (inr (omega arith))
+  stored_size : length stored ≡ length t
+  stored_size = omega (arith, length-append front (word ++ behind), length-append word behind, length-drop k (drop at t), length-drop at t, front_size)
 
-  module _ (fits : at + word_size ≤ length t) where
-    here : (d : ℕ) → d < block_rows → bit (stored 8) (at * 8 + d) ≡ has x d
-    here d h =
-        let p : at * 8 + d ≡ (at + d / 8) * 8 + d % 8 = omega arith in
-        ap (bit (stored 8)) p ∙ bit_at (stored 8) (at + d / 8) (d % 8) (mod-lt d (omega arith))
-        ∙ ap (λ (y : ℕ). has y (d % 8)) (stored_here 8 (d / 8) (omega arith) fits) ∙ byte_has x d
+  stored_here : (i : ℕ) → i < 8 → get_or stored (at + i) 0 ≡ x / 256 ^ i % 256
+  stored_here i l =
+      let z : at + i - at ≡ i = omega arith in
+      let y : 0 + i ≡ i = omega arith in
+      get_or-append_right front (word ++ behind) at (at + i) 0 front_size (omega arith)
+      ∙ rw z (get_or-append word behind 0 i l) ∙ low_byte x 0 8 i l ∙ ap (λ (j : ℕ). x / 256 ^ j % 256) y
 
-    elsewhere : (j : ℕ) → (j < at * 8) ⊎ (at * 8 + block_rows ≤ j) → bit (stored 8) j ≡ bit t j
-    unfolding bit
-    elsewhere j o = ap (λ (y : ℕ). eqb (y / 2 ^ (j % 8) % 2) 1) (stored_elsewhere 8 (j / 8) (side o))
-      where
-        side : (j < at * 8) ⊎ (at * 8 + block_rows ≤ j) → (j / 8 < at) ⊎ (at + 8 ≤ j / 8)
-        side (inl l) = inl (omega arith)
-        side (inr l) = inr (omega arith)
+  stored_elsewhere : (i : ℕ) → (i < at) ⊎ (at + 8 ≤ i) → get_or stored i 0 ≡ get_or t i 0
+  stored_elsewhere i (inl l) = get_or-append front (word ++ behind) 0 i (omega (arith, front_size)) ∙ get_or-take at t i 0 l
+  stored_elsewhere i (inr l) =
+      let z : at + (k + (i - at - 8)) ≡ i = omega arith in
+      get_or-append_right front (word ++ behind) at i 0 front_size (omega arith)
+      ∙ get_or-append_right word behind 8 (i - at) 0 refl (omega arith)
+      ∙ get_or-drop k (drop at t) (i - at - 8) 0 ∙ get_or-drop at t (k + (i - at - 8)) 0 ∙ ap (λ (j : ℕ). get_or t j 0) z
 
-    -- the code's first store is at `at` itself, and of x itself
-    abbrev eight_stored : (place first : ℕ) → List ℕ
-    eight_stored place first =
-        set (set (set (set (set (set (set (set t place (first % 256)) (at + 1) (byte_of 1)) (at + 2) (byte_of 2)) (at + 3) (byte_of 3)) (at + 4) (byte_of 4)) (at + 5) (byte_of 5))
-        (at + 6) (byte_of 6)) (at + 7) (byte_of 7)
+  here : (d : ℕ) → d < block_rows → bit stored (at * 8 + d) ≡ has x d
+  here d h =
+      let p : at * 8 + d ≡ (at + d / 8) * 8 + d % 8 = omega arith in
+      ap (bit stored) p ∙ bit_at stored (at + d / 8) (d % 8) (mod-lt d (omega arith))
+      ∙ ap (λ (y : ℕ). has y (d % 8)) (stored_here (d / 8) (omega arith)) ∙ byte_has x d
 
-    pub word_put : WordPut t at x (eight_stored at x)
-    word_put =
-        subst (λ (p : ℕ). WordPut t at x (eight_stored p x)) (add-zero at)
-        (subst (λ (y : ℕ). WordPut t at x (eight_stored (at + 0) y)) (div-one x)
-        (record { size = stored_size 8; bytes = stored_bytes 8 fits; here = here; elsewhere = elsewhere }))
+  elsewhere : (j : ℕ) → (j < at * 8) ⊎ (at * 8 + block_rows ≤ j) → bit stored j ≡ bit t j
+  unfolding bit
+  elsewhere j o = ap (λ (y : ℕ). eqb (y / 2 ^ (j % 8) % 2) 1) (stored_elsewhere (j / 8) (side o))
+    where
+      side : (j < at * 8) ⊎ (at * 8 + block_rows ≤ j) → (j / 8 < at) ⊎ (at + 8 ≤ j / 8)
+      side (inl l) = inl (omega arith)
+      side (inr l) = inr (omega arith)
+
+  pub word_put : WordPut t at x stored
+  word_put = record {
+    size = stored_size;
+    bytes = λ b. bytes_append front (word ++ behind) (bytes_take t at b) (bytes_append word behind word_bytes (bytes_drop (drop at t) k (bytes_drop t at b)));
+    here = here;
+    elsewhere = elsewhere;
+  }

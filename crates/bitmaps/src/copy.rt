@@ -16,12 +16,9 @@ pub fn copy_lines(from: &[u8], to: &mut [u8], n: usize, size: usize)
     requires { (size ≤ line_size) × (n * line_size ≤ length from.now) × (n * size ≤ length to.old) }
     ensures { to.new ≡ put_front (lines_of size from.now n) to.old }
 {
-    let mut c: usize = 0;
-    let mut line: usize = 0;
-    let mut at: usize = 0;
-    while c < n {
+    let mut at = 0;
+    for c in 0..n {
+        let line = c * Line::SIZE;
         at = fields::output::put(to, at, &from[line..line + size]);
-        c += 1;
-        line += Line::SIZE;
     }
 }

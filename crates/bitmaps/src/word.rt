@@ -16,22 +16,12 @@ pub fn put_word(table: &mut [u8], at: usize, x: u64)
     requires { at + word_size ≤ length table.old }
     ensures { WordPut table.old at x table.new }
 {
-    table[at] = (x % 256) as u8;
-    table[at + 1] = (x / 0x100 % 256) as u8;
-    table[at + 2] = (x / 0x1_0000 % 256) as u8;
-    table[at + 3] = (x / 0x100_0000 % 256) as u8;
-    table[at + 4] = (x / 0x1_0000_0000 % 256) as u8;
-    table[at + 5] = (x / 0x100_0000_0000 % 256) as u8;
-    table[at + 6] = (x / 0x1_0000_0000_0000 % 256) as u8;
-    table[at + 7] = (x / 0x100_0000_0000_0000 % 256) as u8;
+    table[at..at + Word::SIZE].copy_from_slice(&x.to_le_bytes());
 }
 
 // The rows of a block at which so many rows are left.
 pub fn rows_of(left: usize) -> u64
     ensures { result ≡ rows_set left }
 {
-    if Word::ROWS <= left {
-        return sets::below(64);
-    }
-    sets::below(fields::number::narrow(left))
+    sets::below(left.min(Word::ROWS) as u8)
 }

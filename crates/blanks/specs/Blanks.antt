@@ -1,6 +1,7 @@
 -- The blanks among the probes of a task, told from the catalogue's bytes.
-use Rattle.std.specs.Prelude.{ℕ, ◌+◌, ◌<◌, ◌≡◌, Bool, true, false, not, ◌&&◌, List, length, get_or}
-use Rattle.bitmaps.specs.Table.{line_bits, line_bit}
+use Rattle.std.specs.Prelude.{ℕ, ◌+◌, ◌*◌, ◌≤◌, ◌<◌, ◌≡◌, Bool, true, false, not, ◌&&◌, List, length, get_or}
+use Rattle.bitmaps.specs.Table.{line_size, line_bits, line_bit}
+use Rattle.bitmaps.specs.Word.{block_rows}
 use Rattle.predicate.specs.declared.outcome.Outcome.{Outcome}
 use Rattle.predicate.specs.Meaning.{outcome}
 use Rattle.predicate.specs.Outcome.{is_blank}
@@ -20,6 +21,28 @@ NoesIn due met r = Sifted (λ d. not (has met d)) due r
 abbrev pub outcome_on : Task → (row c : ℕ) → Outcome
 outcome_on T row c = outcome T.catalogue (predicate_at T.query c) row
 
+-- probed at a row, with outcome blank
+abbrev pub blank_probe : Task → (probed : List ℕ) → (row c : ℕ) → Bool
+blank_probe T P row c = line_bit P c row && is_blank (outcome_on T row c)
+
+-- the probes of predicate c as its line of one table marks them, and those of a yes that of another; and a plan that shows the predicate
+pub record ProbesAt (T : Task) (b q plan probed met : List ℕ) (c : ℕ) : Type 0 where
+  pub line : c * line_size + line_size ≤ length probed
+  pub met_line : c * line_size + line_size ≤ length met
+  pub low : c < predicate_limit
+  pub plan_size_lem : length plan ≡ plan_size
+  pub accessed : Accessed b q T.catalogue (predicate_at T.query c) (access_at plan c)
+  pub inside : (row : ℕ) → row < line_bits → line_bit probed c row ≡ true → row < T.catalogue.rows
+  pub yes : (row : ℕ) → row < T.catalogue.rows → line_bit met c row ≡ true → is_blank (outcome_on T row c) ≡ false
+
+abbrev pub HasProbesAt : (b plan probed met : List ℕ) → (c : ℕ) → Type 0
+HasProbesAt b plan P M c = (T : Task) × (q : List ℕ) × ProbesAt T b q plan P M c
+
+-- the rows of the block at `base` at which predicate c was probed with outcome blank
+abbrev pub BlankRows : (b plan probed met : List ℕ) → (c base r : ℕ) → Type 0
+BlankRows b plan P M c base r =
+    (T : Task) (q : List ℕ) → ProbesAt T b q plan P M c → (d : ℕ) → d < block_rows → has r d ≡ blank_probe T P (base + d) c
+
 -- the probes of a task's turns as one table marks them, and those of a yes another; and a plan that shows their predicates
 pub record ProbesOf (T : Task) (b q plan turns probed met : List ℕ) : Type 0 where
   pub lines : HasLines turns probed
@@ -35,7 +58,7 @@ HasProbes b plan turns P M = (T : Task) × (q : List ℕ) × ProbesOf T b q plan
 
 -- turn i was probed at a row, with outcome blank
 abbrev pub blank_turn : Task → (turns probed : List ℕ) → (row i : ℕ) → Bool
-blank_turn T turns P row i = line_bit P (get_or turns i 0) row && is_blank (outcome_on T row (get_or turns i 0))
+blank_turn T turns P row i = blank_probe T P row (get_or turns i 0)
 
 -- the sets of these turns for the rows of a block, of the first `count` turns and of all
 abbrev pub BlanksBelow : (count : ℕ) → (b plan turns probed met : List ℕ) → (base : ℕ) → (gathered : List ℕ) → Type 0

@@ -3,7 +3,7 @@
 
 ghost use Rattle.std.specs.Prelude.{◌≡◌, length, get_or};
 ghost use Rattle.bitmaps.specs.Word.{block_rows, BlockAt};
-ghost use Rattle.blanks.specs.Blanks.{NoesIn, HasProbes, BlankTurns};
+ghost use Rattle.blanks.specs.Blanks.{NoesIn, HasProbesAt, BlankRows, HasProbes, BlankTurns};
 
 use bitmaps::copy::Line;
 
@@ -15,6 +15,23 @@ fn rows_of_no(due: u64, met: u64) -> u64
         return due;
     }
     sets::minus(due, met)
+}
+
+// The rows of the block at which predicate c was probed with outcome blank.
+fn blank_rows(
+    catalogue: &[u8],
+    plan: &[usize],
+    probed: &[u8],
+    met: &[u8],
+    c: usize,
+    base: usize,
+) -> u64
+    requires { HasProbesAt catalogue.now plan.now probed.now met.now c × BlockAt base }
+    ensures { BlankRows catalogue.now plan.now probed.now met.now c base result }
+{
+    let at = c * Line::SIZE + base / 8;
+    let rows = rows_of_no(words::word_at(probed, at), words::word_at(met, at));
+    access::blank_of(catalogue, plan, c, base, rows)
 }
 
 // A run takes a blank for a no and keeps no table of them; so those among the probed rows are worked out again, turn by turn.
@@ -32,13 +49,6 @@ pub fn gather_blanks(
     ensures { BlankTurns catalogue.now plan.now turns.now probed.now met.now
         base gathered.new }
 {
-    let mut i: usize = 0;
-    while i < turns.len() {
-        let c = fields::number::widen(turns[i]);
-        let at = c * Line::SIZE + base / 8;
-        let rows = rows_of_no(words::word_at(probed, at), words::word_at(met, at));
-        let blank = access::blank_of(catalogue, plan, c, base, rows);
-        gather::add_turn(gathered, blank, fields::number::narrow(i));
-        i += 1;
-    }
+    let rows_of = |c| blank_rows(catalogue, plan, probed, met, c, base);
+    gather::gather_words(turns, rows_of, gathered);
 }

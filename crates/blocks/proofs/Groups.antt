@@ -1,14 +1,18 @@
 -- One group at every row of a block: words taken apart bit by bit.
-use Prim.Native.Nat.{ℕ, ◌+◌, ◌-◌, ◌≤◌, ◌<◌}
+use Prim.Native.Nat.{ℕ, zero, suc, ◌+◌, ◌-◌, ◌≤◌, ◌<◌}
 use native.Mathlib.Omega.{arith}
 use mathlib.Core.Path.{◌≡◌, refl, sym, ap, ap₂, ◌∙◌, fun_ext}
 use mathlib.Core.Bool.{Bool, true, false, ◌&&◌, ◌||◌, not, cond}
 use mathlib.Core.Logic.{◌⊎◌, inl, inr}
 use mathlib.Core.List.{List}
-use lib.ListN.{length, length-set, get_or, set}
+use lib.ListN.{length, length-set, get_or, set, take, drop}
 use lib.Seq.{get_or-set_same, get_or-set_other}
 use lib.Bits.{bit_and, bit_or}
-use Rattle.bools.specs.Bools.{which, iff_eq, or_left, or_right, or_cases, same?}
+use Rattle.std.proofs.Common.{zero-add, add-zero, add-suc, suc-add, length-append, length-take, length-drop}
+use Rattle.std.proofs.lemmas.Grind.{common_steps}
+use borrow.Rule.Slice.PartMut.{put_mid}
+use lib.Dec.{ltb}
+use Rattle.bools.specs.Bools.{which, clash, ltb_lt, ltb_le, iff_eq, or_left, or_right, or_cases, same?}
 use Rattle.strategy.specs.Tree.{settles, InSpan}
 use Rattle.strategy.proofs.TreeLaws.{settles_yes, settles_no}
 use Rattle.strategy.specs.Live.{Live, Step, in_span, without, meets, through}
@@ -18,28 +22,46 @@ use Rattle.sets.specs.Set.{has, set_minus}
 use Rattle.sets.specs.SetLaws.{has_and, has_or, has_none, minus_has, minus_and}
 use Rattle.blocks.specs.Block.{row_live, row_step, TakenOut, StillActiveIs, SettledRows, Passed}
 
--- THE LOOP OVER THE WORDS OF A GROUP
+-- WHERE A GROUP IS LIVE
 
-pub none_out : (a c gone : ℕ) (L : List ℕ) → c ≡ a → TakenOut a (c - a) gone 0 L L
-none_out a c gone L e = record {
+-- live at the same of n places, wherever these begin
+meets_same : (a b n : ℕ) (l m : Live) → ((k : ℕ) → k < n → l (a + k) ≡ m (b + k)) → meets a n l ≡ meets b n m
+unfolding meets
+meets_same a b zero l m same = refl
+meets_same a b (suc n) l m same =
+    ap₂ (λ (p q : Bool). p || q) (rw (add-zero a, add-zero b) at (same 0 (omega arith)))
+    (meets_same (suc a) (suc b) n l m (λ k h. rw (suc-add a k, suc-add b k) (rw (add-suc a k, add-suc b k) at (same (suc k) (omega arith)))))
+
+meets_more : (a n : ℕ) (l : Live) → meets a (n + 1) l ≡ (meets a n l || l (a + n))
+meets_more a n l =
+    iff_eq (meets a (n + 1) l) (meets a n l || l (a + n))
+    (λ y. (let r = meets_gives a (n + 1) l y in from r.0 r.1 r.2 (same? r.0 (a + n))))
+    (λ y. to (or_cases (meets a n l) (l (a + n)) y))
+  where
+    from : (k : ℕ) → InSpan a (n + 1) k → l k ≡ true → (k ≡ a + n) ⊎ (k ≡ a + n → ⊥) → (meets a n l || l (a + n)) ≡ true
+    from k i y (inl z) = or_right (meets a n l) (ap l (sym z) ∙ y)
+    from k i y (inr ne) = or_left (l (a + n)) (meets_yes a n l k (omega arith) y)
+
+    to : (meets a n l ≡ true) ⊎ (l (a + n) ≡ true) → meets a (n + 1) l ≡ true
+    to (inl y) = let r = meets_gives a n l y in let i = r.1 in meets_yes a (n + 1) l r.0 (omega arith) r.2
+    to (inr y) = meets_yes a (n + 1) l (a + n) (omega arith) y
+
+-- THE LOOP OVER THE WORDS OF A GROUP, as a list of their own
+
+pub none_out : (gone : ℕ) (L : List ℕ) → TakenOut 0 0 gone 0 L L
+none_out gone L = record {
   size = refl;
-  words = λ q d. rw (in_span_no a (c - a) q (λ r. omega arith));
-  meeting = λ d. has_none d ∙ sym (meets_no a (c - a) (row_live L d) (λ k r. absurd (omega arith)));
+  words = λ q d. rw (in_span_no 0 0 q (λ r. omega arith));
+  meeting = λ d. has_none d ∙ sym (meets_no 0 0 (row_live L d) (λ k r. absurd (omega arith)));
 }
 
 -- the word of c, whose rest is x
-module _ (a c gone left x : ℕ) (L N : List ℕ) (l : a ≤ c) (h : c < length N) (e : x ≡ set_minus (get_or N c 0) gone) (T : TakenOut a (c - a) gone left L N) where
-  before_c : in_span a (c - a) c ≡ false
-  before_c = in_span_no a (c - a) c (λ r. omega arith)
-
-  at_c : in_span a (c + 1 - a) c ≡ true
-  at_c = in_span_yes a (c + 1 - a) c (omega arith)
-
-  off_c : (k : ℕ) → (k ≡ c → ⊥) → in_span a (c - a) k ≡ in_span a (c + 1 - a) k
+module _ (c gone left x : ℕ) (L N : List ℕ) (h : c < length N) (e : x ≡ set_minus (get_or N c 0) gone) (T : TakenOut 0 c gone left L N) where
+  off_c : (k : ℕ) → (k ≡ c → ⊥) → in_span 0 c k ≡ in_span 0 (c + 1) k
   off_c k ne =
-      iff_eq (in_span a (c - a) k) (in_span a (c + 1 - a) k)
-      (λ y. (let r = in_span_of a (c - a) k y in in_span_yes a (c + 1 - a) k (omega arith)))
-      (λ y. (let r = in_span_of a (c + 1 - a) k y in in_span_yes a (c - a) k (omega arith)))
+      iff_eq (in_span 0 c k) (in_span 0 (c + 1) k)
+      (λ y. (let r = in_span_of 0 c k y in in_span_yes 0 (c + 1) k (omega arith)))
+      (λ y. (let r = in_span_of 0 (c + 1) k y in in_span_yes 0 c k (omega arith)))
 
   same_at : (d : ℕ) → row_live (set N c x) d c ≡ has x d
   same_at d = ap (λ (z : ℕ). has z d) (get_or-set_same N c x 0 h)
@@ -47,63 +69,77 @@ module _ (a c gone left x : ℕ) (L N : List ℕ) (l : a ≤ c) (h : c < length 
   same_off : (k d : ℕ) → (k ≡ c → ⊥) → row_live (set N c x) d k ≡ row_live N d k
   same_off k d ne = ap (λ (z : ℕ). has z d) (get_or-set_other N c k x 0 ne)
 
-  words_next : (k d : ℕ) → (k ≡ c) ⊎ (k ≡ c → ⊥) → row_live (set N c x) d k ≡ cond (in_span a (c + 1 - a) k && has gone d) false (row_live L d k)
+  words_next : (k d : ℕ) → (k ≡ c) ⊎ (k ≡ c → ⊥) → row_live (set N c x) d k ≡ cond (in_span 0 (c + 1) k && has gone d) false (row_live L d k)
   words_next k d (inl q) =
-      rw (q, same_at d, at_c, e)
+      rw (q, same_at d, in_span_yes 0 (c + 1) c (omega arith), e)
       (minus_has (get_or N c 0) gone d
-      ∙ ap (λ (b : Bool). cond (has gone d) false b) (T.words c d ∙ ap (λ (b : Bool). cond (b && has gone d) false (row_live L d c)) before_c))
+      ∙ ap (λ (b : Bool). cond (has gone d) false b)
+      (T.words c d ∙ ap (λ (b : Bool). cond (b && has gone d) false (row_live L d c)) (in_span_no 0 c c (λ r. omega arith))))
   words_next k d (inr ne) = rw (same_off k d ne, ← off_c k ne) (T.words k d)
 
-  meeting_to : (d : ℕ) → (has left d ≡ true) ⊎ (has x d ≡ true) → meets a (c + 1 - a) (row_live (set N c x) d) ≡ true
-  meeting_to d (inl y) =
-      let r = meets_gives a (c - a) (row_live N d) (sym (T.meeting d) ∙ y) in
-      let i = r.1 in
-      let ne : r.0 ≡ c → ⊥ = λ z. omega arith in
-      meets_yes a (c + 1 - a) (row_live (set N c x) d) r.0 (omega arith) (same_off r.0 d ne ∙ r.2)
-  meeting_to d (inr y) = meets_yes a (c + 1 - a) (row_live (set N c x) d) c (omega arith) (same_at d ∙ y)
+  meeting_next : (d : ℕ) → meets 0 (c + 1) (row_live (set N c x) d) ≡ (has left d || has x d)
+  meeting_next d =
+      rw zero-add at (meets_more 0 c (row_live (set N c x) d))
+      ∙ ap₂ (λ (p q : Bool). p || q)
+      (meets_same 0 0 c (row_live (set N c x) d) (row_live N d) (λ k l. rw zero-add (same_off k d (λ z. omega arith))) ∙ sym (T.meeting d)) (same_at d)
 
-  meeting_from : (d k : ℕ) → InSpan a (c + 1 - a) k → row_live (set N c x) d k ≡ true → (k ≡ c) ⊎ (k ≡ c → ⊥) → (has left d || has x d) ≡ true
-  meeting_from d k i y (inl z) = or_right (has left d) (sym (same_at d) ∙ ap (row_live (set N c x) d) (sym z) ∙ y)
-  meeting_from d k i y (inr ne) =
-      or_left (has x d)
-      (T.meeting d ∙ meets_yes a (c - a) (row_live N d) k (in_span_of a (c - a) k (off_c k ne ∙ in_span_yes a (c + 1 - a) k i)) (sym (same_off k d ne) ∙ y))
-
-  pub out_next : TakenOut a (c + 1 - a) gone (bit_or left x) L (set N c x)
+  pub out_next : TakenOut 0 (c + 1) gone (bit_or left x) L (set N c x)
   out_next = record {
     size = length-set N c x ∙ T.size;
     words = λ k d. words_next k d (same? k c);
-    meeting = λ d. has_or left x d
-        ∙ iff_eq (has left d || has x d) (meets a (c + 1 - a) (row_live (set N c x) d))
-        (λ y. meeting_to d (or_cases (has left d) (has x d) y))
-        (λ y. (let r = meets_gives a (c + 1 - a) (row_live (set N c x) d) y in meeting_from d r.0 r.1 r.2 (same? r.0 c)));
+    meeting = λ d. has_or left x d ∙ sym (meeting_next d);
   }
 
-pub out_end : (a c e gone left : ℕ) (L N : List ℕ) → c ≡ e → TakenOut a (c - a) gone left L N → TakenOut a (e - a) gone left L N
-out_end a c e gone left L N x T = rw (← x) T
+-- a word of the part of n words from a on
+part_word : (a n k : ℕ) (L : List ℕ) → k < n → get_or (take n (drop a L)) k 0 ≡ get_or L (a + k) 0
+part_word a n k L l = grind (arith, common_steps)
+
+-- put back among the words, from a on
+module _ (a n gone left : ℕ) (L N : List ℕ) (fits : a + n ≤ length L) (T : TakenOut 0 n gone left (take n (drop a L)) N) where
+  abbrev whole : List ℕ
+  whole = put_mid a n L N
+
+  part_size : length N ≡ n
+  part_size = T.size ∙ simp (length-take, length-drop) (omega arith)
+
+  within : (k : ℕ) → k < n → get_or whole (a + k) 0 ≡ get_or N k 0
+  within k l = let s = part_size in grind (arith, common_steps)
+
+  outside : (c : ℕ) → (InSpan a n c → ⊥) → get_or whole c 0 ≡ get_or L c 0
+  outside c off = go (which (ltb c a)) (which (ltb c (a + n)))
+    where
+      go : (ltb c a ≡ true) ⊎ (ltb c a ≡ false) → (ltb c (a + n) ≡ true) ⊎ (ltb c (a + n) ≡ false) → get_or whole c 0 ≡ get_or L c 0
+      go (inl y) w = let s = part_size in let l : c < a = ltb_lt c a y in grind (arith, common_steps)
+      go (inr y) (inl w) = absurd (off (ltb_le c a y, ltb_lt c (a + n) w))
+      go (inr y) (inr w) = let s = part_size in let m : a + n ≤ c = ltb_le c (a + n) w in grind (arith, common_steps)
+
+  whole_words : (c d : ℕ) → (in_span a n c ≡ true) ⊎ (in_span a n c ≡ false) → row_live whole d c ≡ cond (in_span a n c && has gone d) false (row_live L d c)
+  whole_words c d (inl y) =
+      let r = in_span_of a n c y in
+      let z : a + (c - a) ≡ c = omega arith in
+      let was = part_word a n (c - a) L (omega arith) in
+      rw y
+      (ap (λ (x : ℕ). has x d) (sym (ap (λ (x : ℕ). get_or whole x 0) z) ∙ within (c - a) (omega arith)) ∙ T.words (c - a) d
+      ∙ ap₂ (λ (b : Bool) (x : ℕ). cond (b && has gone d) false (has x d)) (in_span_yes 0 n (c - a) (omega arith)) (was ∙ ap (λ (x : ℕ). get_or L x 0) z))
+  whole_words c d (inr y) = rw y (ap (λ (x : ℕ). has x d) (outside c (λ r. clash (in_span_yes a n c r) y)))
+
+  pub out_end : TakenOut a n gone left L whole
+  out_end = record {
+    size = let s = part_size in simp (length-append, length-take, length-drop) (omega arith);
+    words = λ c d. whole_words c d (which (in_span a n c));
+    meeting = λ d. T.meeting d ∙ sym (meets_same a 0 n (row_live whole d) (row_live N d) (λ k l. rw zero-add (ap (λ (x : ℕ). has x d) (within k l))));
+  }
 
 -- THE SAME WHERE NO ROW IS TAKEN OUT
 
-meets_more : (a c : ℕ) (l : Live) → a ≤ c → meets a (c + 1 - a) l ≡ (meets a (c - a) l || l c)
-meets_more a c l h =
-    iff_eq (meets a (c + 1 - a) l) (meets a (c - a) l || l c)
-    (λ y. (let r = meets_gives a (c + 1 - a) l y in from r.0 r.1 r.2 (same? r.0 c)))
-    (λ y. to (or_cases (meets a (c - a) l) (l c) y))
-  where
-    from : (k : ℕ) → InSpan a (c + 1 - a) k → l k ≡ true → (k ≡ c) ⊎ (k ≡ c → ⊥) → (meets a (c - a) l || l c) ≡ true
-    from k i y (inl z) = or_right (meets a (c - a) l) (ap l (sym z) ∙ y)
-    from k i y (inr ne) = or_left (l c) (meets_yes a (c - a) l k (omega arith) y)
+pub none_yet : (a active : ℕ) (L : List ℕ) → StillActiveIs a 0 active active L
+none_yet a active L d = sym (ap (λ (b : Bool). cond b false (has active d)) (meets_no a 0 (row_live L d) (λ k r. absurd (omega arith))))
 
-    to : (meets a (c - a) l ≡ true) ⊎ (l c ≡ true) → meets a (c + 1 - a) l ≡ true
-    to (inl y) = let r = meets_gives a (c - a) l y in let i = r.1 in meets_yes a (c + 1 - a) l r.0 (omega arith) r.2
-    to (inr y) = meets_yes a (c + 1 - a) l c (omega arith) y
-
-pub none_yet : (a c active : ℕ) (L : List ℕ) → c ≡ a → StillActiveIs a (c - a) active active L
-none_yet a c active L e d = sym (ap (λ (b : Bool). cond b false (has active d)) (meets_no a (c - a) (row_live L d) (λ k r. absurd (omega arith))))
-
-pub none_next : (a c active left next : ℕ) (L : List ℕ) → a ≤ c → next ≡ set_minus left (get_or L c 0) → StillActiveIs a (c - a) active left L → StillActiveIs a (c + 1 - a) active next L
-none_next a c active left next L h e T d =
-    ap (λ (z : ℕ). has z d) e ∙ minus_has left (get_or L c 0) d ∙ ap (cond (row_live L d c) false) (T d)
-    ∙ both_out (meets a (c - a) (row_live L d)) (row_live L d c) (has active d) ∙ ap (λ (b : Bool). cond b false (has active d)) (sym (meets_more a c (row_live L d) h))
+-- one word more, read from the part of all of them
+pub none_next : (a n all active left next : ℕ) (L : List ℕ) → n < all → next ≡ set_minus left (get_or (take all (drop a L)) n 0) → StillActiveIs a n active left L → StillActiveIs a (n + 1) active next L
+none_next a n all active left next L l e T d =
+    ap (λ (z : ℕ). has z d) (e ∙ ap (set_minus left) (part_word a all n L l)) ∙ minus_has left (get_or L (a + n) 0) d ∙ ap (cond (row_live L d (a + n)) false) (T d)
+    ∙ both_out (meets a n (row_live L d)) (row_live L d (a + n)) (has active d) ∙ ap (λ (b : Bool). cond b false (has active d)) (sym (meets_more a n (row_live L d)))
   where
     both_out : (p q r : Bool) → cond q false (cond p false r) ≡ cond (p || q) false r
     both_out true true r = refl
@@ -116,20 +152,17 @@ neither true = refl
 neither false = refl
 
 -- where no row is left, none is at the end
-pub none_early : (a c e active left : ℕ) (L : List ℕ) → c ≤ e → left ≡ 0 → StillActiveIs a (c - a) active left L → StillActiveIs a (e - a) active 0 L
-none_early a c e active left L h z T d = has_none d ∙ sym (go (meets a (c - a) (row_live L d)) refl)
+pub none_early : (a n all active left : ℕ) (L : List ℕ) → n ≤ all → left ≡ 0 → StillActiveIs a n active left L → StillActiveIs a all active 0 L
+none_early a n all active left L h z T d = has_none d ∙ sym (go (meets a n (row_live L d)) refl)
   where
-    go : (p : Bool) → meets a (c - a) (row_live L d) ≡ p → cond (meets a (e - a) (row_live L d)) false (has active d) ≡ false
+    go : (p : Bool) → meets a n (row_live L d) ≡ p → cond (meets a all (row_live L d)) false (has active d) ≡ false
     go true y =
-        let r = meets_gives a (c - a) (row_live L d) y in
+        let r = meets_gives a n (row_live L d) y in
         let i = r.1 in
-        ap (λ (b : Bool). cond b false (has active d)) (meets_yes a (e - a) (row_live L d) r.0 (omega arith) r.2)
+        ap (λ (b : Bool). cond b false (has active d)) (meets_yes a all (row_live L d) r.0 (omega arith) r.2)
     go false y =
         let f : has active d ≡ false = sym (T d ∙ ap (λ (b : Bool). cond b false (has active d)) y) ∙ ap (λ (x : ℕ). has x d) z ∙ has_none d in
-        ap (cond (meets a (e - a) (row_live L d)) false) f ∙ neither (meets a (e - a) (row_live L d))
-
-pub none_end : (a c e active left : ℕ) (L : List ℕ) → c ≡ e → StillActiveIs a (c - a) active left L → StillActiveIs a (e - a) active left L
-none_end a c e active left L x T = rw (← x) T
+        ap (cond (meets a all (row_live L d)) false) f ∙ neither (meets a all (row_live L d))
 
 -- THE ROWS THAT A GROUP SETTLES
 

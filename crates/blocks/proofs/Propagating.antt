@@ -2,14 +2,12 @@
 use Prim.Native.Nat.{ℕ, suc, ◌+◌, ◌-◌, ◌*◌, ◌≤◌, ◌<◌}
 use native.Mathlib.Omega.{arith}
 use mathlib.Core.Path.{◌≡◌, refl, sym, ap, ap₂, ◌∙◌}
-use mathlib.Core.Bool.{Bool}
 use mathlib.Core.List.{List, [], ◌∷◌}
-use lib.ListN.{length, get_or}
+use lib.ListN.{length}
 use Rattle.strategy.specs.Propagation.{Ancestor, propagate}
 use Rattle.strategy.proofs.PropagationLaws.{propagate_stopped}
 use Rattle.sets.specs.Set.{has}
 use Rattle.sets.specs.SetLaws.{has_none}
-use Rattle.query.specs.Decode.{settling_of}
 use Rattle.ancestors.specs.Ancestors.{ancestors_width, ancestor_place, height_at, ancestor_at, ancestors_from, ancestors_of}
 use Rattle.blocks.specs.Block.{row_step, Passed, Propagated, HasAncestor}
 
@@ -67,11 +65,6 @@ module _ (A : List ℕ) (c met due : ℕ) (L : List ℕ) where
         size = P.size ∙ C.size;
         rows = λ d. sym (propagate_stopped (has met d) (ancestors_left A c (k + 1)) (row_step M next d) (ap (λ (x : ℕ). has x d) e ∙ has_none d)) ∙ propagate_next.left d;
       }
-
--- the three bytes of an ancestor, as the code reads them
-pub ancestor_passed : (A : List ℕ) (i first end : ℕ) (k : Bool) (met active next : ℕ) (L N : List ℕ) → first ≡ get_or A i 0 → end ≡ get_or A (i + 1) 0 → k ≡ settling_of (get_or A (i + 2) 0)
-    → Passed (record { settling = k; first = first; count = end - first }) met active next L N → Passed (ancestor_at A i) met active next L N
-ancestor_passed A i first end k met active next L N e f g P = rw (← e, ← f, ← g) P
 
 -- a span of some words is one of as many others
 pub span_of : {A : List ℕ} {i m n : ℕ} → n ≡ m → HasAncestor A i m → HasAncestor A i n

@@ -7,13 +7,10 @@ fn take_out(live: &mut [u64], a: usize, e: usize, gone: u64) -> u64
     requires { (a ≤ e) × (e ≤ length live.old) }
     ensures { TakenOut a (e - a) gone result live.old live.new }
 {
-    let mut left: u64 = 0;
-    let mut c = a;
-    while c < e {
-        let rest = sets::minus(live[c], gone);
-        live[c] = rest;
-        left = left | rest;
-        c += 1;
+    let mut left = 0;
+    for rows in &mut live[a..e] {
+        *rows = sets::minus(*rows, gone);
+        left |= *rows;
     }
     left
 }
@@ -24,13 +21,11 @@ fn still_active(live: &[u64], a: usize, e: usize, active: u64) -> u64
     ensures { StillActiveIs a (e - a) active result live.now }
 {
     let mut left = active;
-    let mut c = a;
-    while c < e {
-        left = sets::minus(left, live[c]);
+    for rows in &live[a..e] {
+        left = sets::minus(left, *rows);
         if left == 0 {
             return 0;
         }
-        c += 1;
     }
     left
 }
@@ -40,13 +35,15 @@ fn settled_rows(settling: bool, active: u64, met: u64) -> u64
     ensures { SettledRows settling active met result }
 {
     if settling {
-        return active & met;
+        active & met
+    } else {
+        sets::minus(active, met)
     }
-    sets::minus(active, met)
 }
 
 // Outward through the group of the predicates from a up to e; the rows at which the propagation goes on: the active ones at which
 // nothing of the group is live any more, as where the outcome settles it. Where it settles the group at no row, no word changes.
+// The group's a, e and settling are no struct: docs/ARCHITECTURE.md names this public function, and its callers keep its parameters.
 pub fn pass_group(
     live: &mut [u64],
     a: usize,

@@ -11,8 +11,8 @@ fn pass_ancestor(ancestors: &[u8], i: usize, live: &mut [u64], active: u64, met:
     requires { HasAncestor ancestors.now i (length live.old) }
     ensures { Passed (ancestor_at ancestors.now i) met active result live.old live.new }
 {
-    let first = fields::number::widen(ancestors[i]);
-    let end = fields::number::widen(ancestors[i + Ancestors::END]);
+    let first = usize::from(ancestors[i + Ancestors::FIRST]);
+    let end = usize::from(ancestors[i + Ancestors::END]);
     let settling = ancestors[i + Ancestors::TAG] == Group::DISJUNCTION_TAG;
     crate::group::pass_group(live, first, end, settling, active, met)
 }
@@ -24,15 +24,13 @@ pub fn propagate_rows(ancestors: &[u8], c: usize, live: &mut [u64], due: u64, me
     ensures { Propagated (ancestors_of ancestors.now c) met due result live.old live.new }
 {
     let line = Ancestors::LINE_SIZE * c;
-    let height = fields::number::widen(ancestors[line]);
     let mut active = due;
-    let mut k: usize = 0;
-    while k < height {
-        active = pass_ancestor(ancestors, line + 1 + Ancestors::SIZE * k, live, active, met);
+    for k in 0..ancestors[line] {
+        let i = Ancestors::place(line, k);
+        active = pass_ancestor(ancestors, i, live, active, met);
         if active == 0 {
-            return active;
+            return 0;
         }
-        k += 1;
     }
     active
 }

@@ -9,8 +9,8 @@ use lib.ListN.{length, get_or, take, drop, replicate, length-drop, take-append-d
 use lib.Seq.{drop-cons, drop-drop, length-take-le}
 use lib.Dec.{leb, eqb}
 use borrow.Author.Tests.{eqb-true, leb-true}
-use Rattle.fields.specs.declared.header.Header.{Header}
-use Rattle.fields.specs.declared.header.Header.TheVariants.{Cut, Field}
+use Rattle.fields.specs.declared.header.Field.{Field}
+use Rattle.std.specs.Prelude.{Option, None, Some, Result, Ok, Err}
 use Rattle.fields.specs.Decoded.{Decoded, refused, accepted, mapped, and_then}
 use Rattle.fields.specs.Numbers.{number_at, bytes_of, Bytes}
 use Rattle.fields.specs.Header.{header_at, field_of}
@@ -19,42 +19,43 @@ use Rattle.fields.proofs.ByteLaws.{bytes_take, bytes_drop}
 use Rattle.fields.proofs.Written.{number_written, number_small}
 use Rattle.fields.proofs.FieldLaws.{FieldAt, HeaderIs, header_is, field_written}
 use Rattle.catalogue.specs.declared.column.ColumnField.{ColumnField}
+use Rattle.catalogue.specs.declared.refusal.Refusal.{Refusal}
+use Rattle.catalogue.specs.declared.refusal.Refusal.TheVariants as refusal
 use Rattle.catalogue.specs.declared.column.ColumnField.TheVariants as field
-use Rattle.catalogue.specs.declared.first.First.{First}
-use Rattle.catalogue.specs.declared.first.First.TheVariants as first
-use Rattle.catalogue.specs.Format.{first_tag, first_size, number_tag, number_size, text_tag, row_limit, column_limit, not_catalogue, counts_out_of_range, not_column, bad_slot}
+use Rattle.catalogue.specs.declared.first.Counts.{Counts}
+use Rattle.catalogue.specs.Format.{first_tag, first_size, number_tag, number_size, text_tag, row_limit, column_limit}
 use Rattle.catalogue.specs.Catalogue.{Column, numbers, texts, Mark, Catalogue}
 use Rattle.slots.specs.Slots.{slot_size, text_limit, text_at, texts_at, zeros_at, valid_slot, valid_slots}
-use Rattle.catalogue.specs.Decode.{numbers_at, counts_at, first_field_of, column_of, Columns, column_before, column_then, columns_at, catalogue_of, first_then, decode_catalogue}
+use Rattle.catalogue.specs.Decode.{numbers_at, ok_counts, counts_at, first_field_of, column_of, Columns, column_before, column_then, columns_at, catalogue_of, first_then, decode_catalogue}
 use Rattle.catalogue.specs.Encode.{encode_numbers, encode_text, encode_texts, encode_column, encode_columns, encode_counts, encode_catalogue}
 use Rattle.catalogue.specs.Mark.{mark_field_at, mark_of}
 use Rattle.catalogue.specs.Formed.{AreNumbers, AreTexts, FormedColumn, FormedColumns, Formed}
 use Rattle.catalogue.proofs.MarkLaws.{MarkWritten, mark_written}
 
 -- what a column's field tells: it stands there, with a payload of the right size
-abbrev ColumnIs : (b : List ℕ) → (rows at : ℕ) → ColumnField → Type 0
-ColumnIs b rows at (field.Refused e) = Unit {0}
-ColumnIs b rows at (field.Numbers start stop) = FieldAt b at (length b) number_tag start stop × (stop - start ≡ number_size * rows)
-ColumnIs b rows at (field.Texts start stop) = FieldAt b at (length b) text_tag start stop × (stop - start ≡ slot_size * rows) × (valid_slots b start rows ≡ true)
+abbrev ColumnIs : (b : List ℕ) → (rows at : ℕ) → Result ColumnField Refusal → Type 0
+ColumnIs b rows at (Err e) = Unit {0}
+ColumnIs b rows at (Ok (field.Numbers start stop)) = FieldAt b at (length b) number_tag start stop × (stop - start ≡ number_size * rows)
+ColumnIs b rows at (Ok (field.Texts start stop)) = FieldAt b at (length b) text_tag start stop × (stop - start ≡ slot_size * rows) × (valid_slots b start rows ≡ true)
 
 module _ (b : List ℕ) (rows at : ℕ) where
-  column_at : (h : Header) → HeaderIs b at (length b) h → ColumnIs b rows at (column_of b rows h)
+  column_at : (h : Option Field) → HeaderIs b at (length b) h → ColumnIs b rows at (column_of b rows h)
   unfolding column_of
-  column_at Cut s = tt
-  column_at (Field tag start stop) s =
-      go (eqb tag number_tag) refl (eqb (stop - start) (number_size * rows)) refl (eqb tag text_tag) refl (eqb (stop - start) (slot_size * rows)) refl (valid_slots b start rows) refl
+  column_at None s = tt
+  column_at (Some found) s =
+      go (eqb found.tag number_tag) refl (eqb (found.end - found.start) (number_size * rows)) refl (eqb found.tag text_tag) refl (eqb (found.end - found.start) (slot_size * rows)) refl (valid_slots b found.start rows) refl
     where
-      texts_at_lem : (z : Bool) → eqb tag text_tag ≡ z → (w : Bool) → eqb (stop - start) (slot_size * rows) ≡ w → (v : Bool) → valid_slots b start rows ≡ v
-          → ColumnIs b rows at (cond (z && w) (cond v (field.Texts start stop) (field.Refused bad_slot)) (field.Refused not_column))
-      texts_at_lem true g true h true k = let t : tag ≡ text_tag = eqb-true _ _ g in (rw t at s, eqb-true _ _ h, k)
+      texts_at_lem : (z : Bool) → eqb found.tag text_tag ≡ z → (w : Bool) → eqb (found.end - found.start) (slot_size * rows) ≡ w → (v : Bool) → valid_slots b found.start rows ≡ v
+          → ColumnIs b rows at (cond (z && w) (cond v (Ok (field.Texts found.start found.end)) (Err refusal.BadSlot)) (Err refusal.NotColumn))
+      texts_at_lem true g true h true k = let t : found.tag ≡ text_tag = eqb-true _ _ g in (rw t at s, eqb-true _ _ h, k)
       texts_at_lem true g true h false k = tt
       texts_at_lem true g false h v k = tt
       texts_at_lem false g w h v k = tt
 
-      go : (x : Bool) → eqb tag number_tag ≡ x → (y : Bool) → eqb (stop - start) (number_size * rows) ≡ y → (z : Bool) → eqb tag text_tag ≡ z
-          → (w : Bool) → eqb (stop - start) (slot_size * rows) ≡ w → (v : Bool) → valid_slots b start rows ≡ v
-          → ColumnIs b rows at (cond (x && y) (field.Numbers start stop) (cond (z && w) (cond v (field.Texts start stop) (field.Refused bad_slot)) (field.Refused not_column)))
-      go true e true f z g w h v k = let t : tag ≡ number_tag = eqb-true _ _ e in (rw t at s, eqb-true _ _ f)
+      go : (x : Bool) → eqb found.tag number_tag ≡ x → (y : Bool) → eqb (found.end - found.start) (number_size * rows) ≡ y → (z : Bool) → eqb found.tag text_tag ≡ z
+          → (w : Bool) → eqb (found.end - found.start) (slot_size * rows) ≡ w → (v : Bool) → valid_slots b found.start rows ≡ v
+          → ColumnIs b rows at (cond (x && y) (Ok (field.Numbers found.start found.end)) (cond (z && w) (cond v (Ok (field.Texts found.start found.end)) (Err refusal.BadSlot)) (Err refusal.NotColumn)))
+      go true e true f z g w h v k = let t : found.tag ≡ number_tag = eqb-true _ _ e in (rw t at s, eqb-true _ _ f)
       go true e false f z g w h v k = texts_at_lem z g w h v k
       go false e y f z g w h v k = texts_at_lem z g w h v k
 
@@ -174,18 +175,18 @@ module _ (b : List ℕ) (bytes : Bytes b) where
     before_written n at stop c (accepted C) h f w =
         (h ∙ rw w.0 (sym (append_assoc (encode_column c) (encode_columns C.columns) (drop C.end b))), ap suc w.1, formed_cons rows c C.columns f w.2)
 
-    column_written : (n at : ℕ) (f : ColumnField) (rest : ℕ → Decoded Columns) → ColumnIs b rows at f → ((next : ℕ) → Written n next (rest next))
+    column_written : (n at : ℕ) (f : Result ColumnField Refusal) (rest : ℕ → Decoded Columns) → ColumnIs b rows at f → ((next : ℕ) → Written n next (rest next))
         → Written (suc n) at (column_then b rows f rest)
     unfolding encode_column
-    column_written n at (field.Refused e) rest i r = tt
-    column_written n at (field.Numbers start stop) rest (s, e) r =
+    column_written n at (Err e) rest i r = tt
+    column_written n at (Ok (field.Numbers start stop)) rest (s, e) r =
         let w = s.sized in
         let v = s.within in
         let z : start + number_size * rows ≡ stop = omega arith in
         before_written n at stop (numbers (numbers_at b start rows)) (rest stop)
         (field_written b bytes at (length b) number_tag start stop s (omega arith) (encode_numbers (numbers_at b start rows)) (rw z at (numbers_written rows start (omega arith))))
         (numbers_count rows start, numbers_small rows start) (r stop)
-    column_written n at (field.Texts start stop) rest (s, e, valid) r =
+    column_written n at (Ok (field.Texts start stop)) rest (s, e, valid) r =
         let w = s.sized in
         let v = s.within in
         let z : start + slot_size * rows ≡ stop = omega arith in
@@ -201,10 +202,10 @@ module _ (b : List ℕ) (bytes : Bytes b) where
         column_written n at (column_of b rows (header_at b at (length b))) (λ next. columns_at b rows n next) (column_is b rows at) (λ next. columns_written n next)
 
   -- the first field
-  abbrev Counts : First → Type 0
-  Counts (first.Refused e) = Unit {0}
-  Counts (first.Counts rows columns next) =
-      (drop 0 b ≡ field_of first_tag (encode_counts rows columns) ++ drop next b) × (rows ≤ row_limit) × (1 ≤ columns) × (columns ≤ column_limit)
+  abbrev CountsAre : Result Counts Refusal → Type 0
+  CountsAre (Err e) = Unit {0}
+  CountsAre (Ok c) =
+      (drop 0 b ≡ field_of first_tag (encode_counts c.rows c.columns) ++ drop c.next b) × (c.rows ≤ row_limit) × (1 ≤ c.columns) × (c.columns ≤ column_limit)
 
   counts_written : (at : ℕ) → at + 3 ≤ length b → drop at b ≡ encode_counts (number_at b at 2) (get_or b (at + 2) 0) ++ drop (at + 3) b
   counts_written at l =
@@ -213,12 +214,12 @@ module _ (b : List ℕ) (bytes : Bytes b) where
       ∙ ap (λ r. bytes_of 2 (number_at b at 2) ++ r) (rw y at (drop-cons b (at + 2) 0 (omega arith)))
       ∙ sym (append_assoc (bytes_of 2 (number_at b at 2)) (get_or b (at + 2) 0 ∷ []) (drop (at + 3) b))
 
-  counts_is : (start stop : ℕ) → FieldAt b 0 (length b) first_tag start stop → stop - start ≡ first_size → Counts (counts_at (number_at b start 2) (get_or b (start + 2) 0) stop)
+  counts_is : (start stop : ℕ) → FieldAt b 0 (length b) first_tag start stop → stop - start ≡ first_size → CountsAre (counts_at (number_at b start 2) (get_or b (start + 2) 0) stop)
   unfolding counts_at
   counts_is start stop s e = go (leb (number_at b start 2) row_limit) refl (leb 1 (get_or b (start + 2) 0)) refl (leb (get_or b (start + 2) 0) column_limit) refl
     where
       go : (x : Bool) → leb (number_at b start 2) row_limit ≡ x → (y : Bool) → leb 1 (get_or b (start + 2) 0) ≡ y → (z : Bool) → leb (get_or b (start + 2) 0) column_limit ≡ z
-          → Counts (cond (x && (y && z)) (first.Counts (number_at b start 2) (get_or b (start + 2) 0) stop) (first.Refused counts_out_of_range))
+          → CountsAre (cond (x && (y && z)) (ok_counts (number_at b start 2) (get_or b (start + 2) 0) stop) (Err refusal.CountsOutOfRange))
       go false f y g z h = tt
       go true f false g z h = tt
       go true f true g false h = tt
@@ -232,22 +233,22 @@ module _ (b : List ℕ) (bytes : Bytes b) where
             leb-true _ _ h,
           )
 
-  first_at : (h : Header) → HeaderIs b 0 (length b) h → Counts (first_field_of b h)
+  first_at : (h : Option Field) → HeaderIs b 0 (length b) h → CountsAre (first_field_of b h)
   unfolding first_field_of
-  first_at Cut s = tt
-  first_at (Field tag start stop) s = go (eqb tag first_tag) refl (eqb (stop - start) first_size) refl
+  first_at None s = tt
+  first_at (Some found) s = go (eqb found.tag first_tag) refl (eqb (found.end - found.start) first_size) refl
     where
-      go : (x : Bool) → eqb tag first_tag ≡ x → (y : Bool) → eqb (stop - start) first_size ≡ y
-          → Counts (cond (x && y) (counts_at (number_at b start 2) (get_or b (start + 2) 0) stop) (first.Refused not_catalogue))
+      go : (x : Bool) → eqb found.tag first_tag ≡ x → (y : Bool) → eqb (found.end - found.start) first_size ≡ y
+          → CountsAre (cond (x && y) (counts_at (number_at b found.start 2) (get_or b (found.start + 2) 0) found.end) (Err refusal.NotCatalogue))
       go false e y f = tt
       go true e false f = tt
-      go true e true f = let t : tag ≡ first_tag = eqb-true _ _ e in counts_is start stop (rw t at s) (eqb-true _ _ f)
+      go true e true f = let t : found.tag ≡ first_tag = eqb-true _ _ e in counts_is found.start found.end (rw t at s) (eqb-true _ _ f)
 
   -- the whole
   abbrev Whole : Catalogue → Type 0
   Whole c = Formed c × (b ≡ encode_catalogue c)
 
-  columns_whole : (rows columns next : ℕ) (c : Catalogue) (d : Decoded Columns) → Counts (first.Counts rows columns next) → Written rows columns next d
+  columns_whole : (rows columns next : ℕ) (c : Catalogue) (d : Decoded Columns) → CountsAre (ok_counts rows columns next) → Written rows columns next d
       → and_then d (catalogue_of b rows) ≡ accepted c → Whole c
   unfolding encode_catalogue
   columns_whole rows columns next c (refused e) k w h = let z : ◌≡◌ {A = ℕ} 0 1 = cc in absurd (omega arith)
@@ -263,6 +264,6 @@ module _ (b : List ℕ) (bytes : Bytes b) where
   unfolding decode_catalogue
   catalogue_written c h = go (first_field_of b (header_at b 0 (length b))) (first_at (header_at b 0 (length b)) (header_is b 0 (length b))) h
     where
-      go : (f : First) → Counts f → first_then b f ≡ accepted c → Formed c × (b ≡ encode_catalogue c)
-      go (first.Refused e) k g = let z : ◌≡◌ {A = ℕ} 0 1 = cc in absurd (omega arith)
-      go (first.Counts rows columns next) k g = columns_whole rows columns next c (columns_at b rows columns next) k (columns_written rows columns next) g
+      go : (f : Result Counts Refusal) → CountsAre f → first_then b f ≡ accepted c → Formed c × (b ≡ encode_catalogue c)
+      go (Err e) k g = let z : ◌≡◌ {A = ℕ} 0 1 = cc in absurd (omega arith)
+      go (Ok f) k g = columns_whole f.rows f.columns f.next c (columns_at b f.rows f.columns f.next) k (columns_written f.rows f.columns f.next) g

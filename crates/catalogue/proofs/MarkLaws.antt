@@ -11,8 +11,8 @@ use lib.Seq.{take-length}
 use lib.Dec.{leb, eqb, ltb, lit<}
 use lib.Pow.{shl_exact}
 use borrow.Author.Tests.{eq-eqb, ne_eqb, eqb-true, leb-false, lt-leb}
-use Rattle.fields.specs.declared.header.Header.{Header}
-use Rattle.fields.specs.declared.header.Header.TheVariants.{Cut, Field}
+use Rattle.fields.specs.declared.header.Field.{Field}
+use Rattle.std.specs.Prelude.{Option, None, Some, Result, Ok, Err}
 use Rattle.fields.specs.Decoded.{Decoded, refused, accepted}
 use Rattle.fields.specs.Numbers.{bytes_of, Bytes}
 use Rattle.fields.specs.Header.{header_at, header_size, field_of}
@@ -25,9 +25,9 @@ use Rattle.sets.specs.SetLaws.{has_none}
 use Rattle.bitmaps.specs.Bit.{bit}
 use Rattle.bitmaps.specs.Bitmap.{bytes_for}
 use Rattle.bitmaps.proofs.BitLaws.{bit_at, bit_past, has_high, below_high}
-use Rattle.catalogue.specs.declared.mark.MarkField.{MarkField}
-use Rattle.catalogue.specs.declared.mark.MarkField.TheVariants.{Refused, Absent, Marked}
-use Rattle.catalogue.specs.Format.{mark_tag, row_limit, bytes_left_over, bad_mark}
+use Rattle.catalogue.specs.declared.refusal.Refusal.{Refusal}
+use Rattle.catalogue.specs.declared.refusal.Refusal.TheVariants as refusal
+use Rattle.catalogue.specs.Format.{mark_tag, row_limit}
 use Rattle.catalogue.specs.Catalogue.{Mark, unmarked, marked, Catalogue, is_withdrawn}
 use Rattle.catalogue.specs.Mark.{stray_bit, mark_field_of, mark_field_at, mark_of}
 use Rattle.catalogue.specs.Encode.{encode_mark}
@@ -87,10 +87,11 @@ module _ (C : Catalogue) where
 -- WHAT THE READING FINDS
 
 -- a mark with every check passed
-pub mark_whole : (b : List ℕ) (rows at tag start end : ℕ) (h : Header) → h ≡ header_at b at (length b) → h ≡ Field tag start end → (at ≡ length b → ⊥) → get_or b at 0 ≡ mark_tag
-    → end - start ≡ bytes_for rows → stray_bit (take (end - start) (drop start b)) rows ≡ false → end ≡ length b → Marked start ≡ mark_field_at b rows at
+pub mark_whole : (b : List ℕ) (rows at : ℕ) (f : Field) → Some f ≡ header_at b at (length b) → (at ≡ length b → ⊥) → get_or b at 0 ≡ mark_tag
+    → f.end - f.start ≡ bytes_for rows → stray_bit (take (f.end - f.start) (drop f.start b)) rows ≡ false → f.end ≡ length b → Ok (Some f.start) ≡ mark_field_at b rows at
 unfolding mark_field_at mark_field_of
-mark_whole b rows at tag start end h q i n t s k e = rw (ne_eqb at (length b) n, eq-eqb (get_or b at 0) mark_tag t, ← q, i, eq-eqb (end - start) (bytes_for rows) s, k, eq-eqb end (length b) e)
+mark_whole b rows at f q n t s k e =
+    rw (ne_eqb at (length b) n, eq-eqb (get_or b at 0) mark_tag t, ← q, eq-eqb (f.end - f.start) (bytes_for rows) s, k, eq-eqb f.end (length b) e)
 
 -- ITS BYTES READ, AND WRITTEN AGAIN
 
@@ -112,47 +113,47 @@ module _ (b : List ℕ) (rows at : ℕ) where
       let payload : drop (at + header_size) b ≡ m = payload_read b at mark_tag m [] g ∙ append-nil m in
       let n : length b - (at + header_size) ≡ length m = sym (length-drop (at + header_size) b) ∙ ap length payload in
       let z : at + header_size + length m - (at + header_size) ≡ length m = omega arith in
-      let w : Marked (at + header_size) ≡ mark_field_at b rows at =
-      mark_whole b rows at mark_tag (at + header_size) (at + header_size + length m) (header_at b at (length b)) refl
-      (header_read b at mark_tag m [] g (length b) (omega arith) inside)
+      let w : Ok (Some (at + header_size)) ≡ mark_field_at b rows at =
+      mark_whole b rows at (record { tag = mark_tag; start = at + header_size; end = at + header_size + length m })
+      (sym (header_read b at mark_tag m [] g (length b) (omega arith) inside))
       (λ e. omega arith) (tag_read b at m h) (z ∙ s) (rw (z, payload, take-length) (unused_stray m rows f)) (omega arith) in
       rw (← w, payload)
 
 module _ (b : List ℕ) (bytes : Bytes b) (rows at : ℕ) where
   -- what a reading's answer tells of the bytes from the end of the columns on
-  abbrev MarkIs : MarkField → Type 0
-  MarkIs (Refused e) = Unit {0}
-  MarkIs Absent = drop at b ≡ []
-  MarkIs (Marked start) = (drop at b ≡ field_of mark_tag (drop start b)) × FormedBits rows (drop start b)
+  abbrev MarkIs : Result (Option ℕ) Refusal → Type 0
+  MarkIs (Err e) = Unit {0}
+  MarkIs (Ok None) = drop at b ≡ []
+  MarkIs (Ok (Some start)) = (drop at b ≡ field_of mark_tag (drop start b)) × FormedBits rows (drop start b)
 
-  field_is : (h : Header) → HeaderIs b at (length b) h → get_or b at 0 ≡ mark_tag → MarkIs (mark_field_of b rows h)
+  field_is : (h : Option Field) → HeaderIs b at (length b) h → get_or b at 0 ≡ mark_tag → MarkIs (mark_field_of b rows h)
   unfolding mark_field_of
-  field_is Cut s t = tt
-  field_is (Field tag start stop) s t =
-      go (eqb (stop - start) (bytes_for rows)) refl (stray_bit (take (stop - start) (drop start b)) rows) refl (eqb stop (length b)) refl
+  field_is None s t = tt
+  field_is (Some found) s t =
+      go (eqb (found.end - found.start) (bytes_for rows)) refl (stray_bit (take (found.end - found.start) (drop found.start b)) rows) refl (eqb found.end (length b)) refl
     where
-      go : (x : Bool) → eqb (stop - start) (bytes_for rows) ≡ x → (y : Bool) → stray_bit (take (stop - start) (drop start b)) rows ≡ y → (z : Bool) → eqb stop (length b) ≡ z
-          → MarkIs (cond (x && not y) (cond z (Marked start) (Refused bytes_left_over)) (Refused bad_mark))
+      go : (x : Bool) → eqb (found.end - found.start) (bytes_for rows) ≡ x → (y : Bool) → stray_bit (take (found.end - found.start) (drop found.start b)) rows ≡ y → (z : Bool) → eqb found.end (length b) ≡ z
+          → MarkIs (cond (x && not y) (cond z (Ok (Some found.start)) (Err refusal.BytesLeftOver)) (Err refusal.BadMark))
       go false e y f z g = tt
       go true e true f z g = tt
       go true e false f false g = tt
       go true e false f true g =
-          let p : stop ≡ length b = eqb-true _ _ g in
-          let n : stop - start ≡ bytes_for rows = eqb-true _ _ e in
-          let size : length (drop start b) ≡ bytes_for rows = rw length-drop (omega arith) in
-          let stray : stray_bit (drop start b) rows ≡ false = rw (p, part_rest b start) at f in
-          let none : drop stop b ≡ [] = drop_of_length-le b {i = stop} (omega arith) in
-          let k : mark_tag ≡ tag = sym t ∙ s.tagged in
-          let w : drop at b ≡ field_of tag (drop start b) ++ drop stop b =
-          field_written b bytes at (length b) tag start stop s (omega arith) (drop start b) (rw (none, append-nil)) in
-          (rw (none, append-nil, ← k) at w, record { size = size; bytes = bytes_drop b start bytes; unused = stray_unused (drop start b) rows size stray })
+          let p : found.end ≡ length b = eqb-true _ _ g in
+          let n : found.end - found.start ≡ bytes_for rows = eqb-true _ _ e in
+          let size : length (drop found.start b) ≡ bytes_for rows = rw length-drop (omega arith) in
+          let stray : stray_bit (drop found.start b) rows ≡ false = rw (p, part_rest b found.start) at f in
+          let none : drop found.end b ≡ [] = drop_of_length-le b {i = found.end} (omega arith) in
+          let k : mark_tag ≡ found.tag = sym t ∙ s.tagged in
+          let w : drop at b ≡ field_of found.tag (drop found.start b) ++ drop found.end b =
+          field_written b bytes at (length b) found.tag found.start found.end s (omega arith) (drop found.start b) (rw (none, append-nil)) in
+          (rw (none, append-nil, ← k) at w, record { size = size; bytes = bytes_drop b found.start bytes; unused = stray_unused (drop found.start b) rows size stray })
 
   mark_is : MarkIs (mark_field_at b rows at)
   unfolding mark_field_at
   mark_is = go (eqb at (length b)) refl (eqb (get_or b at 0) mark_tag) refl
     where
       go : (x : Bool) → eqb at (length b) ≡ x → (y : Bool) → eqb (get_or b at 0) mark_tag ≡ y
-          → MarkIs (cond x Absent (cond y (mark_field_of b rows (header_at b at (length b))) (Refused bytes_left_over)))
+          → MarkIs (cond x (Ok None) (cond y (mark_field_of b rows (header_at b at (length b))) (Err refusal.BytesLeftOver)))
       go true e y f = drop_of_length-le b {i = at} (let p : at ≡ length b = eqb-true _ _ e in omega arith)
       go false e true f = field_is (header_at b at (length b)) (header_is b at (length b)) (eqb-true _ _ f)
       go false e false f = tt
@@ -165,7 +166,7 @@ module _ (b : List ℕ) (bytes : Bytes b) (rows at : ℕ) where
   pub mark_written : MarkWritten (mark_of b (mark_field_at b rows at))
   mark_written = go (mark_field_at b rows at) mark_is
     where
-      go : (f : MarkField) → MarkIs f → MarkWritten (mark_of b f)
-      go (Refused e) i = tt
-      go Absent i = (i, tt)
-      go (Marked start) i = i
+      go : (f : Result (Option ℕ) Refusal) → MarkIs f → MarkWritten (mark_of b f)
+      go (Err e) i = tt
+      go (Ok None) i = (i, tt)
+      go (Ok (Some start)) i = i

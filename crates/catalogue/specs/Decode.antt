@@ -1,15 +1,16 @@
 -- A catalogue's bytes as values; the checks in document 01's order, front to back, the first that fails decides.
-use Rattle.std.specs.Prelude.{ℕ, zero, suc, ◌+◌, ◌-◌, ◌*◌, ◌&&◌, cond, List, [], ◌∷◌, length, get_or, leb, eqb}
-use Rattle.fields.specs.declared.header.Header.{Header}
-use Rattle.fields.specs.declared.header.Header.TheVariants.{Cut, Field}
+use Rattle.std.specs.Prelude.{ℕ, zero, suc, ◌+◌, ◌-◌, ◌*◌, ◌&&◌, cond, Option, None, Some, Result, Ok, Err, List, [], ◌∷◌, length, get_or, leb, eqb}
+use Rattle.fields.specs.declared.header.Field.{Field}
 use Rattle.fields.specs.Decoded.{Decoded, refused, accepted, mapped, and_then}
 use Rattle.fields.specs.Numbers.{number_at}
 use Rattle.fields.specs.Header.{header_at}
 use Rattle.catalogue.specs.declared.column.ColumnField.{ColumnField}
 use Rattle.catalogue.specs.declared.column.ColumnField.TheVariants as field
-use Rattle.catalogue.specs.declared.first.First.{First}
-use Rattle.catalogue.specs.declared.first.First.TheVariants as first
-use Rattle.catalogue.specs.Format.{first_tag, first_size, number_tag, number_size, text_tag, row_limit, column_limit, field_cut, not_catalogue, counts_out_of_range, not_column, bad_slot}
+use Rattle.catalogue.specs.declared.first.Counts.{Counts}
+use Rattle.catalogue.specs.declared.refusal.Refusal.{Refusal}
+use Rattle.catalogue.specs.declared.refusal.Refusal.TheVariants as refusal
+use Rattle.catalogue.specs.Refusal.{refusal_number}
+use Rattle.catalogue.specs.Format.{first_tag, first_size, number_tag, number_size, text_tag, row_limit, column_limit}
 use Rattle.catalogue.specs.Catalogue.{Column, numbers, texts, Catalogue}
 use Rattle.catalogue.specs.Mark.{mark_field_at, mark_of}
 use Rattle.slots.specs.Slots.{slot_size, texts_at, valid_slots}
@@ -19,26 +20,29 @@ unfoldable pub numbers_at : List ℕ → (at n : ℕ) → List ℕ
 numbers_at b at zero = []
 numbers_at b at (suc n) = number_at b at number_size ∷ numbers_at b (at + number_size) n
 
+-- a first field that tells these
+abbrev pub ok_counts : (rows columns next : ℕ) → Result Counts Refusal
+ok_counts rows columns next = Ok (record { rows = rows; columns = columns; next = next })
+
 -- "entries E (two bytes, 0 to 2,048), columns C (one byte, 1 to 16)"; the columns begin at `next`
-unfoldable pub counts_at : (rows columns next : ℕ) → First
-counts_at rows columns next =
-    cond (leb rows row_limit && (leb 1 columns && leb columns column_limit)) (first.Counts rows columns next) (first.Refused counts_out_of_range)
+unfoldable pub counts_at : (rows columns next : ℕ) → Result Counts Refusal
+counts_at rows columns next = cond (leb rows row_limit && (leb 1 columns && leb columns column_limit)) (ok_counts rows columns next) (Err refusal.CountsOutOfRange)
 
 -- "First field: tag 67, length 3"
-unfoldable pub first_field_of : List ℕ → Header → First
-first_field_of b Cut = first.Refused field_cut
-first_field_of b (Field tag start end) =
-    cond (eqb tag first_tag && eqb (end - start) first_size)
-    (counts_at (number_at b start 2) (get_or b (start + 2) 0) end)
-    (first.Refused not_catalogue)
+unfoldable pub first_field_of : List ℕ → Option Field → Result Counts Refusal
+first_field_of b None = Err refusal.FieldCut
+first_field_of b (Some f) =
+    cond (eqb f.tag first_tag && eqb (f.end - f.start) first_size)
+    (counts_at (number_at b f.start 2) (get_or b (f.start + 2) 0) f.end)
+    (Err refusal.NotCatalogue)
 
 -- "Tag 78 is a number column: E numbers of four bytes", "Tag 84 is a text column: E slots of 24 bytes"
-unfoldable pub column_of : List ℕ → (rows : ℕ) → Header → ColumnField
-column_of b rows Cut = field.Refused field_cut
-column_of b rows (Field tag start end) =
-    cond (eqb tag number_tag && eqb (end - start) (number_size * rows)) (field.Numbers start end)
-    (cond (eqb tag text_tag && eqb (end - start) (slot_size * rows)) (cond (valid_slots b start rows) (field.Texts start end) (field.Refused bad_slot))
-    (field.Refused not_column))
+unfoldable pub column_of : List ℕ → (rows : ℕ) → Option Field → Result ColumnField Refusal
+column_of b rows None = Err refusal.FieldCut
+column_of b rows (Some f) =
+    cond (eqb f.tag number_tag && eqb (f.end - f.start) (number_size * rows)) (Ok (field.Numbers f.start f.end))
+    (cond (eqb f.tag text_tag && eqb (f.end - f.start) (slot_size * rows)) (cond (valid_slots b f.start rows) (Ok (field.Texts f.start f.end)) (Err refusal.BadSlot))
+    (Err refusal.NotColumn))
 
 -- columns one after the other, and the place where they end
 pub record Columns : Type 0 where
@@ -49,10 +53,10 @@ abbrev pub column_before : Column → Columns → Columns
 column_before c rest = record { columns = c ∷ rest.columns; end = rest.end }
 
 -- a column's values before those of the columns after it
-abbrev pub column_then : List ℕ → (rows : ℕ) → ColumnField → (ℕ → Decoded Columns) → Decoded Columns
-column_then b rows (field.Refused e) rest = refused e
-column_then b rows (field.Numbers start end) rest = mapped (column_before (numbers (numbers_at b start rows))) (rest end)
-column_then b rows (field.Texts start end) rest = mapped (column_before (texts (texts_at b start rows))) (rest end)
+abbrev pub column_then : List ℕ → (rows : ℕ) → Result ColumnField Refusal → (ℕ → Decoded Columns) → Decoded Columns
+column_then b rows (Err e) rest = refused (refusal_number e)
+column_then b rows (Ok (field.Numbers start end)) rest = mapped (column_before (numbers (numbers_at b start rows))) (rest end)
+column_then b rows (Ok (field.Texts start end)) rest = mapped (column_before (texts (texts_at b start rows))) (rest end)
 
 -- so many columns from a place on
 unfoldable pub columns_at : List ℕ → (rows n at : ℕ) → Decoded Columns
@@ -63,9 +67,9 @@ columns_at b rows (suc n) at = column_then b rows (column_of b rows (header_at b
 abbrev pub catalogue_of : List ℕ → (rows : ℕ) → Columns → Decoded Catalogue
 catalogue_of b rows c = mapped (λ m. record { rows = rows; columns = c.columns; mark = m }) (mark_of b (mark_field_at b rows c.end))
 
-abbrev pub first_then : List ℕ → First → Decoded Catalogue
-first_then b (first.Refused e) = refused e
-first_then b (first.Counts rows columns next) = and_then (columns_at b rows columns next) (catalogue_of b rows)
+abbrev pub first_then : List ℕ → Result Counts Refusal → Decoded Catalogue
+first_then b (Err e) = refused (refusal_number e)
+first_then b (Ok c) = and_then (columns_at b c.rows c.columns c.next) (catalogue_of b c.rows)
 
 -- "Checking a catalogue walks front to back."
 unfoldable pub decode_catalogue : List ℕ → Decoded Catalogue

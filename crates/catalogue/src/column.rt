@@ -7,44 +7,35 @@ ghost use Rattle.catalogue.specs.Decode.{column_of};
 ghost use Rattle.catalogue.specs.Sound.{SoundColumn};
 ghost use Rattle.catalogue.specs.InPlace.{HasRow, NumberIs, TextIs};
 
-use crate::format::{Column, Number, Refusal};
-use fields::header::Header;
+use crate::format::{Column, Number};
+use crate::refusal::Refusal;
+use fields::header::{Field, read_header};
 use slots::slot::Text;
 
-// What stands where a column is expected, every check of it done; the payload is the bytes from start up to end.
-#[derive(Drop)]
+// A column's field, every check of it done; the payload is the bytes from start up to end.
+#[derive(Clone, Copy)]
 pub enum ColumnField {
-    Refused(u8),
     Numbers { start: usize, end: usize },
     Texts { start: usize, end: usize },
 }
 
 // The table of limits is lent by the caller, once for all columns.
-pub fn read_column(limits: &[u8], b: &[u8], rows: usize, at: usize) -> ColumnField
+pub fn read_column(limits: &[u8], b: &[u8], rows: usize, at: usize) -> Result<ColumnField, Refusal>
     requires { Limits limits.now × (at ≤ length b.now) × (rows ≤ row_limit) }
     ensures { (result ≡ column_of b.now rows (header_at b.now at (length b.now))) × SoundColumn b.now rows result }
 {
-    match fields::header::read_header(b, at, b.len()) {
-        Header::Cut => ColumnField::Refused(Refusal::FIELD_CUT),
-        Header::Field { tag, start, end } => {
-            if tag == Column::NUMBER_TAG {
-                if end - start == Number::SIZE * rows {
-                    return ColumnField::Numbers { start, end };
-                }
-                return ColumnField::Refused(Refusal::NOT_COLUMN);
-            }
-            if tag == Column::TEXT_TAG {
-                if end - start == Text::SLOT_SIZE * rows {
-                    if slots::slot::slots_are_valid(limits, b, start, rows) {
-                        return ColumnField::Texts { start, end };
-                    }
-                    return ColumnField::Refused(Refusal::BAD_SLOT);
-                }
-                return ColumnField::Refused(Refusal::NOT_COLUMN);
-            }
-            ColumnField::Refused(Refusal::NOT_COLUMN)
-        }
+    let Field { tag, start, end } = read_header(b, at, b.len()).ok_or(Refusal::FieldCut)?;
+    let size = end - start;
+    if tag == Column::NUMBER_TAG && size == Number::SIZE * rows {
+        return Ok(ColumnField::Numbers { start, end });
     }
+    if tag != Column::TEXT_TAG || size != Text::SLOT_SIZE * rows {
+        return Err(Refusal::NotColumn);
+    }
+    if !slots::slot::slots_are_valid(limits, b, start, rows) {
+        return Err(Refusal::BadSlot);
+    }
+    Ok(ColumnField::Texts { start, end })
 }
 
 // The number at a row of the number column whose payload starts there.
@@ -61,7 +52,7 @@ pub fn text_at(b: &[u8], start: usize, row: usize) -> &[u8]
     ensures { TextIs b.now start row result.now }
 {
     let at = start + Text::SLOT_SIZE * row;
-    let size = fields::number::widen(b[at]);
+    let size = usize::from(b[at]);
     let from = at + 1;
     let to = from + size;
     &b[from..to]

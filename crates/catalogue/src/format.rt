@@ -14,6 +14,7 @@ pub struct Column;
 impl Column {
     pub const LIMIT: usize = 16;
 
+    // A column's kind stays its byte: `payload_is_valid`, `read_query` and `outcome_at` take the tags as lent bytes, whatever they are.
     pub const NUMBER_TAG: u8 = 78;
 
     pub const TEXT_TAG: u8 = 84;
@@ -44,24 +45,4 @@ impl FirstField {
     pub const TAG: u8 = 67;
 
     pub const SIZE: usize = 3;
-}
-
-// Document 01's refusals 1 to 6, order 6's 23.
-#[derive(Drop)]
-pub struct Refusal;
-
-impl Refusal {
-    pub const FIELD_CUT: u8 = 1;
-
-    pub const NOT_CATALOGUE: u8 = 2;
-
-    pub const COUNTS_OUT_OF_RANGE: u8 = 3;
-
-    pub const NOT_COLUMN: u8 = 4;
-
-    pub const BAD_SLOT: u8 = 5;
-
-    pub const BYTES_LEFT_OVER: u8 = 6;
-
-    pub const BAD_MARK: u8 = 23;
 }

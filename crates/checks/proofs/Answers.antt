@@ -1,30 +1,36 @@
 -- The answers of the calls that check, from what was decoded.
-use Prim.Native.Nat.{ℕ, ◌<◌}
+use Prim.Native.Nat.{ℕ}
 use native.Mathlib.Omega.{arith}
 use mathlib.Core.Path.{◌≡◌}
 use mathlib.Core.List.{List}
+use Rattle.std.specs.Prelude.{Ok, Err}
 use Rattle.fields.specs.Decoded.{Decoded, refused, accepted}
 use Rattle.catalogue.specs.Catalogue.{Catalogue}
+use Rattle.catalogue.specs.declared.refusal.Refusal.{Refusal as CatalogueRefusal}
+use Rattle.catalogue.specs.Refusal.{refusal_number as catalogue_number}
 use Rattle.layout.specs.declared.Layout.{Layout}
 use Rattle.layout.specs.Layout.{LaidOut}
 use Rattle.reading.specs.Tables.{Tables}
 use Rattle.input.specs.declared.begin.Beginning.{Beginning}
 use Rattle.task.specs.Input.{Input, decode_input}
 use Rattle.input.specs.Beginning.{HasInput}
-use Rattle.answers.specs.declared.word.Answer.TheVariants.{Refused, Accepted}
+use Rattle.answers.specs.declared.refusal.Refusal.{Refusal}
+use Rattle.answers.specs.declared.refusal.Refusal.TheVariants as refusal
+use Rattle.answers.specs.Refusal.{refusal_number}
+use Rattle.answers.specs.Answer.{Refused, Accepted}
 use Rattle.answers.specs.Answers.{catalogue_answer, question_answer, Answered}
+use Rattle.answers.proofs.Refusals.{refused_fits}
 
-module _ (b : List ℕ) (l : Layout) where
-  pub answered_refused : (d : Decoded Catalogue) → LaidOut b l d → (l.refusal ≡ 0 → ⊥) → Answered (catalogue_answer d) (Refused l.refusal)
-  answered_refused (refused e) h ne = (rw h.0, omega arith)
-  answered_refused (accepted c) h ne = absurd (ne h.accepts)
+pub answered_refused : (b : List ℕ) (e : CatalogueRefusal) (d : Decoded Catalogue) → LaidOut b (Err e) d → Answered (catalogue_answer d) (Refused (catalogue_number e))
+answered_refused b e (refused x) h = (rw h, refused_fits (refusal.Catalogue e))
+answered_refused b e (accepted c) h = absurd h
 
-  pub answered_accepted : (d : Decoded Catalogue) → LaidOut b l d → l.refusal ≡ 0 → Answered (catalogue_answer d) (Accepted l.rows l.columns 0)
-  answered_accepted (refused e) h z = absurd (omega arith)
-  answered_accepted (accepted c) h z = (rw (h.rows, h.columns), omega (arith, h.rows, h.columns, h.short, h.few))
+pub answered_accepted : (b : List ℕ) (l : Layout) (d : Decoded Catalogue) → LaidOut b (Ok l) d → Answered (catalogue_answer d) (Accepted l.rows l.columns 0)
+answered_accepted b l (refused x) h = absurd h
+answered_accepted b l (accepted c) h = (rw (h.rows, h.columns), omega (arith, h.rows, h.columns, h.short, h.few))
 
-pub question_answer_refused : (d : Decoded Input) (k : ℕ) → (d ≡ refused k) × (k < 256) → Answered (question_answer d) (Refused k)
-question_answer_refused d k h = (rw h.0, omega arith)
+pub question_answer_refused : (d : Decoded Input) (e : Refusal) → d ≡ refused (refusal_number e) → Answered (question_answer d) (Refused (refusal_number e))
+question_answer_refused d e h = (rw h, refused_fits e)
 
 pub question_answer_accepted : {b q : List ℕ} {r : Beginning} {T : Tables} → HasInput b q r T → Answered (question_answer (decode_input b q)) (Accepted r.n 0 0)
 question_answer_accepted G = (rw (G.decoded, G.tabled.count), omega (arith, G.tabled.few))

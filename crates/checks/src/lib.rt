@@ -3,45 +3,36 @@
 
 ghost use Rattle.catalogue.specs.Decode.{decode_catalogue};
 ghost use Rattle.task.specs.Input.{decode_input};
+ghost use Rattle.answers.specs.Answer.{answer_of};
 ghost use Rattle.answers.specs.Answers.{catalogue_answer, question_answer, Answered};
 
 use ancestors::Ancestors;
+use answers::refusal::Refusal;
 use answers::word::Answer;
 use query::format::Predicate;
 
 // The numbers of entries and of columns.
-pub fn check_catalogue(catalogue: &[u8]) -> Answer
-    ensures { Answered (catalogue_answer (decode_catalogue catalogue.now)) result }
+pub fn check_catalogue(catalogue: &[u8]) -> Result<Answer, Refusal>
+    ensures { Answered (catalogue_answer (decode_catalogue catalogue.now)) (answer_of result) }
 {
-    let layout = layout::lay_out(catalogue);
-    let refusal = layout.refusal;
-    let rows = layout.rows;
-    let columns = layout.columns;
-    if refusal != 0 {
-        return Answer::Refused(refusal);
-    }
-    Answer::Accepted {
-        first: rows as u64,
-        second: columns as u64,
+    let layout = layout::lay_out(catalogue)?;
+    Ok(Answer {
+        first: layout.rows as u64,
+        second: layout.columns as u64,
         third: 0,
-    }
+    })
 }
 
 // The number of conditions.
-pub fn check_question(catalogue: &[u8], question: &[u8]) -> Answer
-    ensures { Answered (question_answer (decode_input catalogue.now question.now)) result }
+pub fn check_question(catalogue: &[u8], question: &[u8]) -> Result<Answer, Refusal>
+    ensures { Answered (question_answer (decode_input catalogue.now question.now)) (answer_of result) }
 {
     let mut offsets = [0usize; Predicate::LIMIT];
     let mut ancestors = [0u8; Ancestors::TABLE_SIZE];
-    let begun = input::begin::begin(catalogue, question, &mut offsets, &mut ancestors);
-    let number = begun.refusal;
-    if number != 0 {
-        return Answer::Refused(number);
-    }
-    let n = begun.n;
-    Answer::Accepted {
-        first: n as u64,
+    let begun = input::begin::begin(catalogue, question, &mut offsets, &mut ancestors)?;
+    Ok(Answer {
+        first: begun.n as u64,
         second: 0,
         third: 0,
-    }
+    })
 }

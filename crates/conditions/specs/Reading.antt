@@ -1,12 +1,11 @@
 -- A condition that the code reads from a place of a text and writes to a place of an output, as `syntax` reads it from the text's rest there.
-use Rattle.std.specs.Prelude.{ℕ, ◌+◌, ◌≡◌, List, [], ◌∷◌, ◌++◌}
+use Rattle.std.specs.Prelude.{ℕ, ◌+◌, ◌≡◌, List, [], ◌∷◌, ◌++◌, Option, None, Some}
 use Rattle.fields.specs.Header.{header_size, header_of, field_of}
 use Rattle.fields.specs.Output.{Wrote}
 use Rattle.predicate.specs.Payload.{payload_head}
 use Rattle.query.specs.Format.{predicate_tag}
 use Rattle.syntax.specs.Parsed.{Parsed, wrong, ParsedTo}
 use Rattle.conditions.specs.declared.condition.Condition.{Condition}
-use Rattle.conditions.specs.declared.condition.Condition.TheVariants as condition
 
 -- what stands before an operand of so many bytes: a field's header, the column and the kind
 abbrev pub field_head : (size column kind : ℕ) → List ℕ
@@ -21,6 +20,6 @@ pub record ConditionTo (text : List ℕ) (at : ℕ) (p : Parsed (List ℕ)) (end
   pub read : ParsedTo text at p payload next
   pub wrote : Wrote end (field_of predicate_tag payload) old stop new
 
-abbrev pub ConditionRead : (text : List ℕ) → (at : ℕ) → Parsed (List ℕ) → (end : ℕ) → (old : List ℕ) → Condition → (new : List ℕ) → Type 0
-ConditionRead text at p end old condition.Wrong new = p ≡ wrong
-ConditionRead text at p end old (condition.Read next stop) new = ConditionTo text at p end old next stop new
+abbrev pub ConditionRead : (text : List ℕ) → (at : ℕ) → Parsed (List ℕ) → (end : ℕ) → (old : List ℕ) → Option Condition → (new : List ℕ) → Type 0
+ConditionRead text at p end old None new = p ≡ wrong
+ConditionRead text at p end old (Some read) new = ConditionTo text at p end old read.next read.end new

@@ -7,17 +7,18 @@ ghost use Rattle.operands.specs.Reading.{HasRoom};
 ghost use Rattle.conditions.specs.Reading.{field_head, field_head_size, ConditionRead};
 
 use fields::header::Header;
-use lexer::number::Number;
-use operands::test::{NumberLimit, Test};
+use lexer::number::read_number;
+use lexer::word::read_word;
+use operands::test::{NumberLimit, read_test};
 use payload::Payload;
 use predicate::kind::Kind;
 use query::format::Predicate;
 
-// Wrong, or the places behind the text read and the field written.
-#[derive(Drop)]
-pub enum Condition {
-    Wrong,
-    Read { next: usize, end: usize },
+// A condition that was read: the places behind its text and behind its field.
+#[derive(Clone, Copy, PartialEq, Eq, Debug)]
+pub struct Condition {
+    pub next: usize,
+    pub end: usize,
 }
 
 #[derive(Drop)]
@@ -46,48 +47,39 @@ fn read_plain(
     at: usize,
     out: &mut [u8],
     end: usize,
-) -> Condition
+) -> Option<Condition>
     requires has_room { HasRoom text.now at out.old (end + field_head_size) }
     requires raised_le_opposite_from { raised ≤ opposite_from }
     ensures { ConditionRead text.now at (plain_ahead tags.now raised (drop at text.now)) end
         out.old result out.new }
 {
-    if !lexer::word::starts(text, at, b"c") {
-        return Condition::Wrong;
-    }
-    match lexer::number::read_number(text, at + 1, NumberLimit::COLUMN) {
-        Number::Wrong => Condition::Wrong,
-        Number::Read {
-            number: column,
-            next: behind,
-        } => {
-            if !lexer::word::starts(text, behind, b" ") {
-                return Condition::Wrong;
-            }
-            let operand = end + FieldHead::SIZE;
-            match operands::test::read_test(tags, column as usize, text, behind + 1, out, operand) {
-                Test::Wrong => Condition::Wrong,
-                Test::Read {
-                    kind,
-                    next,
-                    end: stop,
-                } => {
-                    put_head(out, end, stop - operand, column as u8, kind + raised);
-                    Condition::Read { next, end: stop }
-                }
-            }
-        }
-    }
+    let digits = read_word(text, at, b"c")?;
+    let column = read_number(text, digits, NumberLimit::COLUMN)?;
+    let behind = read_word(text, column.next, b" ")?;
+    let operand = end + FieldHead::SIZE;
+    let test = read_test(tags, column.number as usize, text, behind, out, operand)?;
+    let size = test.end - operand;
+    put_head(out, end, size, column.number as u8, test.kind + raised);
+    Some(Condition {
+        next: test.next,
+        end: test.end,
+    })
 }
 
 // The condition at a place of the text, its field written to the output from a place on.
-pub fn read_condition(tags: &[u8], text: &[u8], at: usize, out: &mut [u8], end: usize) -> Condition
+pub fn read_condition(
+    tags: &[u8],
+    text: &[u8],
+    at: usize,
+    out: &mut [u8],
+    end: usize,
+) -> Option<Condition>
     requires { HasRoom text.now at out.old (end + field_head_size) }
     ensures { ConditionRead text.now at (condition_ahead tags.now (drop at text.now)) end
         out.old result out.new }
 {
-    if lexer::word::starts(text, at, b"not ") {
-        return read_plain(tags, Kind::OPPOSITE_FROM, text, at + 4, out, end);
+    match read_word(text, at, b"not ") {
+        Some(next) => read_plain(tags, Kind::OPPOSITE_FROM, text, next, out, end),
+        None => read_plain(tags, 0, text, at, out, end),
     }
-    read_plain(tags, 0, text, at, out, end)
 }

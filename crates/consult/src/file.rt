@@ -5,12 +5,6 @@ use std::fs;
 use std::io::Read;
 use std::rt::Files;
 
-#[derive(Drop)]
-pub enum File {
-    Unreadable,
-    Bytes(usize),
-}
-
 // How long each file may be.
 #[derive(Drop)]
 pub struct CatalogueFile;
@@ -33,46 +27,37 @@ impl OrderFile {
     pub const LIMIT: usize = 64;
 }
 
-// One read; no bytes at the end of the file.
-fn read_some(file: &mut impl Read, space: &mut [u8]) -> File
+// One read; no bytes at the end of the file, and none told where it fails.
+fn read_some(file: &mut impl Read, space: &mut [u8]) -> Option<usize>
     ensures { Held space.new result }
 {
-    match file.read(space) {
-        Ok(n) => File::Bytes(n),
-        Err(_) => File::Unreadable,
-    }
+    file.read(space).ok()
 }
 
-// All bytes of an open file; unreadable where a read fails or the file is longer than the space.
-fn read_all(file: &mut impl Read, space: &mut [u8]) -> File
+// All bytes of an open file; none told where a read fails or the file is longer than the space.
+fn read_all(file: &mut impl Read, space: &mut [u8]) -> Option<usize>
     ensures { Held space.new result }
 {
-    let mut at: usize = 0;
+    let mut at = 0;
     while at < space.len() {
-        let File::Bytes(n) = read_some(file, &mut space[at..]) else {
-            return File::Unreadable;
-        };
+        let n = read_some(file, &mut space[at..])?;
         if n == 0 {
-            return File::Bytes(at);
+            return Some(at);
         }
         at += n;
     }
     let mut more = [0u8; 1];
-    let File::Bytes(0) = read_some(file, &mut more) else {
-        return File::Unreadable;
-    };
-    File::Bytes(at)
+    match read_some(file, &mut more)? {
+        0 => Some(at),
+        _ => None,
+    }
 }
 
-// A path that is no text names no file here.
-pub fn read_file(rt: &impl Files, path: &[u8], space: &mut [u8]) -> File
+// How many bytes of a file stand in the space; none told where it cannot be read. A path that is no text names no file here.
+pub fn read_file(rt: &impl Files, path: &[u8], space: &mut [u8]) -> Option<usize>
     ensures { Held space.new result }
 {
-    let Ok(path) = str::from_utf8(path) else {
-        return File::Unreadable;
-    };
-    let Ok(mut file) = fs::open(rt, path) else {
-        return File::Unreadable;
-    };
+    let path = str::from_utf8(path).ok()?;
+    let mut file = fs::open(rt, path).ok()?;
     read_all(&mut file, space)
 }

@@ -8,7 +8,7 @@ ghost use Rattle.consultation.specs.Consultation.{longest};
 ghost use Rattle.consult.specs.File.{IsPrefixLen};
 ghost use Rattle.consult.specs.Prints.{Prints};
 
-use file::{CatalogueFile, File, OrderFile, QuestionFile};
+use file::{CatalogueFile, OrderFile, QuestionFile};
 use std::io;
 use std::io::Write;
 use std::rt::Files;
@@ -25,13 +25,7 @@ fn consult(rt: &impl Files, out: &mut [u8]) -> usize
     let first = file::read_file(rt, b"catalogue.bin", &mut catalogue);
     let second = file::read_file(rt, b"question.bin", &mut question);
     let third = file::read_file(rt, b"order.bin", &mut order);
-    let File::Bytes(c) = first else {
-        return consultation::write_unreadable(out);
-    };
-    let File::Bytes(q) = second else {
-        return consultation::write_unreadable(out);
-    };
-    let File::Bytes(o) = third else {
+    let (Some(c), Some(q), Some(o)) = (first, second, third) else {
         return consultation::write_unreadable(out);
     };
     consultation::write_consultation(&catalogue[..c], &question[..q], &order[..o], out)

@@ -11,8 +11,10 @@ use Rattle.fields.specs.Decoded.{Decoded, refused, accepted}
 use Rattle.catalogue.specs.Catalogue.{Catalogue}
 use Rattle.catalogue.specs.Format.{row_limit}
 use Rattle.catalogue.specs.Decode.{decode_catalogue}
+use Rattle.std.specs.Prelude.{Result, Ok, Err, MatchResult}
+use Rattle.catalogue.specs.declared.refusal.Refusal.{Refusal}
 use Rattle.layout.specs.declared.Layout.{Layout}
-use Rattle.layout.specs.Layout.{Laid, LaidOut}
+use Rattle.layout.specs.Layout.{LaidOut}
 use Rattle.query.specs.Format.{predicate_limit}
 use Rattle.strategy.specs.Order.{is_order}
 use Rattle.bitmaps.specs.Bitmap.{bytes_for}
@@ -29,9 +31,13 @@ use Rattle.register.specs.Register as register
 use Rattle.register.specs.Writing.{room_for}
 use Rattle.consultation.specs.Consultation.{listed_size, looks_size, lent_by, consultation_run, register_of_run, register_after, consultation_of, longest}
 
-pub laid_few : (b : List ℕ) (l : Layout) (d : Decoded Catalogue) → LaidOut b l d → l.rows ≤ row_limit
-laid_few b l (refused e) h = omega arith
-laid_few b l (accepted c) h = h.short
+-- the rows of a layout, or 0 where the catalogue is refused: those of the catalogue, if there is one
+pub rows_shown : (b : List ℕ) (r : Result Layout Refusal) (rows : ℕ) (d : Decoded Catalogue) → LaidOut b r d → MatchResult r (λ l. rows ≡ l.rows) (λ e. rows ≡ 0)
+    → (rows ≤ row_limit) × ((C : Catalogue) → d ≡ accepted C → rows ≡ C.rows)
+rows_shown b (Ok l) rows (accepted C) h m = (omega (arith, h.short), λ D e. let y : C ≡ D = cc in m ∙ h.rows ∙ ap (λ (x : Catalogue). x.rows) y)
+rows_shown b (Ok l) rows (refused n) h m = absurd h
+rows_shown b (Err x) rows (accepted C) h m = absurd h
+rows_shown b (Err x) rows (refused n) h m = (omega arith, λ D e. let y : ◌≡◌ {A = ℕ} 0 1 = cc in absurd (omega arith))
 
 -- what keeps its length
 pub as_long : {m n : ℕ} → n ≡ m → m ≤ n
@@ -88,9 +94,9 @@ module _ (b q order : List ℕ) where
   unfolding run_of run_on checked
   not_order_lem i d h = rw (d, h)
 
-  module _ (rows : ℕ) (l : Layout) (laid : LaidOut b l (decode_catalogue b)) (r : rows ≡ l.rows) where
+  module _ (rows : ℕ) (shown : (C : Catalogue) → decode_catalogue b ≡ accepted C → rows ≡ C.rows) where
     same_rows : (i : Input) → Decodes b q i → rows ≡ row_count i
-    same_rows i d = let h : Laid b l i.catalogue = rw d.0 at laid in r ∙ h.rows
+    same_rows i d = shown i.catalogue d.0
 
     -- an accepted order has as many bytes as the question has conditions, and a refusal's register shows none
     written_is : written rows (length order) ≡ consultation_of b q order

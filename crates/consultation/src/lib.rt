@@ -11,7 +11,7 @@ use answers::tally::Tally;
 use bitmaps::copy::Line;
 use query::format::Predicate;
 
-// Document 01's refusal 19; the contracts tie it to that of specs/Consultation.antt.
+// Document 01's refusal 19; the contracts tie it to that of specs/Consultation.antt. It is printed and never answered: an enum of one is no plainer.
 #[derive(Drop)]
 pub struct Refusal;
 
@@ -38,8 +38,7 @@ pub fn write_consultation(catalogue: &[u8], question: &[u8], order: &[u8], out: 
         &mut tally,
     );
     // The word of a run has no number of entries; a refused catalogue has none.
-    let layout = layout::lay_out(catalogue);
-    let rows = layout.rows;
+    let rows = layout::lay_out(catalogue).map_or(0, |layout| layout.rows);
     register::text::write_register(
         answers::word::number_in(word),
         answers::word::first_in(word),

@@ -21,11 +21,6 @@ use Rattle.task.specs.Log.{probe_field_size, probe_field}
 use Rattle.copy_log.specs.MarkedLog.{marked_number, turn_field, turn_fields, HasTurns}
 use Rattle.task.proofs.Fields.{probe_length}
 
--- a mark as a byte
-pub mark_small : (b : Bool) → bool_byte b ≤ 1
-mark_small true = omega arith
-mark_small false = omega arith
-
 pub record RowLoop (turns : List ℕ) (row due met blank at : ℕ) (old : List ℕ) (left end : ℕ) (new : List ℕ) : Type 0 where
   pub passed : ℕ
   pub inside : passed ≤ length turns
@@ -75,14 +70,14 @@ module _ {turns : List ℕ} {row due met blank at : ℕ} {old : List ℕ} {left 
             let e = ap length text ∙ length-append (joined (turn_field turns row due met blank) L.passed) (probe_field row (get_or turns t 0) (marked_number (has met t) (has blank t))) in
             omega (arith, L.wrote.place, L.size, probe_length row (get_or turns t 0) (marked_number (has met t) (has blank t)))
 
-        -- the field is written: w is t at another width, p and q tell whether the turn is one of a yes or of a blank
-        pub row_next : {w next r : ℕ} {newer : List ℕ} {p q : Bool} → w ≡ t → p ≡ has met t → q ≡ has blank t → RestIs left next → length newer ≡ length new
-            → Wrote end (probe_field row (get_or turns w 0) (bool_byte p + 2 * bool_byte q)) new r newer → RowLoop turns row due met blank at old next r newer
-        row_next w-is p-is q-is R size wrote = record {
+        -- the field is written: w is t at another width, x and y tell whether the turn is one of a yes or of a blank
+        pub row_next : {w x y next r : ℕ} {newer : List ℕ} → w ≡ t → x ≡ bool_byte (has met t) → y ≡ bool_byte (has blank t) → RestIs left next → length newer ≡ length new
+            → Wrote end (probe_field row (get_or turns w 0) (x + 2 * y)) new r newer → RowLoop turns row due met blank at old next r newer
+        row_next w-is x-is y-is R size wrote = record {
           passed = suc t;
           inside = next_inside;
           to_come = λ i. rest_has T R i ∙ after i (same? i t);
-          wrote = wrote_same (sym text) (wrote_then (omega (arith, next_room, L.size)) L.wrote (rw (w-is, p-is, q-is, digit_is (has met t), digit_is (has blank t)) at wrote));
+          wrote = wrote_same (sym text) (wrote_then (omega (arith, next_room, L.size)) L.wrote (rw (w-is, x-is, y-is, digit_is (has met t), digit_is (has blank t)) at wrote));
           size = size ∙ L.size;
         }
           where

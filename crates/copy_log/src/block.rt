@@ -29,10 +29,8 @@ pub fn put_block(
     gather::gather(turns, probed, base, &mut dues);
     gather::gather(turns, met, base, &mut mets);
     let mut end = at;
-    let mut d: usize = 0;
-    while d < count {
+    for d in 0..count {
         end = crate::field::put_row(out, end, turns, base + d, dues[d], mets[d], blanks[d]);
-        d += 1;
     }
     end
 }

@@ -15,7 +15,8 @@ impl ProbeField {
     pub const PAYLOAD_SIZE: u8 = 4;
 }
 
-// Writes the field of a probe from `at` on and gives the place behind it.
+// Writes the field of a probe from `at` on and gives the place behind it. The outcome is the format's byte: of a row two sets of turns tell it,
+// and no `Outcome` is made.
 fn put_probe(out: &mut [u8], at: usize, row: usize, c: u8, outcome: u8) -> usize
     requires { at + probe_field_size ≤ length out.old }
     ensures { Wrote at (probe_field row c outcome) out.old result out.new }
@@ -50,7 +51,8 @@ pub fn put_row(
     let mut left = due;
     while left != 0 {
         let i = sets::first(left);
-        let c = turns[fields::number::widen(i)];
+        let c = turns[usize::from(i)];
+        // `as`, not `u8::from`: with that a copy takes up to a sixth longer (12 conditions over four columns: 1.20 of the engine by hand, for 1.04).
         let outcome = sets::has(met, i) as u8 + 2 * (sets::has(blank, i) as u8);
         end = put_probe(out, end, row, c, outcome);
         left = sets::rest(left);

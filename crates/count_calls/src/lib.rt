@@ -1,7 +1,7 @@
 // The counts alone, as calls of an archive of their own, for the benchmark and the tests: no part of the engine.
 #![tactic(auto)]
 
-ghost use Rattle.std.specs.Prelude.{◌≡◌, min};
+ghost use Rattle.std.specs.Prelude.{◌≡◌};
 ghost use Rattle.bitmaps.specs.Bitmap.{ones_in};
 ghost use Rattle.count_calls.specs.Counted.{counted, counted_lines};
 
@@ -15,19 +15,10 @@ impl Table {
     pub const LIMIT: usize = 16_384;
 }
 
-fn lesser(x: usize, y: usize) -> usize
-    ensures { result ≡ min x y }
-{
-    if x < y {
-        return x;
-    }
-    y
-}
-
 fn front(table: &[u8]) -> &[u8]
     ensures { result.now ≡ counted table.now }
 {
-    &table[..lesser(Table::LIMIT, table.len())]
+    &table[..Table::LIMIT.min(table.len())]
 }
 
 // The ones of a table, a word at a time.
@@ -51,7 +42,7 @@ pub fn searchroom_count_lines(table: &[u8], lines: usize, size: usize) -> u64
     let whole = front(table);
     counts::lines::count_lines(
         whole,
-        lesser(whole.len() / Line::SIZE, lines),
-        lesser(Line::SIZE, size),
+        lines.min(whole.len() / Line::SIZE),
+        size.min(Line::SIZE),
     )
 }

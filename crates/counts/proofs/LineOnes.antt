@@ -68,6 +68,10 @@ module _ (t : List ℕ) where
   unfolding sum_of
   seven_across at b l = words_across at 7 b (λ c k. omega arith) ∙ rw (add-zero at) (omega arith)
 
+-- the sum and the ones of what is left of seven lines, behind i bytes of each, are the ones of the lines
+abbrev pub LeftOfLines : (table : List ℕ) → (line size sum i : ℕ) → Type 0
+LeftOfLines table line size sum i = (sum + ones_in (lines_of (size - i) (drop (line + i) table) 7) ≡ ones_in (lines_of size (drop line table) 7)) × (sum ≤ 8 * (7 * i))
+
 -- what is left of n lines: all of them, and a word less of each
 module _ (t : List ℕ) (line size n : ℕ) where
   pub left_all : 0 + ones_in (lines_of (size - 0) (drop (line + 0) t) n) ≡ ones_in (lines_of size (drop line t) n)
@@ -80,13 +84,13 @@ module _ (t : List ℕ) (line size n : ℕ) where
       let y : line + i + word_size ≡ line + (i + word_size) = omega arith in
       rw (z, ← y, ← drop-drop word_size (line + i) t) (lines_cut (drop (line + i) t) word_size (size - (i + word_size)) n)
 
--- the lines passed by a loop: their number, where they end, and the ones counted in them
-abbrev pub LinesPassed : (table : List ℕ) → (n size sum c line : ℕ) → Type 0
-LinesPassed table n size sum c line = (c ≤ n) × (line ≡ c * line_size) × (sum ≡ ones_in (lines_of size table c)) × (sum ≤ 8 * (c * size))
+-- the ones counted in the lines passed by a loop
+abbrev pub LinesPassed : (table : List ℕ) → (size sum c : ℕ) → Type 0
+LinesPassed table size sum c = (sum ≡ ones_in (lines_of size table c)) × (sum ≤ 8 * (c * size))
 
-pub none_passed : (table : List ℕ) (n size : ℕ) → LinesPassed table n size 0 0 0
+pub none_passed : (table : List ℕ) (size : ℕ) → LinesPassed table size 0 0
 unfolding lines_of joined ones_in
-none_passed table n size = (omega arith, omega arith, refl, omega arith)
+none_passed table size = (refl, omega arith)
 
 -- line c alone, handed on as a part
 module _ (size : ℕ) (from : List ℕ) (c line next : ℕ) (l : line ≡ c * line_size) (e : next ≡ line + size) where

@@ -1,12 +1,11 @@
 -- The ones of a word are those of its bytes; the ones of what is left of a table, by a byte or a word less.
-use Prim.Native.Nat.{ℕ, zero, suc, ◌+◌, ◌*◌, ◌≤◌, ◌<◌}
-use native.Mathlib.Numerals.{add-one}
-use native.Mathlib.Omega.{arith}
-use mathlib.Core.Path.{◌≡◌, sym, ap, ◌∙◌}
-use mathlib.Core.List.{List}
-use lib.ListN.{length, take, drop, get_or, take-append-drop, drop_of_length-le}
-use lib.Seq.{drop-cons, drop-drop}
-use lib.Count.{ones, ones_cat, ones-le}
+use Rattle.std.proofs.Common.{ℕ, zero, suc, ◌+◌, ◌*◌, ◌≤◌, ◌<◌, ◌≡◌, List, [], length, take, drop, get_or, sym, ap, ◌∙◌, arith, add-one, suc-mul, zero-mul, length-drop, take_all, drop-cons, drop-drop}
+use Rattle.std.proofs.Math.ListN.{take-append-drop, drop_of_length-le}
+use Rattle.std.proofs.Math.Seq.{length-take-le}
+use Rattle.std.proofs.lemmas.Nat.{ones_cat, ones-le}
+use Rattle.std.specs.Int.Count.{ones}
+use Rattle.std.specs.Simd.{first_chunks}
+use Rattle.fields.proofs.ByteLaws.{bytes_take, bytes_drop}
 use Rattle.fields.specs.Numbers.{Bytes}
 use Rattle.words.specs.Words.{word_at}
 use Rattle.bitmaps.specs.Bitmap.{ones_in}
@@ -36,9 +35,25 @@ pub byte_next : (t : List ℕ) (i : ℕ) → i < length t → ones_in (drop i t)
 unfolding ones_in
 byte_next t i h = rw (add-one, drop-cons t i 0)
 
+-- chunk i of the first n
+chunk_at : (k n : ℕ) (t : List ℕ) (i : ℕ) → i < n → get_or (first_chunks k n t) i [] ≡ take k (drop (i * k) t)
+chunk_at k zero t i l = absurd (omega arith)
+chunk_at k (suc n) t zero l = rw (zero-mul k)
+chunk_at k (suc n) t (suc i) l =
+    let z : suc i * k ≡ k + i * k = omega (arith, suc-mul i k) in
+    rw z (chunk_at k n (drop k t) i (omega arith) ∙ ap (take k) (drop-drop (i * k) k t))
+
 -- one word more
-pub word_next : (t : List ℕ) → Bytes t → (i : ℕ) → i + word_size ≤ length t → ones_in (drop i t) ≡ ones (word_at t i word_size) + ones_in (drop (i + word_size) t)
-word_next t b i l = rw (ones_word t b i word_size l, ← drop-drop word_size i t) (ones_parted (drop i t) word_size)
+pub word_next : (t : List ℕ) → Bytes t → (n i : ℕ) → i < n → n * word_size ≤ length t
+    → ones_in (drop (i * word_size) t) ≡ ones (word_at (get_or (first_chunks word_size n t) i []) 0 word_size) + ones_in (drop ((i + 1) * word_size) t)
+word_next t b n i l h =
+    let p = i * word_size in
+    let chunk = take word_size (drop p t) in
+    let long : length chunk ≡ word_size = length-take-le word_size (drop p t) (omega (arith, length-drop p t)) in
+    let here : ones (word_at chunk 0 word_size) ≡ ones_in chunk =
+    ones_word chunk (bytes_take (drop p t) word_size (bytes_drop t p b)) 0 word_size (omega arith) ∙ ap ones_in (take_all word_size chunk (omega arith)) in
+    let z : (i + 1) * word_size ≡ p + word_size = omega arith in
+    rw (chunk_at word_size n t i l, here, z, ← drop-drop word_size p t) (ones_parted (drop p t) word_size)
 
 pub none_left : (t : List ℕ) (i : ℕ) → length t ≤ i → ones_in (drop i t) ≡ 0
 unfolding ones_in

@@ -5,7 +5,7 @@ ghost use Rattle.std.specs.Int.Count.{ones};
 use crate::ones::ones_of_word;
 
 // What a full adder gives, for all 64 bits at once.
-#[derive(Drop)]
+#[derive(Clone, Copy)]
 struct Added {
     sum: u64,
     carry: u64,

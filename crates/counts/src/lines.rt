@@ -32,14 +32,10 @@ fn count_each_line(table: &[u8], n: usize, size: usize) -> u64
     requires { (size ≤ line_size) × (n * line_size + size ≤ length table.now + line_size) × (length table.now < 2 ^ 61) }
     ensures { (result ≡ ones_in (lines_of size table.now n)) × (result ≤ 8 * (n * size)) }
 {
-    let mut sum: u64 = 0;
-    let mut c: usize = 0;
-    let mut line: usize = 0;
-    while c < n {
-        let next = line + size;
-        sum += count_ones(&table[line..next]);
-        c += 1;
-        line += Line::SIZE;
+    let mut sum = 0;
+    for c in 0..n {
+        let line = c * Line::SIZE;
+        sum += count_ones(&table[line..line + size]);
     }
     sum
 }
@@ -49,12 +45,12 @@ fn count_seven_lines(table: &[u8], line: usize, size: usize) -> u64
     requires { (size ≤ line_size) × (line + 7 * line_size ≤ length table.now) × (length table.now < 2 ^ 61) }
     ensures { (result ≡ ones_in (lines_of size (drop line table.now) 7)) × (result ≤ 8 * (7 * size)) }
 {
-    let mut sum: u64 = 0;
-    let mut i: usize = 0;
-    while Word::SIZE <= size - i {
-        sum += ones_across(table, line + i);
-        i += Word::SIZE;
+    let mut sum = 0;
+    let words = size / Word::SIZE;
+    for w in 0..words {
+        sum += ones_across(table, line + w * Word::SIZE);
     }
+    let i = words * Word::SIZE;
     sum + count_each_line(&table[line + i..], 7, size - i)
 }
 
@@ -63,15 +59,13 @@ pub fn count_lines(table: &[u8], n: usize, size: usize) -> u64
     requires { (size ≤ line_size) × (n * line_size ≤ length table.now) × (length table.now < 2 ^ 61) }
     ensures { (result ≡ ones_in (lines_of size table.now n)) × (result ≤ 8 * (n * size)) }
 {
-    let mut sum: u64 = 0;
-    let mut c: usize = 0;
-    let mut line: usize = 0;
-    while 7 <= n - c {
-        sum += count_seven_lines(table, line, size);
-        c += 7;
-        line += 7 * Line::SIZE;
+    let mut sum = 0;
+    let sevens = n / 7;
+    for s in 0..sevens {
+        sum += count_seven_lines(table, s * 7 * Line::SIZE, size);
     }
-    sum + count_each_line(&table[line..], n - c, size)
+    let c = sevens * 7;
+    sum + count_each_line(&table[c * Line::SIZE..], n - c, size)
 }
 
 fn whole_words(size: usize) -> usize

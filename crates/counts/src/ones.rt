@@ -4,12 +4,11 @@ ghost use Rattle.std.specs.Int.Count.{ones};
 ghost use Rattle.bitmaps.specs.Bitmap.{ones_in};
 
 use crate::bytes::count_bytes;
-use bitmaps::word::Word;
 
 pub fn ones_of_word(x: u64) -> u64
     ensures { (result ≡ ones x) × (result ≤ 64) }
 {
-    u64::count_ones(x) as u64
+    u64::from(x.count_ones())
 }
 
 // The number of ones in a table, word by word.
@@ -17,11 +16,10 @@ pub fn count_ones(table: &[u8]) -> u64
     requires { length table.now < 2 ^ 61 }
     ensures { (result ≡ ones_in table.now) × (result ≤ 8 * length table.now) }
 {
-    let mut sum: u64 = 0;
-    let mut i: usize = 0;
-    while Word::SIZE <= table.len() - i {
-        sum += ones_of_word(words::word_at(table, i));
-        i += Word::SIZE;
+    let (words, tail) = table.as_chunks::<8>();
+    let mut sum = 0;
+    for word in words {
+        sum += ones_of_word(words::word_at(word, 0));
     }
-    sum + count_bytes(&table[i..])
+    sum + count_bytes(tail)
 }

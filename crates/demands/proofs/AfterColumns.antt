@@ -8,14 +8,14 @@ use lib.ListN.{length, get_or, take, drop, length-drop}
 use lib.Seq.{take_all, drop-drop, length-take-le}
 use lib.Dec.{eqb}
 use borrow.Author.Tests.{eq-eqb, ne_eqb, eqb-true}
-use Rattle.fields.specs.declared.header.Header.TheVariants.{Field}
+use Rattle.std.specs.Prelude.{Some, Ok, Err}
 use Rattle.fields.specs.Decoded.{Decoded, refused, accepted, mapped}
 use Rattle.fields.specs.Numbers.{number_at, Bytes}
-use Rattle.fields.specs.Header.{header_at, header_size, field_of}
+use Rattle.fields.specs.Header.{header_at, some_field, header_size, field_of}
 use Rattle.fields.proofs.ByteLaws.{bytes_take, bytes_drop}
 use Rattle.fields.proofs.FieldLaws.{header_whole, header_cut, first_dropped, number_dropped}
 use Rattle.bitmaps.specs.Bitmap.{bytes_for}
-use Rattle.catalogue.specs.declared.mark.MarkField.TheVariants.{Refused, Marked}
+use Rattle.catalogue.specs.declared.refusal.Refusal.TheVariants as refusal
 use Rattle.catalogue.specs.Format.{first_tag, mark_tag, field_cut, bytes_left_over, bad_mark}
 use Rattle.catalogue.specs.Catalogue.{Mark, unmarked, marked, Catalogue, with_mark}
 use Rattle.catalogue.specs.Mark.{stray_bit, mark_field_of, mark_field_at, mark_of}
@@ -40,11 +40,11 @@ module _ (b : List ℕ) (rows at : ℕ) (tail : List ℕ) (stands : drop at b �
   bytes_there : drop (at + header_size) b ≡ drop header_size tail
   bytes_there = sym (drop-drop header_size at b) ∙ ap (drop header_size) stands
 
-  field_there : header_size + declared_size tail ≤ length tail → header_at b at (length b) ≡ Field (get_or b at 0) (at + header_size) (at + header_size + declared_size tail)
+  field_there : header_size + declared_size tail ≤ length tail → header_at b at (length b) ≡ some_field (get_or b at 0) (at + header_size) (at + header_size + declared_size tail)
   field_there l = header_whole b at (length b) (omega (arith, tail_length, size_there)) ∙ rw size_there
 
   -- another byte
-  other : 0 < length tail → (get_or tail 0 0 ≡ mark_tag → ⊥) → mark_field_at b rows at ≡ Refused bytes_left_over
+  other : 0 < length tail → (get_or tail 0 0 ≡ mark_tag → ⊥) → mark_field_at b rows at ≡ Err refusal.BytesLeftOver
   unfolding mark_field_at
   other l n = let k = tail_length in rw (ne_eqb at (length b) (λ e. omega arith), ne_eqb (get_or b at 0) mark_tag (λ e. n (sym tag_there ∙ e)))
 
@@ -53,7 +53,7 @@ module _ (b : List ℕ) (rows at : ℕ) (tail : List ℕ) (stands : drop at b �
     unfolding mark_field_at
     tagged = let k = tail_length in rw (ne_eqb at (length b) (λ e. omega arith), eq-eqb (get_or b at 0) mark_tag (tag_there ∙ tag))
 
-    cut : length tail < header_size + declared_size tail → mark_field_at b rows at ≡ Refused field_cut
+    cut : length tail < header_size + declared_size tail → mark_field_at b rows at ≡ Err refusal.FieldCut
     unfolding mark_field_of
     cut l = tagged ∙ rw (header_cut b at (length b) (omega (arith, tail_length, size_there)))
 
@@ -62,15 +62,15 @@ module _ (b : List ℕ) (rows at : ℕ) (tail : List ℕ) (stands : drop at b �
       size_is = length-take-le (declared_size tail) (drop header_size tail) (rw length-drop (omega arith))
 
       whole : mark_field_at b rows at
-          ≡ cond (eqb (declared_size tail) (bytes_for rows) && not (stray_bit (declared_payload tail) rows)) (cond (eqb (at + header_size + declared_size tail) (length b)) (Marked (at + header_size)) (Refused bytes_left_over)) (Refused bad_mark)
+          ≡ cond (eqb (declared_size tail) (bytes_for rows) && not (stray_bit (declared_payload tail) rows)) (cond (eqb (at + header_size + declared_size tail) (length b)) (Ok (Some (at + header_size))) (Err refusal.BytesLeftOver)) (Err refusal.BadMark)
       unfolding mark_field_of
       whole = let z : at + header_size + declared_size tail - (at + header_size) ≡ declared_size tail = omega arith in tagged ∙ rw (field_there l, z, bytes_there)
 
-      bad : Bytes tail → (FormedBits rows (declared_payload tail) → ⊥) → mark_field_at b rows at ≡ Refused bad_mark
+      bad : Bytes tail → (FormedBits rows (declared_payload tail) → ⊥) → mark_field_at b rows at ≡ Err refusal.BadMark
       bad bytes unformed = whole ∙ go (eqb (declared_size tail) (bytes_for rows)) refl (stray_bit (declared_payload tail) rows) refl
         where
           go : (x : Bool) → eqb (declared_size tail) (bytes_for rows) ≡ x → (y : Bool) → stray_bit (declared_payload tail) rows ≡ y
-              → cond (x && not y) (cond (eqb (at + header_size + declared_size tail) (length b)) (Marked (at + header_size)) (Refused bytes_left_over)) (Refused bad_mark) ≡ Refused bad_mark
+              → cond (x && not y) (cond (eqb (at + header_size + declared_size tail) (length b)) (Ok (Some (at + header_size))) (Err refusal.BytesLeftOver)) (Err refusal.BadMark) ≡ Err refusal.BadMark
           go false e y f = refl
           go true e true f = refl
           go true e false f =
@@ -81,7 +81,7 @@ module _ (b : List ℕ) (rows at : ℕ) (tail : List ℕ) (stands : drop at b �
                 unused = stray_unused (declared_payload tail) rows size f;
               }))
 
-      more : header_size + declared_size tail < length tail → FormedBits rows (declared_payload tail) → mark_field_at b rows at ≡ Refused bytes_left_over
+      more : header_size + declared_size tail < length tail → FormedBits rows (declared_payload tail) → mark_field_at b rows at ≡ Err refusal.BytesLeftOver
       more m formed =
           let n = tail_length in
           whole ∙ rw (eq-eqb (declared_size tail) (bytes_for rows) (sym size_is ∙ formed.size), unused_stray (declared_payload tail) rows formed, ne_eqb (at + header_size + declared_size tail) (length b) (λ e. omega arith))

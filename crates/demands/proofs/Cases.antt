@@ -34,7 +34,7 @@ use Rattle.bitmaps.specs.Bitmap.{bytes_for, bitmap, bitmaps, ones_in}
 use Rattle.task.specs.Task.{is_selected, due_at, trace_at}
 use Rattle.task.specs.Input.{Input, with_query, decode_input}
 use Rattle.answers.specs.Checks.{checked}
-use Rattle.answers.specs.declared.word.Answer.TheVariants.{Refused, Accepted}
+use Rattle.answers.specs.Answer.{Refused, Accepted}
 use Rattle.answers.specs.Word.{packed}
 use Rattle.demands.specs.Run.{lent, ran, row_count, predicate_count, task_of, selection, probe_bitmaps, tables_fit, counter_size, tally_size, counter_place, counter_at, tally_after, tally_fits, run_on, run_of}
 use Rattle.demands.specs.Parish.{parish, year_blank, both as both_members, question, nested}
@@ -100,7 +100,9 @@ unfolding number_at header_at text_at texts_at zeros_at valid_slot valid_slots n
 nine_nested = refl
 
 pub cases_hold : AllHold cases
-unfolding number_at bytes_of header_at numbers_at counts_at first_field_of column_of columns_at mark_field_at decode_catalogue folded same begins occurs plain_kind asks_content number_test text_test outcome_of update elem predicates decides some_outcomes due trace eval occurrences all_below is_order sum_of joined bitmap bitmaps ones_in bit is_selected due_at trace_at selection probe_bitmaps checked run_on ones digitOnes xor
+unfolding number_at bytes_of header_at numbers_at counts_at first_field_of column_of columns_at mark_field_at decode_catalogue folded same begins
+    occurs plain_kind asks_content number_test text_test outcome_of update elem predicates decides some_outcomes due trace eval occurrences all_below
+    is_order sum_of joined bitmap bitmaps ones_in bit is_selected due_at trace_at selection probe_bitmaps checked run_on ones digitOnes xor
 cases_hold = (
   run_on_lem parish question _ _ _ _ _ parish_input,
   (run_on_lem parish question _ _ _ _ _ parish_input, (refl, (refl, (refl, (refl, (refl, (refl, (refl, (refl, (refl, (refl, (refl, (refl, (refl, (refl, (finds_nothing_lem, (refl, (nine_nested, (run_on_lem parish both_members _ _ _ _ _ both_input, (run_on_lem one_row year_blank _ _ _ _ _ one_input, tt)))))))))))))))))))),

@@ -9,7 +9,7 @@ use Rattle.fields.specs.Output.{put_front}
 use Rattle.bools.specs.Bools.{leb_yes, leb_le}
 use Rattle.catalogue.specs.Sound.{IsRefusal}
 use Rattle.task.specs.Input.{Input}
-use Rattle.answers.specs.declared.word.Answer.TheVariants.{Refused, Accepted}
+use Rattle.answers.specs.Answer.{Refused, Accepted}
 use Rattle.answers.specs.Word.{packed}
 use Rattle.demands.specs.Run.{Request, predicate_count, task_of}
 use Rattle.demands.specs.Demands.{Gives, InBytes, bad_form, bad_check, RunningOrder}

@@ -15,8 +15,7 @@ use Rattle.query.specs.Query.{Query}
 use Rattle.query.specs.Decode.{decode_query}
 use Rattle.query.proofs.Exactly.{decode_encoded, accepted_exactly as question-exactly}
 use Rattle.task.specs.Input.{Input, decode_input}
-use Rattle.answers.specs.declared.word.Answer.{Answer}
-use Rattle.answers.specs.declared.word.Answer.TheVariants.{Refused, Accepted}
+use Rattle.answers.specs.Answer.{Answer, Refused, Accepted}
 use Rattle.answers.specs.Word.{packed, number_of, first_of as first_result, second_of, third_of, FitsWord}
 use Rattle.demands.specs.Demands.{Gives, IsCatalogue, IsQuestion, Reads, FormBroken}
 use Rattle.catalogue.proofs.Refusals.{CatalogueRefusal, catalogue_refusal}

@@ -12,7 +12,7 @@ use Rattle.catalogue.specs.Sound.{IsRefusal}
 use Rattle.bitmaps.specs.Bitmap.{bytes_for}
 use Rattle.task.specs.Task.{is_selected}
 use Rattle.task.specs.Input.{Input}
-use Rattle.answers.specs.declared.word.Answer.TheVariants.{Refused, Accepted}
+use Rattle.answers.specs.Answer.{Refused, Accepted}
 use Rattle.demands.specs.Run.{Lent, row_count, predicate_count, task_of, found_count, look_count, reader_limit, counter_at, tables_fit, tally_fits, run_checks, accept, refuse, run_on, run_of}
 use Rattle.demands.specs.Demands.{Gives, InBytes, after, RunningOrder, TablesFit, IsReader, TallyFits, bad_form, bad_check, run_sentences, Kept, FirstBroken}
 use Rattle.demands.proofs.DemandLaws.{reads_input, broken_input, unpacked}

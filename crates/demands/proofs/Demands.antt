@@ -53,7 +53,7 @@ use Rattle.bitmaps.specs.Bit.{bit}
 use Rattle.task.specs.Task.{predicate_at, is_selected, is_probed}
 use Rattle.task.specs.Input.{Input, with_query, decode_input}
 use Rattle.task.proofs.Withdrawn.{selected_is}
-use Rattle.answers.specs.declared.word.Answer.TheVariants.{Refused, Accepted}
+use Rattle.answers.specs.Answer.{Refused, Accepted}
 use Rattle.answers.specs.Refusals.{no_such_row_or_predicate}
 use Rattle.answers.specs.Word.{packed}
 use Rattle.answers.specs.Answers.{question_answer, outcome_number, outcome_answer}

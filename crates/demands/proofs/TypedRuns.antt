@@ -21,7 +21,7 @@ use Rattle.query.proofs.Leaves.{each_leaf}
 use Rattle.syntax.specs.Machine.{typed_limit, Typed, misspelled, typed, question_of}
 use Rattle.syntax.proofs.Spelled.{typed_exactly}
 use Rattle.task.specs.Input.{Input}
-use Rattle.answers.specs.declared.word.Answer.TheVariants.{Refused, Accepted}
+use Rattle.answers.specs.Answer.{Refused, Accepted}
 use Rattle.answers.specs.Written.{Written, refuse_writing}
 use Rattle.answers.specs.Refusals.{text_misspelled}
 use Rattle.demands.specs.Demands.{Gives, IsCatalogue, bad_form, bad_check}

@@ -9,8 +9,7 @@ use Rattle.predicate.specs.declared.outcome.Outcome.TheVariants.{No, Yes, Blank}
 use Rattle.predicate.specs.Meaning.{fold, contains, outcome_of}
 use Rattle.strategy.specs.Order.{is_order}
 use Rattle.task.specs.Input.{Input, decode_input}
-use Rattle.answers.specs.declared.word.Answer.{Answer}
-use Rattle.answers.specs.declared.word.Answer.TheVariants.{Refused, Accepted}
+use Rattle.answers.specs.Answer.{Answer, Refused, Accepted}
 use Rattle.answers.specs.Word.{packed}
 use Rattle.answers.specs.Answers.{catalogue_answer, question_answer}
 use Rattle.demands.specs.Run.{lent, Ran, ran, predicate_count, run_of}

@@ -8,7 +8,7 @@ use Rattle.bitmaps.specs.Sums.{digit}
 use Rattle.task.specs.Log.{probe_field_size, log_fields}
 use Rattle.task.specs.Task.{Task, predicate_at, is_probed}
 use Rattle.task.specs.Input.{Input, decode_input}
-use Rattle.answers.specs.declared.word.Answer.TheVariants.{Accepted}
+use Rattle.answers.specs.Answer.{Accepted}
 use Rattle.answers.specs.Word.{packed}
 use Rattle.answers.specs.Written.{Written, written, refuse_writing}
 use Rattle.answers.specs.Refusals.{not_order, output_too_short}

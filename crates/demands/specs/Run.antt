@@ -7,7 +7,7 @@ use Rattle.fields.specs.Output.{put_front, put_at}
 use Rattle.bitmaps.specs.Bitmap.{bytes_for, bitmap, bitmaps, ones_in}
 use Rattle.task.specs.Task.{Task, is_selected, is_probed}
 use Rattle.task.specs.Input.{Input, decode_input}
-use Rattle.answers.specs.declared.word.Answer.TheVariants.{Refused, Accepted}
+use Rattle.answers.specs.Answer.{Refused, Accepted}
 use Rattle.answers.specs.Word.{packed}
 use Rattle.answers.specs.Refusals.{not_order, table_too_short, no_such_reader, tally_refused}
 use Rattle.answers.specs.Checks.{Checks, checked}

@@ -8,7 +8,7 @@ use Rattle.predicate.specs.Payload.{tags_of}
 use Rattle.query.specs.Query.{Query}
 use Rattle.query.specs.Decode.{decode_query}
 use Rattle.syntax.specs.Machine.{typed_limit, Typed, misspelled, typed, question_of}
-use Rattle.answers.specs.declared.word.Answer.TheVariants.{Accepted}
+use Rattle.answers.specs.Answer.{Accepted}
 use Rattle.answers.specs.Word.{packed}
 use Rattle.answers.specs.Written.{Written, written, refuse_writing}
 use Rattle.answers.specs.Refusals.{text_misspelled, typed_output_too_short}

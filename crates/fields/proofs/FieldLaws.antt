@@ -9,10 +9,10 @@ use lib.ListN.{length, get_or, drop, length-append, length-drop, get_or-append}
 use lib.Seq.{drop-cons, drop-drop, drop-append_seam, get_or-drop}
 use lib.Dec.{ltb}
 use borrow.Author.Tests.{ltb-false, lt-ltb, le-ltb}
-use Rattle.fields.specs.declared.header.Header.{Header}
-use Rattle.fields.specs.declared.header.Header.TheVariants.{Cut, Field}
+use Rattle.fields.specs.declared.header.Field.{Field}
+use Rattle.std.specs.Prelude.{Option, None, Some}
 use Rattle.fields.specs.Numbers.{number_at, bytes_of, Bytes}
-use Rattle.fields.specs.Header.{header_at, header_size, field_of}
+use Rattle.fields.specs.Header.{header_at, some_field, header_size, field_of}
 use Rattle.fields.proofs.Laws.{length_bytes, number_of_bytes}
 use Rattle.fields.proofs.Written.{number_written}
 
@@ -24,38 +24,38 @@ pub record FieldAt (b : List ℕ) (at end tag start stop : ℕ) : Type 0 where
   pub within : stop ≤ end
 
 -- what a header tells of the bytes
-abbrev pub HeaderIs : (b : List ℕ) → (at end : ℕ) → Header → Type 0
-HeaderIs b at end Cut = Unit {0}
-HeaderIs b at end (Field tag start stop) = FieldAt b at end tag start stop
+abbrev pub HeaderIs : (b : List ℕ) → (at end : ℕ) → Option Field → Type 0
+HeaderIs b at end None = Unit {0}
+HeaderIs b at end (Some f) = FieldAt b at end f.tag f.start f.end
 
 pub header_is : (b : List ℕ) (at end : ℕ) → HeaderIs b at end (header_at b at end)
 unfolding header_at
 header_is b at end = short (ltb (end - at) header_size) refl
   where
     long : (x : Bool) → ltb (end - (at + header_size)) (number_at b (at + 1) 2) ≡ x → header_size ≤ end - at
-        → HeaderIs b at end (cond x Cut (Field (get_or b at 0) (at + header_size) (at + header_size + number_at b (at + 1) 2)))
+        → HeaderIs b at end (cond x None (some_field (get_or b at 0) (at + header_size) (at + header_size + number_at b (at + 1) 2)))
     long true e l = tt
     long false e l =
         let k : number_at b (at + 1) 2 ≤ end - (at + header_size) = ltb-false _ _ e in
         record { tagged = refl; begins = refl; sized = refl; within = omega arith }
 
     short : (x : Bool) → ltb (end - at) header_size ≡ x
-        → HeaderIs b at end (cond x Cut (cond (ltb (end - (at + header_size)) (number_at b (at + 1) 2)) Cut (Field (get_or b at 0) (at + header_size) (at + header_size + number_at b (at + 1) 2))))
+        → HeaderIs b at end (cond x None (cond (ltb (end - (at + header_size)) (number_at b (at + 1) 2)) None (some_field (get_or b at 0) (at + header_size) (at + header_size + number_at b (at + 1) 2))))
     short true e = tt
     short false e = long (ltb (end - (at + header_size)) (number_at b (at + 1) 2)) refl (ltb-false _ _ e)
 
 -- a field is read where there is room for it before the end, and is else cut
 module _ (b : List ℕ) (at end : ℕ) where
-  pub header_whole : at + header_size + number_at b (at + 1) 2 ≤ end → header_at b at end ≡ Field (get_or b at 0) (at + header_size) (at + header_size + number_at b (at + 1) 2)
+  pub header_whole : at + header_size + number_at b (at + 1) 2 ≤ end → header_at b at end ≡ some_field (get_or b at 0) (at + header_size) (at + header_size + number_at b (at + 1) 2)
   unfolding header_at
   header_whole l = rw (le-ltb (end - at) header_size (omega arith), le-ltb (end - (at + header_size)) (number_at b (at + 1) 2) (omega arith))
 
-  pub header_cut : end < at + header_size + number_at b (at + 1) 2 → header_at b at end ≡ Cut
+  pub header_cut : end < at + header_size + number_at b (at + 1) 2 → header_at b at end ≡ None
   unfolding header_at
   header_cut l = go (ltb (end - at) header_size) refl
     where
       go : (x : Bool) → ltb (end - at) header_size ≡ x
-          → cond x Cut (cond (ltb (end - (at + header_size)) (number_at b (at + 1) 2)) Cut (Field (get_or b at 0) (at + header_size) (at + header_size + number_at b (at + 1) 2))) ≡ Cut
+          → cond x None (cond (ltb (end - (at + header_size)) (number_at b (at + 1) 2)) None (some_field (get_or b at 0) (at + header_size) (at + header_size + number_at b (at + 1) 2))) ≡ None
       go true e = refl
       go false e =
           let k : header_size ≤ end - at = ltb-false _ _ e in
@@ -134,7 +134,7 @@ module _ (b : List ℕ) (at tag : ℕ) (payload rest : List ℕ) (h : drop at b 
 
   -- "a two-byte length": of a payload under 65,536 bytes
   pub header_read : (end : ℕ) → length payload < 65536 → at + header_size + length payload ≤ end
-      → header_at b at end ≡ Field tag (at + header_size) (at + header_size + length payload)
+      → header_at b at end ≡ some_field tag (at + header_size) (at + header_size + length payload)
   header_read end l i =
       let t : get_or b at 0 ≡ tag = first_read b at tag (bytes_of 2 (length payload) ++ (payload ++ rest)) parts in
       let n : number_at b (at + 1) 2 ≡ length payload = number_read b (at + 1) 2 (length payload) (payload ++ rest) l after_tag in

@@ -9,9 +9,9 @@ use lib.ListN.{length, get_or, take, drop, length-drop, get_or-append}
 use lib.Seq.{take-append-le, drop-append-le, drop-drop}
 use lib.Dec.{ltb}
 use borrow.Author.Tests.{ltb-false}
-use Rattle.fields.specs.declared.header.Header.TheVariants.{Cut, Field}
+use Rattle.std.specs.Prelude.{None}
 use Rattle.fields.specs.Numbers.{number_at}
-use Rattle.fields.specs.Header.{header_at, header_size}
+use Rattle.fields.specs.Header.{header_at, some_field, header_size}
 use Rattle.fields.proofs.FieldLaws.{FieldAt, header_whole, first_dropped, number_dropped, number_front}
 
 pub record Follows (b b' : List ℕ) (from : ℕ) : Type 0 where
@@ -48,15 +48,15 @@ module _ {b b' : List ℕ} {from : ℕ} (follows : Follows b b' from) where
   header_same at end f l = go (ltb (end - at) header_size) refl
     where
       go : (x : Bool) → ltb (end - at) header_size ≡ x
-          → cond x Cut (cond (ltb (end - (at + header_size)) (number_at b' (at + 1) 2)) Cut (Field (get_or b' at 0) (at + header_size) (at + header_size + number_at b' (at + 1) 2)))
-          ≡ cond x Cut (cond (ltb (end - (at + header_size)) (number_at b (at + 1) 2)) Cut (Field (get_or b at 0) (at + header_size) (at + header_size + number_at b (at + 1) 2)))
+          → cond x None (cond (ltb (end - (at + header_size)) (number_at b' (at + 1) 2)) None (some_field (get_or b' at 0) (at + header_size) (at + header_size + number_at b' (at + 1) 2)))
+          ≡ cond x None (cond (ltb (end - (at + header_size)) (number_at b (at + 1) 2)) None (some_field (get_or b at 0) (at + header_size) (at + header_size + number_at b (at + 1) 2)))
       go true e = refl
       go false e =
           let k : header_size ≤ end - at = ltb-false _ _ e in
           rw (number_same (at + 1) 2 (omega arith) (omega arith), byte_same at f (omega arith))
 
   -- a field that is whole is the same up to a farther end
-  pub header_farther : {at end tag start stop : ℕ} → FieldAt b at end tag start stop → from ≤ at → end ≤ length b → (far : ℕ) → end ≤ far → header_at b' at far ≡ Field tag start stop
+  pub header_farther : {at end tag start stop : ℕ} → FieldAt b at end tag start stop → from ≤ at → end ≤ length b → (far : ℕ) → end ≤ far → header_at b' at far ≡ some_field tag start stop
   header_farther {at} s f l far m =
       let g = s.begins in
       let z = s.sized in

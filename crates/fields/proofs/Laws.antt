@@ -1,10 +1,11 @@
--- A number joined from those of its parts, and a number read back from its bytes.
+-- A number of two, four or eight bytes as std reads and writes it, and a number read back from its bytes.
 use Prim.Native.Nat.{ℕ, zero, suc, ◌+◌, ◌*◌, ◌/◌, ◌%◌, ◌^◌, ◌<◌}
-use native.Mathlib.Nat.{add-zero, zero-add, add-suc, add_assoc, mul_assoc, div-eq_of_lt, div-add-mod', pow-suc, div-div-eq-div-mul, div-one}
+use native.Mathlib.Nat.{add-zero, add-suc, add_assoc, mul_assoc, zero-add, div-eq_of_lt, div-add-mod', pow-suc, div-div-eq-div-mul, div-one}
 use native.Mathlib.Omega.{arith}
-use mathlib.Core.Path.{◌≡◌, refl, sym, ap, ◌∙◌}
-use mathlib.Core.List.{List, [], ◌∷◌}
+use mathlib.Core.Path.{◌≡◌, refl, sym, ap, ap₂, ◌∙◌}
+use mathlib.Core.List.{List, [], ◌∷◌, ◌++◌}
 use lib.ListN.{get_or, length}
+use Rattle.std.specs.Int.{w16, w32, w64, to_be_bytes}
 use Rattle.fields.specs.Numbers.{number_at, bytes_of}
 
 -- the first m bytes and the n behind them
@@ -13,9 +14,19 @@ unfolding number_at
 number_joined b at m zero = rw (add-zero m) (omega arith)
 number_joined b at m (suc n) = rw (add-suc m n, number_joined b at m n, pow-suc 256 n, add_assoc at m n) (omega (arith, mul_assoc (number_at b at m) (256 ^ n) 256))
 
-pub number_one : (b : List ℕ) (at : ℕ) → number_at b at 1 ≡ get_or b at 0
+-- the number of two, four and eight bytes, each at its weight
+pub number_two : (b : List ℕ) (p : ℕ) → number_at b p 2 ≡ get_or b p 0 * 256 + get_or b (p + 1) 0
 unfolding number_at
-number_one b at = rw (add-zero at) (omega arith)
+number_two b p = rw (add-zero p) (omega arith)
+
+pub number_four : (b : List ℕ) (p : ℕ) → number_at b p 4 ≡ get_or b p 0 * 16777216 + get_or b (p + 1) 0 * 65536 + get_or b (p + 2) 0 * 256 + get_or b (p + 3) 0
+unfolding number_at
+number_four b p = rw (add-zero p) (omega arith)
+
+pub number_eight : (b : List ℕ) (p : ℕ)
+    → number_at b p 8 ≡ get_or b p 0 * 256 ^ 7 + get_or b (p + 1) 0 * 256 ^ 6 + get_or b (p + 2) 0 * 256 ^ 5 + get_or b (p + 3) 0 * 256 ^ 4 + get_or b (p + 4) 0 * 256 ^ 3 + get_or b (p + 5) 0 * 65536 + get_or b (p + 6) 0 * 256 + get_or b (p + 7) 0
+unfolding number_at
+number_eight b p = rw (add-zero p) (omega arith)
 
 pub length_bytes : (w x : ℕ) → length (bytes_of w x) ≡ w
 unfolding bytes_of
@@ -39,17 +50,21 @@ front w x h (suc k) j e =
 pub number_of_bytes : (w x : ℕ) → x < 256 ^ w → number_at (bytes_of w x) 0 w ≡ x
 number_of_bytes w x h = front w x h w 0 (omega arith) ∙ div-one x
 
--- two, four and eight bytes as the code forms them
+-- two bytes as the code forms them, and two, four and eight as std does
 pub bytes_two : (x : ℕ) → x / 256 % 256 ∷ x % 256 ∷ [] ≡ bytes_of 2 x
 unfolding bytes_of
 bytes_two x = rw (div-one x)
 
-pub bytes_four : (x : ℕ) → x / 256 ^ 3 % 256 ∷ x / 256 ^ 2 % 256 ∷ x / 256 % 256 ∷ x % 256 ∷ [] ≡ bytes_of 4 x
-unfolding bytes_of
-bytes_four x = rw (div-one x)
+pub be_two : (x : ℕ) → to_be_bytes w16 (x % 65536) ≡ bytes_of 2 x
+be_two x = ap₂ (λ (a b : ℕ). a ∷ b ∷ []) (omega arith) (omega arith) ∙ bytes_two x
 
-pub bytes_eight : (x : ℕ) →
-    x / 256 ^ 7 % 256 ∷ x / 256 ^ 6 % 256 ∷ x / 256 ^ 5 % 256 ∷ x / 256 ^ 4 % 256 ∷ x / 256 ^ 3 % 256 ∷ x / 256 ^ 2 % 256 ∷ x / 256 % 256 ∷ x % 256 ∷ []
-    ≡ bytes_of 8 x
+pub be_four : (x : ℕ) → to_be_bytes w32 (x % 4294967296) ≡ bytes_of 4 x
 unfolding bytes_of
-bytes_eight x = rw (div-one x)
+be_four x =
+    rw (div-one x) (ap₂ (λ (f s : List ℕ). f ++ s)
+    (ap₂ (λ (a b : ℕ). a ∷ b ∷ []) (omega arith) (omega arith))
+    (ap₂ (λ (a b : ℕ). a ∷ b ∷ []) (omega arith) (omega arith)))
+
+pub be_eight : (x : ℕ) → to_be_bytes w64 x ≡ bytes_of 8 x
+unfolding bytes_of
+be_eight x = rw (div-one x)

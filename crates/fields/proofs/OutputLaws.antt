@@ -5,8 +5,8 @@ use native.Mathlib.Numerals.{add-one}
 use native.Mathlib.Omega.{arith}
 use mathlib.Core.Path.{◌≡◌, refl, sym, ap, ap₂, ◌∙◌}
 use mathlib.Core.List.{List, [], ◌∷◌, ◌++◌, append_assoc}
-use lib.ListN.{length, take, drop, get_or, set, length-append, length-drop, take-append-drop}
-use lib.Seq.{length-take-le, take_at, drop_at, take-append_seam, drop-append_seam, take-append-le, drop-append-le, drop-drop, take-length, set_split, append_snoc, paste, paste-zero, paste-suc}
+use lib.ListN.{length, take, drop, set, length-append, length-drop, take-append-drop}
+use lib.Seq.{length-take-le, take_at, drop_at, take-append_seam, drop-append_seam, take-append-le, drop-append-le, drop-drop, set_split, append_snoc, paste-zero}
 use Rattle.fields.specs.Output.{put_at, put_front, Wrote, Front}
 
 -- WHAT STAYS AROUND A PIECE
@@ -90,18 +90,6 @@ pub wrote_same : {at r : ℕ} {p q old new : List ℕ} → p ≡ q → Wrote at 
 wrote_same {at} {r} {p} {q} {old} {new} e w = record {
   bytes = w.bytes ∙ ap (λ (t : List ℕ). put_at at t old) e;
   place = w.place ∙ ap (λ (t : List ℕ). at + length t) e;
-}
-
--- a byte of a piece, and the whole piece
-pub piece_byte : (at i : ℕ) (piece old out : List ℕ) → at + length piece ≤ length old → i < length piece → out ≡ paste old at piece i
-    → set out (at + i) (get_or piece i 0) ≡ paste old at piece (i + 1)
-piece_byte at i piece old out l m q =
-    ap (λ (o : List ℕ). set o (at + i) (get_or piece i 0)) q ∙ paste-suc old at piece i 0 (omega arith) m ∙ ap (paste old at piece) (sym (add-one i))
-
-pub piece_end : (at i : ℕ) (piece old out : List ℕ) → i ≡ length piece → out ≡ paste old at piece i → Wrote at piece old (at + i) out
-piece_end at i piece old out e q = record {
-  bytes = q ∙ ap (paste old at piece) e ∙ ap (λ (t : List ℕ). take at old ++ t ++ drop (at + length piece) old) (take-length piece);
-  place = ap (λ (k : ℕ). at + k) e;
 }
 
 -- one byte

@@ -3,38 +3,40 @@ ghost use Rattle.std.specs.Prelude.{◌≡◌, ◌+◌, ◌≤◌, length};
 ghost use Rattle.fields.specs.Header.{header_size, field_end, header_at, Inside, header_of};
 ghost use Rattle.fields.specs.Output.{Wrote};
 
-// What stands where a field is expected.
-#[derive(Drop)]
-pub enum Header {
-    // Fewer than three bytes are left, or the length passes the end.
-    Cut,
-    // The payload is the bytes from start up to end.
-    Field { tag: u8, start: usize, end: usize },
+// A field, told by its header: the payload is the bytes from start up to end.
+#[derive(Clone, Copy)]
+pub struct Field {
+    pub tag: u8,
+    pub start: usize,
+    pub end: usize,
 }
+
+#[derive(Drop)]
+pub struct Header;
 
 impl Header {
     // The bytes of a header.
     pub const SIZE: usize = 3;
 }
 
-// The field expected at a place inside an enclosing end.
-pub fn read_header(b: &[u8], at: usize, end: usize) -> Header
+// The field expected at a place inside an enclosing end; none where it is cut: fewer than three bytes are left, or the length passes the end.
+pub fn read_header(b: &[u8], at: usize, end: usize) -> Option<Field>
     requires { (at ≤ end) × (end ≤ length b.now) }
     ensures { (result ≡ header_at b.now at end) × Inside at end result }
 {
     if end - at < Header::SIZE {
-        return Header::Cut;
+        return None;
     }
     let start = at + Header::SIZE;
     let size = crate::number::two_bytes(b, at + 1);
     if end - start < size {
-        return Header::Cut;
+        return None;
     }
-    Header::Field {
+    Some(Field {
         tag: b[at],
         start,
         end: start + size,
-    }
+    })
 }
 
 // The place after the field that begins at a place.

@@ -1,11 +1,10 @@
 // Two of an operand's bytes at their distance, not loose letters (heads::byte_test::is_loose) where others are in reach.
 ghost use Rattle.std.specs.Prelude.{◌≡◌, cond, ◌||◌, ◌<◌, length};
-ghost use Rattle.predicate.specs.Meaning.{fold};
-ghost use Rattle.predicate.specs.Outcome.{Folds};
 ghost use Rattle.heads.specs.ByteTest.{is_loose};
 ghost use Rattle.filters.specs.Windows.{InReach, PairFor, pair_at};
 
 use heads::byte_test::ByteTest;
+use predicate::fold::Fold;
 
 #[derive(Clone, Copy)]
 pub struct Pair {
@@ -16,27 +15,15 @@ pub struct Pair {
     pub loose: bool,
 }
 
-// Whether a byte of an operand folds to a loose letter.
-fn folds_to_loose(table: &[u8], x: u8) -> bool
-    requires { Folds table.now }
-    ensures { result ≡ is_loose (fold x) }
-{
-    heads::byte_test::is_loose(predicate::text::fold_byte(table, x))
-}
-
 // The first byte that is no loose letter; the operand's first where all are.
-fn first_place(table: &[u8], operand: &[u8]) -> usize
-    requires { Folds table.now × (0 < length operand.now) }
+fn first_place(fold: Fold, operand: &[u8]) -> usize
+    requires { (0 < length operand.now) }
     ensures { result < length operand.now }
 {
-    let mut i: usize = 0;
-    while i < operand.len() {
-        if !folds_to_loose(table, operand[i]) {
-            return i;
-        }
-        i += 1;
-    }
-    0
+    operand
+        .iter()
+        .position(|x| !heads::byte_test::is_loose(fold.of(*x)))
+        .unwrap_or(0)
 }
 
 // The last place of a second byte: at most eight further, so that two windows of 16 cover a slot.
@@ -44,25 +31,19 @@ fn last_place(size: usize, first: usize) -> usize
     requires { first < size }
     ensures { InReach size first result }
 {
-    if size - first <= 9 {
-        size - 1
-    } else {
-        first + 8
-    }
+    first + (size - 1 - first).min(8)
 }
 
 // The last byte after the first, in reach of it, that is no loose letter; the last in reach where there is none.
-fn second_place(table: &[u8], operand: &[u8], first: usize) -> usize
-    requires { Folds table.now × (first < length operand.now) }
+fn second_place(fold: Fold, operand: &[u8], first: usize) -> usize
+    requires { (first < length operand.now) }
     ensures { InReach (length operand.now) first result }
 {
     let last = last_place(operand.len(), first);
-    let mut j = last;
-    while first < j {
-        if !folds_to_loose(table, operand[j]) {
+    for j in (first + 1..last + 1).rev() {
+        if !heads::byte_test::is_loose(fold.of(operand[j])) {
             return j;
         }
-        j -= 1;
     }
     last
 }
@@ -75,14 +56,14 @@ fn either_is_loose(x: u8, y: u8) -> bool
 }
 
 // The pair of an operand, its bytes folded.
-pub fn pair_of(table: &[u8], operand: &[u8]) -> Pair
-    requires { Folds table.now × (0 < length operand.now) }
+pub fn pair_of(fold: Fold, operand: &[u8]) -> Pair
+    requires { (0 < length operand.now) }
     ensures { PairFor operand.now result }
 {
-    let i = first_place(table, operand);
-    let j = second_place(table, operand, i);
-    let first = predicate::text::fold_byte(table, operand[i]);
-    let second = predicate::text::fold_byte(table, operand[j]);
+    let i = first_place(fold, operand);
+    let j = second_place(fold, operand, i);
+    let first = fold.of(operand[i]);
+    let second = fold.of(operand[j]);
     let loose = either_is_loose(first, second);
     let gap = j - i;
     Pair {

@@ -4,15 +4,15 @@ ghost use Rattle.catalogue.specs.Format.{text_tag};
 ghost use Rattle.slots.specs.Slots.{text_limit};
 ghost use Rattle.predicate.specs.Kinds.{equals_kind, contains_kind};
 ghost use Rattle.predicate.specs.Meaning.{text_test};
-ghost use Rattle.predicate.specs.Outcome.{Folds};
 ghost use Rattle.sets.specs.Kept.{Sifted};
 ghost use Rattle.heads.specs.Block.{HasDueRows, text_of};
 
+use predicate::fold::Fold;
 use predicate::kind::Kind;
 
 // The due rows whose texts may pass the test of kind 2, 3 or 4 by the operand.
 pub fn sift(
-    table: &[u8],
+    fold: Fold,
     b: &[u8],
     start: usize,
     base: usize,
@@ -20,13 +20,13 @@ pub fn sift(
     operand: &[u8],
     due: u64,
 ) -> u64
-    requires { Folds table.now × HasDueRows b.now text_tag start base due × (equals_kind ≤ kind) × (kind ≤ contains_kind)
+    requires { HasDueRows b.now text_tag start base due × (equals_kind ≤ kind) × (kind ≤ contains_kind)
         × (0 < length operand.now) × (length operand.now ≤ text_limit) }
     ensures { Sifted (λ d. text_test kind operand.now (text_of b.now start (base + d))) due result }
 {
     if kind == Kind::CONTAINS {
-        return crate::contains::contains_rows(table, b, start, base, operand, due);
+        return crate::contains::contains_rows(fold, b, start, base, operand, due);
     }
-    let k = heads::head::head_of(table, kind, operand);
+    let k = heads::head::head_of(fold, kind, operand);
     heads::front::front_rows(b, start, base, k, due)
 }

@@ -9,7 +9,7 @@ use Rattle.fields.specs.Numbers.{bytes_of}
 use Rattle.fields.specs.Output.{put_front, put_at}
 use Rattle.bitmaps.specs.Bitmap.{ones_in}
 use Rattle.bitmaps.specs.Table.{lines_of}
-use Rattle.answers.specs.declared.word.Answer.TheVariants.{Accepted}
+use Rattle.answers.specs.Answer.{Accepted}
 use Rattle.answers.specs.Word.{packed}
 use Rattle.answers.specs.Refusals.{tally_refused}
 use Rattle.answers.specs.Checks.{checked}

@@ -5,6 +5,7 @@ ghost use Rattle.std.specs.Prelude.{◌≡◌, ◌*◌, ◌≤◌, ◌<◌, leng
 ghost use Rattle.query.specs.Format.{predicate_limit};
 ghost use Rattle.bitmaps.specs.Table.{line_size};
 ghost use Rattle.counts.specs.Whole.{NoneBehind};
+ghost use Rattle.answers.specs.Answer.{answer_of};
 ghost use Rattle.answers.specs.Word.{packed, FitsWord};
 ghost use Rattle.demands.specs.Run.{ran, reader_limit};
 ghost use Rattle.finish.specs.Finish.{finished, HasRoom};
@@ -24,30 +25,30 @@ pub fn finish(
     listed: &mut [u8],
     looks: &mut [u8],
     tally: &mut [u8],
-) -> Answer
+) -> Result<Answer, Refusal>
     requires selected_len { (length selected.now ≡ line_size) × (length probed.now ≡ predicate_limit * line_size) × (n ≤ predicate_limit) × (size ≤ line_size) }
     requires has_room { HasRoom n size listed.old looks.old × (reader < reader_limit) }
     requires none_behind { NoneBehind size 1 selected.now × NoneBehind size n probed.now }
-    ensures { (ran (packed result) listed.new looks.new tally.new
+    ensures { (ran (packed (answer_of result)) listed.new looks.new tally.new
         ≡ finished selected.now probed.now n size reader
-        listed.old looks.old tally.old) × FitsWord result }
+        listed.old looks.old tally.old) × FitsWord (answer_of result) }
 {
     if tally.len() != Tally::SIZE {
-        return Answer::Refused(Refusal::TALLY_REFUSED);
+        return Err(Refusal::TallyRefused);
     }
     let found = counts::lines::count_whole_lines(selected, 1, size);
     let looked = counts::lines::count_whole_lines(probed, n, size);
     let at = reader * Counter::SIZE;
     let before = fields::counter::eight_bytes(tally, at);
     if Counter::LIMIT - before < looked {
-        return Answer::Refused(Refusal::TALLY_REFUSED);
+        return Err(Refusal::TallyRefused);
     }
     bitmaps::copy::copy_lines(selected, listed, 1, size);
     bitmaps::copy::copy_lines(probed, looks, n, size);
     fields::counter::put_eight_bytes(tally, at, before + looked);
-    Answer::Accepted {
+    Ok(Answer {
         first: found,
         second: 0,
         third: looked,
-    }
+    })
 }

@@ -14,7 +14,7 @@ use Rattle.query.specs.Format.{predicate_limit}
 use Rattle.task.specs.Log.{probe_field_size}
 use Rattle.log_rows.specs.Written.{task_log, LogReady, HasLogRoom, LogWritten}
 use Rattle.task.specs.Input.{Input}
-use Rattle.answers.specs.declared.word.Answer.TheVariants.{Refused, Accepted}
+use Rattle.answers.specs.Answer.{Refused, Accepted}
 use Rattle.answers.specs.Word.{packed}
 use Rattle.answers.specs.Refusals.{output_too_short}
 use Rattle.answers.specs.Checks.{checked}

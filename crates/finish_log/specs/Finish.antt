@@ -9,7 +9,7 @@ use Rattle.access.specs.Access.{Accessed}
 use Rattle.task.specs.Task.{predicate_at, made_at}
 use Rattle.rows.specs.Worked.{Worked}
 use Rattle.task.specs.Input.{Input}
-use Rattle.answers.specs.declared.word.Answer.{Answer}
+use Rattle.answers.specs.Answer.{Answer}
 use Rattle.answers.specs.Word.{packed, FitsWord}
 use Rattle.answers.specs.Checks.{checked}
 use Rattle.demands.specs.Run.{row_count, predicate_count, task_of}

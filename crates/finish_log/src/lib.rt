@@ -1,6 +1,7 @@
 // How a copy ends: its looks are counted, the output measured, and only then the fields written.
 #![tactic(auto)]
 
+ghost use Rattle.answers.specs.Answer.{answer_of};
 ghost use Rattle.finish_log.specs.Finish.{HasMarks, LogFinished};
 
 use answers::refusal::Refusal;
@@ -17,15 +18,15 @@ pub fn finish_log(
     n: usize,
     rows: usize,
     output: &mut [u8],
-) -> Answer
+) -> Result<Answer, Refusal>
     requires { HasMarks catalogue.now plan.now order.now marks.now n rows }
     ensures { LogFinished catalogue.now plan.now order.now marks.now n rows
-        output.old result output.new }
+        output.old (answer_of result) output.new }
 {
     let looked = counts::lines::count_whole_lines(marks, n, bitmaps::size::bytes_for(rows));
     let size = ProbeField::SIZE as u64 * looked;
     if (output.len() as u64) < size {
-        return Answer::Refused(Refusal::OUTPUT_TOO_SHORT);
+        return Err(Refusal::OutputTooShort);
     }
     log_rows::all::put_rows(
         catalogue,
@@ -36,9 +37,9 @@ pub fn finish_log(
         rows,
         output,
     );
-    Answer::Accepted {
+    Ok(Answer {
         first: 0,
         second: 0,
         third: size,
-    }
+    })
 }

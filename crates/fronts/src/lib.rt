@@ -7,13 +7,13 @@ ghost use Rattle.std.specs.Prelude.{◌≡◌, true, ◌+◌, ◌≤◌, length}
 ghost use Rattle.catalogue.specs.Format.{text_tag};
 ghost use Rattle.catalogue.specs.InPlace.{HasRow};
 ghost use Rattle.predicate.specs.Meaning.{begins_with, text_test};
-ghost use Rattle.predicate.specs.Outcome.{Folds};
 ghost use Rattle.sets.specs.Kept.{KeptBy};
 ghost use Rattle.heads.specs.Block.{HasDueRows, text_of};
 ghost use Rattle.fronts.specs.Fronts.{of_fronts, size_fits, BeginsAlike};
 ghost use Rattle.fronts.specs.Sure.{SureFor};
 
 use crate::sure::Sure;
+use predicate::fold::Fold;
 use predicate::kind::Kind;
 use slots::slot::Text;
 
@@ -36,25 +36,21 @@ fn size_fits(kind: u8, text: usize, operand: usize) -> bool
 }
 
 // Whether a text that begins as the operand does, in the bytes that a slot's first word holds, goes on so.
-fn rest_matches(table: &[u8], text: &[u8], operand: &[u8]) -> bool
-    requires { Folds table.now × (length operand.now ≤ length text.now) × BeginsAlike operand.now text.now }
+fn rest_matches(fold: Fold, text: &[u8], operand: &[u8]) -> bool
+    requires { (length operand.now ≤ length text.now) × BeginsAlike operand.now text.now }
     ensures { result ≡ begins_with operand.now text.now }
 {
-    let mut i = Sure::SIZE;
-    while i < operand.len() {
-        if predicate::text::fold_byte(table, operand[i])
-            != predicate::text::fold_byte(table, text[i])
-        {
+    for i in Sure::SIZE..operand.len() {
+        if fold.of(operand[i]) != fold.of(text[i]) {
             return false;
         }
-        i += 1;
     }
     true
 }
 
 // Whether the text of a row passes. Where its first word does not tell, as of an accented letter, it is compared from its first byte on.
 fn row_passes(
-    table: &[u8],
+    fold: Fold,
     b: &[u8],
     start: usize,
     row: usize,
@@ -62,7 +58,7 @@ fn row_passes(
     operand: &[u8],
     k: Sure,
 ) -> bool
-    requires { Folds table.now × HasRow b.now text_tag start row × (of_fronts kind ≡ true) × SureFor operand.now k }
+    requires { HasRow b.now text_tag start row × (of_fronts kind ≡ true) × SureFor operand.now k }
     ensures { result ≡ text_test kind operand.now (text_of b.now start row) }
 {
     let text = catalogue::column::text_at(b, start, row);
@@ -70,14 +66,14 @@ fn row_passes(
         return false;
     }
     if crate::sure::is_sure(b, start + Text::SLOT_SIZE * row, k) {
-        return rest_matches(table, text, operand);
+        return rest_matches(fold, text, operand);
     }
-    predicate::text::begins_with(table, text, operand)
+    predicate::text::begins_with(fold, text, operand)
 }
 
 // The due rows whose texts pass.
 pub fn fronts_that_pass(
-    table: &[u8],
+    fold: Fold,
     b: &[u8],
     start: usize,
     base: usize,
@@ -85,19 +81,15 @@ pub fn fronts_that_pass(
     operand: &[u8],
     due: u64,
 ) -> u64
-    requires { Folds table.now × HasDueRows b.now text_tag start base due × (of_fronts kind ≡ true) }
+    requires { HasDueRows b.now text_tag start base due × (of_fronts kind ≡ true) }
     ensures { KeptBy (λ d. text_test kind operand.now (text_of b.now start (base + d))) due result }
 {
-    let k = crate::sure::sure_of(table, operand);
-    let mut left = due;
-    let mut met: u64 = 0;
-    while left != 0 {
-        let d = sets::first(left);
-        let row = base + fields::number::widen(d);
-        let next = sets::rest(left);
-        let passes = row_passes(table, b, start, row, kind, operand, k);
-        met = met | sets::kept(passes, left ^ next);
-        left = next;
-    }
-    met
+    let k = crate::sure::sure_of(fold, operand);
+    sets::kept_where(
+        due,
+        |d| -> bool
+            requires { HasRow b.now text_tag start (base + d) × (of_fronts kind ≡ true) × SureFor operand.now k }
+            ensures { result ≡ text_test kind operand.entry.now (text_of b.entry.now start (base + d)) }
+        { row_passes(fold, b, start, base + usize::from(d), kind, operand, k) },
+    )
 }

@@ -1,7 +1,8 @@
 // What a slot's first word tells for sure: that its text begins as an operand does, in the bytes that the word holds.
 ghost use Rattle.std.specs.Prelude.{◌≡◌, ◌+◌, ◌≤◌, length};
-ghost use Rattle.predicate.specs.Outcome.{Folds};
 ghost use Rattle.fronts.specs.Sure.{front_size, is_letter, asked_bits, SureSize, sure_passes, SureFor};
+
+use predicate::fold::Fold;
 
 // A word passes where it has the bits of the value in all places that are asked for.
 #[derive(Clone, Copy)]
@@ -18,7 +19,7 @@ impl Sure {
 fn is_letter(c: u8) -> bool
     ensures { result ≡ is_letter c }
 {
-    b'a' <= c && c <= b'z'
+    c.is_ascii_lowercase()
 }
 
 // The bits that are asked of a byte that should fold to c: all, but of a letter not bit 5, which tells its cases apart.
@@ -32,27 +33,26 @@ fn asked_bits(c: u8) -> u8
 fn sure_size(n: usize) -> usize
     ensures { SureSize n result }
 {
-    if n < Sure::SIZE { n } else { Sure::SIZE }
+    n.min(Sure::SIZE)
 }
 
 // Of the operand's bytes, the last first; nothing is asked of what lies beyond them.
-pub fn sure_of(table: &[u8], operand: &[u8]) -> Sure
-    requires { Folds table.now }
+pub fn sure_of(fold: Fold, operand: &[u8]) -> Sure
     ensures { SureFor operand.now result }
 {
     let mut asked: u64 = 0;
     let mut value: u64 = 0;
-    let mut i = sure_size(operand.len());
-    while 0 < i {
-        i -= 1;
-        let c = predicate::text::fold_byte(table, operand[i]);
-        asked = 256 * asked + asked_bits(c) as u64;
-        value = 256 * value + c as u64;
+    let size = sure_size(operand.len());
+    for i in (0..size).rev() {
+        let c = fold.of(operand[i]);
+        asked = 256 * asked + u64::from(asked_bits(c));
+        value = 256 * value + u64::from(c);
     }
     // The length lies below them, and nothing is asked of it.
-    asked = 256 * asked;
-    value = 256 * value;
-    Sure { asked, value }
+    Sure {
+        asked: 256 * asked,
+        value: 256 * value,
+    }
 }
 
 // Whether the text of the slot at p is sure to begin so.

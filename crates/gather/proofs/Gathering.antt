@@ -1,5 +1,5 @@
 -- The loop that gathers a block's turns, turn after turn.
-use Prim.Native.Nat.{ℕ, ◌+◌, ◌*◌, ◌/◌, ◌≤◌, ◌<◌}
+use Prim.Native.Nat.{ℕ, ◌+◌, ◌*◌, ◌/◌, ◌<◌}
 use native.Mathlib.Numerals.{add-one}
 use native.Mathlib.Omega.{arith}
 use mathlib.Core.Path.{◌≡◌, sym, ap, ap₂, ◌∙◌}
@@ -17,13 +17,9 @@ use Rattle.bitmaps.proofs.BitLaws.{or_false, below_more}
 use Rattle.bitmaps.specs.Table.{line_size, line_bits, line_bit}
 use Rattle.bitmaps.specs.Word.{block_rows, word_size, BlockAt}
 use Rattle.bitmaps.proofs.WordLaws.{word_has}
-use Rattle.gather.specs.Turns.{HasLines, TurnsWhere, Added}
+use Rattle.gather.specs.Turns.{TurnsWhere, Added}
 
--- where the word of a turn's predicate lies
-pub word_inside : {turns table : List ℕ} {base i c : ℕ} → HasLines turns table → BlockAt base → i < length turns → c ≡ get_or turns i 0 → c * line_size + base / 8 + word_size ≤ length table
-word_inside {i = i} H B l e = omega (arith, H.inside i l, B.whole, B.inside)
-
--- and its bits: those of the block in the predicate's line; w is the predicate c at another width
+-- the bits of the word of predicate c: those of the block in its line; w is c at another width
 pub word_bits : (table : List ℕ) {base c w word : ℕ} → Bytes table → BlockAt base → w ≡ c → word ≡ word_at table (w * line_size + base / 8) word_size
     → (d : ℕ) → d < block_rows → has word d ≡ line_bit table c (base + d)
 word_bits table {base} {c} {w} b B w-is word-is d l =

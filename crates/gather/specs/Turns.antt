@@ -27,6 +27,21 @@ TurnsBelow count turns table base gathered = TurnsWhere (λ i d. line_bit table 
 abbrev pub TurnsFor : (turns table : List ℕ) → (base : ℕ) → (gathered : List ℕ) → Type 0
 TurnsFor turns table base gathered = TurnsBelow (length turns) turns table base gathered
 
+-- at the predicate of each turn
+abbrev pub AtTurns : (turns : List ℕ) → (P : ℕ → Type 0) → Type 0
+AtTurns turns P = (i : ℕ) → i < length turns → P (get_or turns i 0)
+
+-- the words that a rule may give for the turns' predicates have the rows that are marked
+abbrev pub WordsMarked : (rule : (c word : ℕ) → Type 0) → (turns : List ℕ) → (marked : (i d : ℕ) → Bool) → Type 0
+WordsMarked rule turns marked = (i word d : ℕ) → i < length turns → rule (get_or turns i 0) word → d < block_rows → has word d ≡ marked i d
+
+-- of the first `count` turns each row has those whose words have the row, and of all
+abbrev pub GatheredBelow : (rule : (c word : ℕ) → Type 0) → (count : ℕ) → (turns gathered : List ℕ) → Type 0
+GatheredBelow rule count turns gathered = (marked : (i d : ℕ) → Bool) → WordsMarked rule turns marked → TurnsWhere marked count gathered
+
+abbrev pub GatheredBy : (rule : (c word : ℕ) → Type 0) → (turns gathered : List ℕ) → Type 0
+GatheredBy rule turns gathered = GatheredBelow rule (length turns) turns gathered
+
 -- turn i is added to the sets of the rows that pass a test
 abbrev pub AddedTo : (test : ℕ → Bool) → (i : ℕ) → (before after : List ℕ) → Type 0
 AddedTo test i before after = ChangedAt test (λ s. set_with s i) before after

@@ -1,23 +1,21 @@
 // The marks of a block by row: words with a bit for each of 64 rows, one for each turn, made into sets of turns, one for each row.
 #![tactic(auto)]
 
-ghost use Rattle.std.specs.Prelude.{◌<◌, ◌≡◌, length, get_or};
+ghost use Rattle.std.specs.Prelude.{◌<◌, ◌≤◌, ◌≡◌, length, get_or};
 ghost use Rattle.sets.specs.Set.{below_set};
 ghost use Rattle.bitmaps.specs.Word.{block_rows, BlockAt};
-ghost use Rattle.gather.specs.Turns.{turn_limit, HasLines, TurnsFor, Added};
+ghost use Rattle.gather.specs.Turns.{turn_limit, HasLines, AtTurns, GatheredBy, TurnsFor, Added};
 
 use bitmaps::copy::Line;
 use bitmaps::word::Word;
 
-// Adds turn i to all rows, with no branch on them.
+// Adds turn i to all rows, with no branch on them. By number, not by `iter_mut`: a constant number of rows, so vector code with no rest.
 fn add_to_all(gathered: &mut [u64], i: u8)
     requires { (length gathered.old ≡ block_rows) × (i < turn_limit) }
     ensures { Added (below_set block_rows) i gathered.old gathered.new }
 {
-    let mut row: usize = 0;
-    while row < Word::ROWS {
+    for row in 0..Word::ROWS {
         gathered[row] = sets::with(gathered[row], i);
-        row += 1;
     }
 }
 
@@ -32,9 +30,20 @@ pub fn add_turn(gathered: &mut [u64], word: u64, i: u8)
     }
     let mut left = word;
     while left != 0 {
-        let d = fields::number::widen(sets::first(left));
+        let d = usize::from(sets::first(left));
         gathered[d] = sets::with(gathered[d], i);
         left = sets::rest(left);
+    }
+}
+
+// Turn after turn, adds turn i to the rows of the word that a rule gives for its predicate.
+pub fn gather_words<F: Fn(usize) -> u64>(turns: &[u8], word_of: F, gathered: &mut [u64])
+    requires callable { (length turns.now ≤ turn_limit) × AtTurns turns.now (F.pre word_of) }
+    requires gathered_len { (length gathered.old ≡ block_rows) × ((d : _) → get_or gathered.old d 0 ≡ 0) }
+    ensures { GatheredBy (F.post word_of) turns.now gathered.new }
+{
+    for (i, c) in turns.iter().enumerate() {
+        add_turn(gathered, word_of(usize::from(*c)), i as u8);
     }
 }
 
@@ -44,11 +53,9 @@ pub fn gather(turns: &[u8], table: &[u8], base: usize, gathered: &mut [u64])
     requires gathered_len { (length gathered.old ≡ block_rows) × ((d : _) → get_or gathered.old d 0 ≡ 0) }
     ensures { TurnsFor turns.now table.now base gathered.new }
 {
-    let mut i: usize = 0;
-    while i < turns.len() {
-        let c = fields::number::widen(turns[i]);
-        let word = words::word_at(table, c * Line::SIZE + base / 8);
-        add_turn(gathered, word, fields::number::narrow(i));
-        i += 1;
-    }
+    gather_words(
+        turns,
+        |c| words::word_at(table, c * Line::SIZE + base / 8),
+        gathered,
+    );
 }

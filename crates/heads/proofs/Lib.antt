@@ -1,4 +1,3 @@
-pub mod BlockSlots
 pub mod ByteTests
 pub mod Found
 pub mod Heads

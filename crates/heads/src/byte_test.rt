@@ -9,17 +9,11 @@ pub struct ByteTest {
     pub value: u8,
 }
 
-// A flag of 0 and 1, so that tests are joined with no branch.
-pub fn bit(test: bool) -> u8
-    ensures { result ≡ cond test 1 0 }
-{
-    if test { 1 } else { 0 }
-}
-
+// As a flag of 0 and 1, so that tests are joined with no branch.
 pub fn passes(test: ByteTest, x: u8) -> u8
     ensures { result ≡ cond (test_passes test x) 1 0 }
 {
-    bit(x | test.mask == test.value)
+    u8::from(x | test.mask == test.value)
 }
 
 // Whether c is a loose letter, one of six that differ from their accented forms in so many bits that a mask for all
@@ -27,15 +21,7 @@ pub fn passes(test: ByteTest, x: u8) -> u8
 pub fn is_loose(c: u8) -> bool
     ensures { result ≡ is_loose c }
 {
-    match c {
-        b'a' => true,
-        b'e' => true,
-        b'i' => true,
-        b'n' => true,
-        b'o' => true,
-        b'u' => true,
-        _ => false,
-    }
+    matches!(c, b'a' | b'e' | b'i' | b'n' | b'o' | b'u')
 }
 
 // The bits that a test of c leaves open: bit 5 where c has it, which tells the cases of a letter apart; more for the two

@@ -2,13 +2,14 @@
 // byte first.
 ghost use Rattle.std.specs.Prelude.{◌≡◌, ◌+◌, ◌≤◌, length};
 ghost use Rattle.slots.specs.Slots.{text_limit};
-ghost use Rattle.predicate.specs.Outcome.{Folds};
 ghost use Rattle.heads.specs.Head.{head_size, head_passes, TestFor, HeadFor, BlankHeadIs};
 
 use crate::byte_test::ByteTest;
+use predicate::fold::Fold;
 use predicate::kind::Kind;
 
-// A slot passes where its head has the value's bits in all places that are asked for.
+// A slot passes where its head has the value's bits in all places that are asked for. Its twin at 64 bits is `Sure` of crate `fronts`: one
+// type for both would need a trait of the operators and of the reading, and is no plainer.
 #[derive(Clone, Copy)]
 pub struct Head {
     pub asked: u32,
@@ -22,15 +23,15 @@ impl Head {
 
 // What byte j of the slot may be. Equals asks for the operand's length; a byte of the text may be any that folds as the
 // operand's; nothing else is asked.
-fn test_at(table: &[u8], kind: u8, operand: &[u8], j: usize) -> ByteTest
-    requires { Folds table.now × (length operand.now ≤ text_limit) }
+fn test_at(fold: Fold, kind: u8, operand: &[u8], j: usize) -> ByteTest
+    requires { (length operand.now ≤ text_limit) }
     ensures { TestFor kind operand.now j result }
 {
     if j == 0 {
         if kind == Kind::EQUALS {
             return ByteTest {
                 mask: 0,
-                value: fields::number::narrow(operand.len()),
+                value: operand.len() as u8,
             };
         }
         return crate::byte_test::any_byte();
@@ -38,23 +39,21 @@ fn test_at(table: &[u8], kind: u8, operand: &[u8], j: usize) -> ByteTest
     if operand.len() < j {
         return crate::byte_test::any_byte();
     }
-    let c = predicate::text::fold_byte(table, operand[j - 1]);
+    let c = fold.of(operand[j - 1]);
     crate::byte_test::loose_test(c)
 }
 
 // The tests of the four bytes as one, the last byte's first: what they leave open is not asked for.
-pub fn head_of(table: &[u8], kind: u8, operand: &[u8]) -> Head
-    requires { Folds table.now × (length operand.now ≤ text_limit) }
+pub fn head_of(fold: Fold, kind: u8, operand: &[u8]) -> Head
+    requires { (length operand.now ≤ text_limit) }
     ensures { HeadFor kind operand.now result }
 {
     let mut left_open: u32 = 0;
     let mut value: u32 = 0;
-    let mut j = Head::SIZE;
-    while 0 < j {
-        j -= 1;
-        let next = test_at(table, kind, operand, j);
-        left_open = 256 * left_open + next.mask as u32;
-        value = 256 * value + next.value as u32;
+    for j in (0..Head::SIZE).rev() {
+        let next = test_at(fold, kind, operand, j);
+        left_open = 256 * left_open + u32::from(next.mask);
+        value = 256 * value + u32::from(next.value);
     }
     Head {
         asked: 0xffff_ffff ^ left_open,

@@ -1,21 +1,24 @@
 -- What the catalogue's layout and the reading's tables tell of the decoded input.
 use Prim.Native.Nat.{ℕ, ◌≤◌, ◌<◌}
 use native.Mathlib.Omega.{arith}
-use mathlib.Core.Path.{◌≡◌, refl, sym, ◌∙◌}
+use mathlib.Core.Path.{◌≡◌, refl, sym, ap, ◌∙◌}
 use mathlib.Core.List.{List, []}
 use lib.ListN.{length, get_or, take, length-take}
 use lib.Seq.{ext_get_or, get_or-take}
+use Rattle.std.specs.Prelude.{Ok, Err}
 use Rattle.fields.specs.Decoded.{Decoded, refused, accepted, and_then}
 use Rattle.catalogue.specs.Catalogue.{numbers, Catalogue}
 use Rattle.catalogue.specs.Decode.{decode_catalogue}
+use Rattle.catalogue.specs.declared.refusal.Refusal.{Refusal as CatalogueRefusal}
+use Rattle.catalogue.specs.Refusal.{refusal_number as catalogue_number}
 use Rattle.layout.specs.declared.Layout.{Layout}
 use Rattle.layout.specs.Layout.{Laid, LaidOut}
 use Rattle.layout.proofs.Laid.{column_shown}
 use Rattle.predicate.specs.Payload.{tags_of}
 use Rattle.predicate.proofs.PayloadLaws.{tags_length, tags_at, shown_tag}
-use Rattle.reading.specs.declared.whole.Reading.{Reading}
-use Rattle.reading.specs.declared.whole.Reading.TheVariants as reading
 use Rattle.query.specs.Query.{Query}
+use Rattle.query.specs.declared.refusal.Refusal.{Refusal as QuestionRefusal}
+use Rattle.query.specs.Refusal.{refusal_number as question_number}
 use Rattle.reading.specs.Tables.{Tables}
 use Rattle.query.specs.Decode.{decode_tagged, decode_query}
 use Rattle.reading.specs.QueryRead.{QueryRead}
@@ -38,39 +41,37 @@ laid_tags {b} {l} {C} h = ext_get_or 0 (take l.columns l.tags) (tags_of C) (omeg
 
 module _ (b : List ℕ) (l : Layout) where
   -- a layout has a tag for each column
-  pub laid_columns_few : (d : Decoded Catalogue) → LaidOut b l d → l.columns ≤ length l.tags
-  laid_columns_few (refused e) h = omega arith
+  pub laid_columns_few : (d : Decoded Catalogue) → LaidOut b (Ok l) d → l.columns ≤ length l.tags
+  laid_columns_few (refused x) h = absurd h
   laid_columns_few (accepted C) h = omega (arith, h.few, h.tags_size)
 
-  pub laid_tags_length : (d : Decoded Catalogue) → LaidOut b l d → l.columns ≡ length (take l.columns l.tags)
+  pub laid_tags_length : (d : Decoded Catalogue) → LaidOut b (Ok l) d → l.columns ≡ length (take l.columns l.tags)
   laid_tags_length d h = rw length-take (omega (arith, laid_columns_few d h))
 
-  -- a layout that refuses
-  pub layout_refuses : (q : List ℕ) → LaidOut b l (decode_catalogue b) → (l.refusal ≡ 0 → ⊥)
-      → (decode_input b q ≡ refused l.refusal) × (l.refusal < 256)
-  unfolding decode_input
-  layout_refuses q h ne = go (decode_catalogue b) h
-    where
-      go : (d : Decoded Catalogue) → LaidOut b l d → (and_then d (λ C. with_query C (decode_query C q)) ≡ refused l.refusal) × (l.refusal < 256)
-      go (refused x) w = (rw w.0, omega arith)
-      go (accepted C) w = absurd (ne w.accepts)
+-- a layout that refuses
+pub layout_refuses : (b q : List ℕ) (e : CatalogueRefusal) → LaidOut b (Err e) (decode_catalogue b) → decode_input b q ≡ refused (catalogue_number e)
+unfolding decode_input
+layout_refuses b q e h = go (decode_catalogue b) h
+  where
+    go : (d : Decoded Catalogue) → LaidOut b (Err e) d → and_then d (λ C. with_query C (decode_query C q)) ≡ refused (catalogue_number e)
+    go (refused x) w = ap refused (sym w)
+    go (accepted C) w = absurd w
 
-module _ (b q : List ℕ) (l : Layout) (tags : List ℕ) (same : tags ≡ take l.columns l.tags) (R : Reading) (T : Tables) where
+module _ (b q : List ℕ) (l : Layout) (tags : List ℕ) (same : tags ≡ take l.columns l.tags) (T : Tables) where
   -- by what the catalogue and the question decode to
   module _ (C : Catalogue) (e : decode_catalogue b ≡ accepted C) (h : Laid b l C) where
     whole : decode_input b q ≡ with_query C (decode_tagged tags q)
     unfolding decode_input decode_query
     whole = rw (e, same, laid_tags h)
 
-    stopped : (d : Decoded Query) (k : ℕ) → decode_tagged tags q ≡ d → QueryRead tags q d R T → R ≡ reading.Refused k
-        → (decode_input b q ≡ refused k) × (k < 256) × (0 < k)
-    stopped (refused x) k z w i = let y : x ≡ k = cc in (whole ∙ rw (z, y), omega (arith, w.1), omega (arith, w.1))
-    stopped (accepted Q) k z w i = let y : ◌≡◌ {A = ℕ} 0 1 = cc in absurd (omega arith)
+    stopped : (d : Decoded Query) (k : QuestionRefusal) → decode_tagged tags q ≡ d → QueryRead tags q d (Err k) T → decode_input b q ≡ refused (question_number k)
+    stopped (refused x) k z w = whole ∙ rw z (ap refused (sym w.0))
+    stopped (accepted Q) k z w = let y : ◌≡◌ {A = ℕ} 0 1 = cc in absurd (omega arith)
 
-    begun : (d : Decoded Query) (n : ℕ) → decode_tagged tags q ≡ d → QueryRead tags q d R T → R ≡ reading.Accepted n
-        → HasInput b q (record { refusal = 0; rows = l.rows; n = n; tags = l.tags; starts = l.starts; mark = l.mark }) T
-    begun (refused x) n z w i = let y : ◌≡◌ {A = ℕ} 0 1 = cc in absurd (omega arith)
-    begun (accepted Q) n z w i =
+    begun : (d : Decoded Query) (n : ℕ) → decode_tagged tags q ≡ d → QueryRead tags q d (Ok n) T
+        → HasInput b q (record { rows = l.rows; n = n; tags = l.tags; starts = l.starts; mark = l.mark }) T
+    begun (refused x) n z w = absurd w.0
+    begun (accepted Q) n z w =
         let y : length Q.predicates ≡ n = cc in
         let t : tags ≡ tags_of C = same ∙ laid_tags h in
         record {
@@ -85,17 +86,18 @@ module _ (b q : List ℕ) (l : Layout) (tags : List ℕ) (same : tags ≡ take l
           tabled = rw (← t, ← y) w.1;
         }
 
-  -- the layout and the reading both done, by what the catalogue decodes to
-  module _ (h : LaidOut b l (decode_catalogue b)) (z : l.refusal ≡ 0) (w : QueryRead tags q (decode_tagged tags q) R T) where
+  -- the layout done, by what the catalogue decodes to
+  module _ (h : LaidOut b (Ok l) (decode_catalogue b)) where
     by_catalogue : {A : Type 0} → ((C : Catalogue) → decode_catalogue b ≡ accepted C → Laid b l C → A) → A
     by_catalogue {A} f = go (decode_catalogue b) refl h
       where
-        go : (d : Decoded Catalogue) → decode_catalogue b ≡ d → LaidOut b l d → A
-        go (refused x) e v = absurd (omega (arith, v, z))
+        go : (d : Decoded Catalogue) → decode_catalogue b ≡ d → LaidOut b (Ok l) d → A
+        go (refused x) e v = absurd v
         go (accepted C) e v = f C e v
 
-    pub question_refuses : (k : ℕ) → R ≡ reading.Refused k → (decode_input b q ≡ refused k) × (k < 256) × (0 < k)
-    question_refuses k i = by_catalogue (λ C e v. stopped C e v (decode_tagged tags q) k refl w i)
+    pub question_refuses : (k : QuestionRefusal) → QueryRead tags q (decode_tagged tags q) (Err k) T → decode_input b q ≡ refused (question_number k)
+    question_refuses k w = by_catalogue (λ C e v. stopped C e v (decode_tagged tags q) k refl w)
 
-    pub input_accepted : (n : ℕ) → R ≡ reading.Accepted n → HasInput b q (record { refusal = 0; rows = l.rows; n = n; tags = l.tags; starts = l.starts; mark = l.mark }) T
-    input_accepted n i = by_catalogue (λ C e v. begun C e v (decode_tagged tags q) n refl w i)
+    pub input_accepted : (n : ℕ) → QueryRead tags q (decode_tagged tags q) (Ok n) T
+        → HasInput b q (record { rows = l.rows; n = n; tags = l.tags; starts = l.starts; mark = l.mark }) T
+    input_accepted n w = by_catalogue (λ C e v. begun C e v (decode_tagged tags q) n refl w)

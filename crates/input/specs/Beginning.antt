@@ -1,5 +1,5 @@
 -- What a call has in hand once the catalogue and the question are accepted.
-use Rattle.std.specs.Prelude.{ℕ, ◌<◌, ◌≡◌, List}
+use Rattle.std.specs.Prelude.{◌≡◌, Result, Ok, Err, ℕ, List}
 use Rattle.fields.specs.Decoded.{refused, accepted}
 use Rattle.layout.specs.declared.Layout.{Layout}
 use Rattle.layout.specs.Layout.{Laid}
@@ -8,6 +8,8 @@ use Rattle.reading.specs.Tables.{Tables, tables}
 use Rattle.reading.specs.QueryRead.{Tabled}
 use Rattle.input.specs.declared.begin.Beginning.{Beginning}
 use Rattle.task.specs.Input.{Input, decode_input}
+use Rattle.answers.specs.declared.refusal.Refusal.{Refusal}
+use Rattle.answers.specs.Refusal.{refusal_number}
 
 -- the decoded input, and all that the layout and the reading's tables show of it
 pub record HasInput (b q : List ℕ) (r : Beginning) (T : Tables) : Type 0 where
@@ -26,6 +28,6 @@ abbrev pub HasInputOffsets : (b q : List ℕ) → Beginning → (offsets : List 
 HasInputOffsets b q r offsets = (ancestors : List ℕ) × HasInput b q r (tables offsets ancestors)
 
 -- the beginning of a call: a refusal of the input, or all in hand
-pub record InputRead (b q : List ℕ) (r : Beginning) (T : Tables) : Type 0 where
-  pub refuses : (r.refusal ≡ 0 → ⊥) → (decode_input b q ≡ refused r.refusal) × (r.refusal < 256)
-  pub accepts : r.refusal ≡ 0 → HasInput b q r T
+abbrev pub InputRead : (b q : List ℕ) → Result Beginning Refusal → Tables → Type 0
+InputRead b q (Err e) T = decode_input b q ≡ refused (refusal_number e)
+InputRead b q (Ok r) T = HasInput b q r T

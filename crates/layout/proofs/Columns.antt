@@ -5,21 +5,22 @@ use mathlib.Core.Path.{◌≡◌, refl, ap, ◌∙◌}
 use mathlib.Core.List.{List, [], ◌∷◌, ◌++◌, append_assoc, append-nil}
 use lib.ListN.{length, get_or, set, length-append, length-set}
 use lib.Seq.{get_or-set_same, get_or-set_other}
+use Rattle.std.specs.Prelude.{Result, Ok, Err}
 use Rattle.fields.specs.Decoded.{Decoded, refused, accepted, mapped}
 use Rattle.fields.specs.Header.{header_at}
 use Rattle.slots.specs.Slots.{texts_at}
 use Rattle.catalogue.specs.declared.column.ColumnField.{ColumnField}
-use Rattle.catalogue.specs.declared.column.ColumnField.TheVariants.{Refused, Numbers, Texts}
+use Rattle.catalogue.specs.declared.column.ColumnField.TheVariants.{Numbers, Texts}
+use Rattle.catalogue.specs.declared.refusal.Refusal.{Refusal}
 use Rattle.catalogue.specs.Format.{number_tag, text_tag, column_limit}
 use Rattle.catalogue.specs.Catalogue.{Column, numbers, texts}
 use Rattle.catalogue.specs.Decode.{numbers_at, Columns, column_before, column_then, column_of, columns_at}
-use Rattle.catalogue.specs.Sound.{IsRefusal, SoundColumn}
+use Rattle.catalogue.specs.Sound.{SoundColumn}
 use Rattle.catalogue.specs.InPlace.{Shows}
-use Rattle.layout.specs.declared.ColumnsLayout.{ColumnsLayout}
 use Rattle.layout.specs.Layout.{ShowsAll, ColumnsLaidOut}
 
 -- what the field at a place is
-abbrev field_at : List ℕ → (rows at : ℕ) → ColumnField
+abbrev field_at : List ℕ → (rows at : ℕ) → Result ColumnField Refusal
 field_at b rows at = column_of b rows (header_at b at (length b))
 
 -- columns before what the rest gives
@@ -30,10 +31,6 @@ all_before cs (accepted d) = accepted (record { columns = cs ++ d.columns; end =
 before_one_more : (cs : List Column) (c : Column) (d : Decoded Columns) → all_before cs (mapped (column_before c) d) ≡ all_before (cs ++ (c ∷ [])) d
 before_one_more cs c (refused e) = refl
 before_one_more cs c (accepted d) = rw (append_assoc cs (c ∷ []) d.columns)
-
-before_none : (d : Decoded Columns) → d ≡ all_before [] d
-before_none (refused e) = refl
-before_none (accepted d) = refl
 
 columns_step : (b : List ℕ) (rows n at : ℕ) → 0 < n → columns_at b rows n at ≡ column_then b rows (field_at b rows at) (λ next. columns_at b rows (n - 1) next)
 unfolding columns_at
@@ -71,12 +68,6 @@ pub record Reading (b : List ℕ) (rows columns from : ℕ) (tags starts : List 
   pub shown : ShowsAll b rows tags starts 0 done
   pub whole : columns_at b rows columns from ≡ all_before done (columns_at b rows (columns - i) at)
 
-pub reading_none : (b : List ℕ) (rows columns from : ℕ) (tags starts : List ℕ) → length tags ≡ column_limit → length starts ≡ column_limit → from ≤ length b → columns ≤ column_limit
-    → Reading b rows columns from tags starts from 0
-reading_none b rows columns from tags starts t s l c =
-    let z : columns - 0 ≡ columns = omega arith in
-    record { few = c; count = omega arith; inside = l; tags_size = t; starts_size = s; done = []; done_count = refl; shown = tt; whole = rw z (before_none (columns_at b rows columns from)) }
-
 module _ (b : List ℕ) (rows columns from : ℕ) (tags starts : List ℕ) (at i : ℕ) (g : Reading b rows columns from tags starts at i) where
   -- one column more, of whatever tag
   reading_one : (tag start next : ℕ) (c : Column) → i < columns → next ≤ length b → Shows b rows tag start c
@@ -101,27 +92,24 @@ module _ (b : List ℕ) (rows columns from : ℕ) (tags starts : List ℕ) (at i
         whole = w;
       }
 
-  module _ (f : ColumnField) (q : f ≡ field_at b rows at) (s : SoundColumn b rows f) (l : i < columns) where
-    pub reading_numbers : (start end : ℕ) (tags' starts' : List ℕ) (at' : ℕ) → f ≡ Numbers start end → tags' ≡ set tags i number_tag → starts' ≡ set starts i start → at' ≡ end → Reading b rows columns from tags' starts' at' (i + 1)
-    reading_numbers start end tags' starts' at' e t p a =
-        let o : SoundColumn b rows (Numbers start end) = rw e at s in
-        rw (t, p, a) (reading_one number_tag start end (numbers (numbers_at b start rows)) l o.1 (refl, omega (arith, o), refl) (rw (← q, e)))
+  module _ (l : i < columns) where
+    pub reading_numbers : (start end : ℕ) (tags' starts' : List ℕ) (at' : ℕ) → Ok (Numbers start end) ≡ field_at b rows at → SoundColumn b rows (Ok (Numbers start end))
+        → tags' ≡ set tags i number_tag → starts' ≡ set starts i start → at' ≡ end → Reading b rows columns from tags' starts' at' (i + 1)
+    reading_numbers start end tags' starts' at' q s t p a =
+        rw (t, p, a) (reading_one number_tag start end (numbers (numbers_at b start rows)) l s.1 (refl, omega (arith, s), refl) (rw (← q)))
 
-    pub reading_texts : (start end : ℕ) (tags' starts' : List ℕ) (at' : ℕ) → f ≡ Texts start end → tags' ≡ set tags i text_tag → starts' ≡ set starts i start → at' ≡ end → Reading b rows columns from tags' starts' at' (i + 1)
-    reading_texts start end tags' starts' at' e t p a =
-        let o : SoundColumn b rows (Texts start end) = rw e at s in
-        rw (t, p, a) (reading_one text_tag start end (texts (texts_at b start rows)) l o.1 (refl, omega (arith, o), refl, o.2) (rw (← q, e)))
+    pub reading_texts : (start end : ℕ) (tags' starts' : List ℕ) (at' : ℕ) → Ok (Texts start end) ≡ field_at b rows at → SoundColumn b rows (Ok (Texts start end))
+        → tags' ≡ set tags i text_tag → starts' ≡ set starts i start → at' ≡ end → Reading b rows columns from tags' starts' at' (i + 1)
+    reading_texts start end tags' starts' at' q s t p a =
+        rw (t, p, a) (reading_one text_tag start end (texts (texts_at b start rows)) l s.1 (refl, omega (arith, s), refl, s.2) (rw (← q)))
 
-    pub reading_refused : (e : ℕ) (r : ColumnsLayout) → f ≡ Refused e → r.refusal ≡ e → ColumnsLaidOut b rows columns r (columns_at b rows columns from)
-    reading_refused e r i' c =
-        let o : IsRefusal e = rw i' at s in
-        rw (g.whole, columns_step b rows (columns - i) at (omega arith), ← q, i') (c, o)
+    pub reading_refused : (e : Refusal) → Err e ≡ field_at b rows at → ColumnsLaidOut b rows columns (Err e) (columns_at b rows columns from)
+    reading_refused e q = rw (g.whole, columns_step b rows (columns - i) at (omega arith), ← q) refl
 
-  pub reading_all : (r : ColumnsLayout) → columns ≤ i → r ≡ record { refusal = 0; end = at; tags = tags; starts = starts } → ColumnsLaidOut b rows columns r (columns_at b rows columns from)
-  reading_all r l q =
-      rw (g.whole, columns_none b rows (columns - i) at (omega arith), append-nil, q)
+  pub reading_all : columns ≤ i → ColumnsLaidOut b rows columns (Ok (record { end = at; tags = tags; starts = starts })) (columns_at b rows columns from)
+  reading_all l =
+      rw (g.whole, columns_none b rows (columns - i) at (omega arith), append-nil)
       (record {
-        accepts = refl;
         end = refl;
         inside = g.inside;
         count = omega (arith, g.done_count, g.count);

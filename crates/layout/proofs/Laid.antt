@@ -1,65 +1,68 @@
 -- The whole catalogue: what its first field and the layout of its columns tell of it, and what its layout tells of a column.
 use Prim.Native.Nat.{ℕ, zero, suc, ◌+◌, ◌≤◌, ◌<◌}
 use native.Mathlib.Omega.{arith}
-use mathlib.Core.Path.{◌≡◌, refl, sym, ◌∙◌}
-use mathlib.Core.Logic.{◌⊎◌, inl, inr}
+use mathlib.Core.Path.{◌≡◌, refl, sym}
 use mathlib.Core.List.{List, [], ◌∷◌}
 use lib.ListN.{length, get_or, drop, drop_of_length-le}
+use Rattle.std.specs.Prelude.{Option, None, Some, Result, Ok, Err}
+use Rattle.std.specs.Option.{unwrap_or}
 use Rattle.fields.specs.Decoded.{Decoded, refused, accepted, and_then}
 use Rattle.fields.specs.Header.{header_at}
-use Rattle.catalogue.specs.declared.first.First.{First}
-use Rattle.catalogue.specs.declared.first.First.TheVariants as first
+use Rattle.catalogue.specs.declared.first.Counts.{Counts}
+use Rattle.catalogue.specs.declared.refusal.Refusal.{Refusal}
 use Rattle.bitmaps.specs.Bitmap.{bytes_for}
-use Rattle.catalogue.specs.declared.mark.MarkField.{MarkField}
-use Rattle.catalogue.specs.declared.mark.MarkField.TheVariants as mark
 use Rattle.catalogue.specs.Format.{row_limit, column_limit}
 use Rattle.catalogue.specs.Catalogue.{Column, numbers, Mark, unmarked, marked, Catalogue, mark_bytes}
+use Rattle.catalogue.specs.Refusal.{refusal_number}
 use Rattle.catalogue.specs.Mark.{mark_field_at, mark_of}
 use Rattle.catalogue.specs.Decode.{Columns, columns_at, catalogue_of, first_field_of, decode_catalogue}
-use Rattle.catalogue.specs.Sound.{IsRefusal, SoundMark}
+use Rattle.catalogue.specs.Sound.{SoundMark}
 use Rattle.catalogue.specs.InPlace.{Shows}
 use Rattle.layout.specs.declared.ColumnsLayout.{ColumnsLayout}
 use Rattle.layout.specs.declared.Layout.{Layout}
 use Rattle.layout.specs.Layout.{ShowsAll, ColumnsLaid, ColumnsLaidOut, Laid, LaidOut}
 
 -- what the columns' layout tells of the columns
-module _ (b : List ℕ) (rows n : ℕ) (l : ColumnsLayout) where
-  columns_refused : (d : Decoded Columns) → ColumnsLaidOut b rows n l d → (l.refusal ≡ 0 → ⊥) → (d ≡ refused l.refusal) × IsRefusal l.refusal
-  columns_refused (refused e) k ne = rw k.0 (refl, k.1)
-  columns_refused (accepted C) k ne = absurd (ne k.accepts)
+module _ (b : List ℕ) (rows n : ℕ) where
+  columns_refused : (e : Refusal) (d : Decoded Columns) → ColumnsLaidOut b rows n (Err e) d → d ≡ refused (refusal_number e)
+  columns_refused e (refused number) k = rw k refl
+  columns_refused e (accepted C) k = absurd k
 
-  columns_accepted : (d : Decoded Columns) → ColumnsLaidOut b rows n l d → l.refusal ≡ 0 → (C : Columns) × (d ≡ accepted C) × ColumnsLaid b rows n l C
-  columns_accepted (refused e) k z = absurd (omega arith)
-  columns_accepted (accepted C) k z = (C, refl, k)
+  columns_accepted : (l : ColumnsLayout) (d : Decoded Columns) → ColumnsLaidOut b rows n (Ok l) d → (C : Columns) × (d ≡ accepted C) × ColumnsLaid b rows n l C
+  columns_accepted l (refused number) k = absurd k
+  columns_accepted l (accepted C) k = (C, refl, k)
 
-module _ (b : List ℕ) (rows columns from : ℕ) (l : ColumnsLayout) (o : ColumnsLaidOut b rows columns l (columns_at b rows columns from)) where
+-- the first field is refused
+pub laid_first_refused : (b : List ℕ) (e : Refusal) → Err e ≡ first_field_of b (header_at b 0 (length b)) → LaidOut b (Err e) (decode_catalogue b)
+unfolding decode_catalogue
+laid_first_refused b e q = rw (← q) refl
+
+-- the first field tells these counts
+module _ (b : List ℕ) (c : Counts) (q : Ok c ≡ first_field_of b (header_at b 0 (length b))) where
+  decoded : decode_catalogue b ≡ and_then (columns_at b c.rows c.columns c.next) (catalogue_of b c.rows)
+  unfolding decode_catalogue
+  decoded = rw (← q) refl
+
   -- a column is refused
-  pub laid_refusal : (r : Layout) → (l.refusal ≡ 0 → ⊥) → r.refusal ≡ l.refusal → r.rows ≡ 0 → r.columns ≡ 0 → LaidOut b r (and_then (columns_at b rows columns from) (catalogue_of b rows))
-  laid_refusal r ne c u v = let (d, k) = columns_refused b rows columns l (columns_at b rows columns from) o ne in rw d (c, k, u, v)
-
-  pub laid_end : l.refusal ≡ 0 → l.end ≤ length b
-  laid_end z = let (C, d, k) = columns_accepted b rows columns l (columns_at b rows columns from) o z in k.inside
+  pub laid_columns_refused : (e : Refusal) → ColumnsLaidOut b c.rows c.columns (Err e) (columns_at b c.rows c.columns c.next) → LaidOut b (Err e) (decode_catalogue b)
+  laid_columns_refused e o = rw (decoded, columns_refused b c.rows c.columns e (columns_at b c.rows c.columns c.next) o) refl
 
   -- the columns are all there: what follows them decides
-  module _ (z : l.refusal ≡ 0) (f : MarkField) (q : f ≡ mark_field_at b rows l.end) (s : SoundMark b rows f) where
-    columns_end_lem : (C : Columns) × (columns_at b rows columns from ≡ accepted C) × ColumnsLaid b rows columns l C × (f ≡ mark_field_at b rows C.end)
-    columns_end_lem = let (C, d, k) = columns_accepted b rows columns l (columns_at b rows columns from) o z in (C, d, k, rw (← k.end) q)
+  module _ (l : ColumnsLayout) (o : ColumnsLaidOut b c.rows c.columns (Ok l) (columns_at b c.rows c.columns c.next)) where
+    columns : (C : Columns) × (columns_at b c.rows c.columns c.next ≡ accepted C) × ColumnsLaid b c.rows c.columns l C
+    columns = columns_accepted b c.rows c.columns l (columns_at b c.rows c.columns c.next) o
 
-    pub laid_left : (r : Layout) (e : ℕ) → f ≡ mark.Refused e → r.refusal ≡ e → r.rows ≡ 0 → r.columns ≡ 0 → LaidOut b r (and_then (columns_at b rows columns from) (catalogue_of b rows))
-    laid_left r e i c u v =
-        let (C, d, k, m) = columns_end_lem in
-        let x : SoundMark b rows (mark.Refused e) = rw i at s in
-        let y : mark.Refused e ≡ mark_field_at b rows C.end = sym i ∙ m in
-        rw (d, ← y) (c, x, u, v)
+    pub laid_mark_refused : (e : Refusal) → Err e ≡ mark_field_at b c.rows l.end → LaidOut b (Err e) (decode_catalogue b)
+    laid_mark_refused e i = let (C, d, k) = columns in rw (decoded, d, ← k.end, ← i) refl
 
     -- a mark, or none
-    laid_with : (m : Mark) (at : ℕ) → rows ≤ row_limit → columns ≤ column_limit → mark_of b f ≡ accepted m → drop at b ≡ mark_bytes m → at ≤ length b → length b ≤ at + bytes_for rows
-        → LaidOut b (record { refusal = 0; rows = rows; columns = columns; tags = l.tags; starts = l.starts; mark = at }) (and_then (columns_at b rows columns from) (catalogue_of b rows))
-    laid_with m at short few i shown inside near =
-        let (C, d, k, p) = columns_end_lem in
-        rw (d, ← p, i)
+    laid_with : (f : Result (Option ℕ) Refusal) (m : Mark) (at : ℕ) → f ≡ mark_field_at b c.rows l.end → c.rows ≤ row_limit → c.columns ≤ column_limit
+        → mark_of b f ≡ accepted m → drop at b ≡ mark_bytes m → at ≤ length b → length b ≤ at + bytes_for c.rows
+        → LaidOut b (Ok (record { rows = c.rows; columns = c.columns; tags = l.tags; starts = l.starts; mark = at })) (decode_catalogue b)
+    laid_with f m at p short few i shown inside near =
+        let (C, d, k) = columns in
+        rw (decoded, d, ← k.end, ← p, i)
         (record {
-          accepts = refl;
           rows = refl;
           columns = sym k.count;
           short = short;
@@ -70,22 +73,10 @@ module _ (b : List ℕ) (rows columns from : ℕ) (l : ColumnsLayout) (o : Colum
           mark = record { bytes = shown; inside = inside; short = near };
         })
 
-    pub laid_all : (at : ℕ) → rows ≤ row_limit → columns ≤ column_limit → ((f ≡ mark.Absent) × (at ≡ length b)) ⊎ (f ≡ mark.Marked at)
-        → LaidOut b (record { refusal = 0; rows = rows; columns = columns; tags = l.tags; starts = l.starts; mark = at }) (and_then (columns_at b rows columns from) (catalogue_of b rows))
-    laid_all at short few (inl (i, e)) = laid_with unmarked at short few (rw i) (drop_of_length-le b {i = at} (omega arith)) (omega arith) (omega arith)
-    laid_all at short few (inr i) =
-        let x : SoundMark b rows (mark.Marked at) = rw i at s in
-        laid_with (marked (drop at b)) at short few (rw i) refl (omega arith) (omega arith)
-
--- the whole catalogue, from its first field
-pub laid_refused : (b : List ℕ) (f : First) (e : ℕ) (r : Layout) → f ≡ first_field_of b (header_at b 0 (length b)) → f ≡ first.Refused e → IsRefusal e → r.refusal ≡ e → r.rows ≡ 0 → r.columns ≡ 0 → LaidOut b r (decode_catalogue b)
-unfolding decode_catalogue
-laid_refused b f e r q i o c u v = rw (← q, i) (c, o, u, v)
-
-pub laid_from : (b : List ℕ) (f : First) (rows columns next : ℕ) (r : Layout) → f ≡ first_field_of b (header_at b 0 (length b)) → f ≡ first.Counts rows columns next
-    → LaidOut b r (and_then (columns_at b rows columns next) (catalogue_of b rows)) → LaidOut b r (decode_catalogue b)
-unfolding decode_catalogue
-laid_from b f rows columns next r q i l = rw (← q, i) l
+    pub laid_all : (m : Option ℕ) → Ok m ≡ mark_field_at b c.rows l.end → SoundMark b c.rows (Ok m) → c.rows ≤ row_limit → c.columns ≤ column_limit
+        → LaidOut b (Ok (record { rows = c.rows; columns = c.columns; tags = l.tags; starts = l.starts; mark = unwrap_or m (length b) })) (decode_catalogue b)
+    laid_all None p s short few = laid_with (Ok None) unmarked (length b) p short few refl (drop_of_length-le b {i = length b} (omega arith)) (omega arith) (omega arith)
+    laid_all (Some start) p s short few = laid_with (Ok (Some start)) (marked (drop start b)) start p short few refl refl (omega (arith, s)) (omega (arith, s))
 
 shows_at : (b : List ℕ) (rows : ℕ) (tags starts : List ℕ) (j i : ℕ) (cs : List Column) → ShowsAll b rows tags starts j cs → i < length cs → Shows b rows (get_or tags (j + i) 0) (get_or starts (j + i) 0) (get_or cs i (numbers []))
 shows_at b rows tags starts j i [] s l = absurd (omega arith)

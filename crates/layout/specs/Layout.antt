@@ -1,10 +1,11 @@
 -- How the layout of a catalogue shows the decoded one.
-use Rattle.std.specs.Prelude.{ℕ, ◌+◌, ◌≤◌, ◌≡◌, List, [], ◌∷◌, length, get_or}
+use Rattle.std.specs.Prelude.{ℕ, ◌+◌, ◌≤◌, ◌≡◌, Result, Ok, Err, List, [], ◌∷◌, length, get_or}
 use Rattle.fields.specs.Decoded.{Decoded, refused, accepted}
+use Rattle.catalogue.specs.declared.refusal.Refusal.{Refusal}
 use Rattle.catalogue.specs.Format.{row_limit, column_limit}
 use Rattle.catalogue.specs.Catalogue.{Column, Catalogue}
 use Rattle.catalogue.specs.Decode.{Columns}
-use Rattle.catalogue.specs.Sound.{IsRefusal}
+use Rattle.catalogue.specs.Refusal.{refusal_number}
 use Rattle.catalogue.specs.InPlace.{Shows, ShowsMark}
 use Rattle.layout.specs.declared.ColumnsLayout.{ColumnsLayout}
 use Rattle.layout.specs.declared.Layout.{Layout}
@@ -16,7 +17,6 @@ ShowsAll b rows tags starts i (c ∷ cs) = Shows b rows (get_or tags i 0) (get_o
 
 -- a layout of so many columns shows these
 pub record ColumnsLaid (b : List ℕ) (rows n : ℕ) (l : ColumnsLayout) (C : Columns) : Type 0 where
-  pub accepts : l.refusal ≡ 0
   pub end : l.end ≡ C.end
   pub inside : l.end ≤ length b
   pub count : length C.columns ≡ n
@@ -24,13 +24,15 @@ pub record ColumnsLaid (b : List ℕ) (rows n : ℕ) (l : ColumnsLayout) (C : Co
   pub tags_size : length l.tags ≡ column_limit
   pub starts_size : length l.starts ≡ column_limit
 
-abbrev pub ColumnsLaidOut : List ℕ → (rows n : ℕ) → ColumnsLayout → Decoded Columns → Type 0
-ColumnsLaidOut b rows n l (refused e) = (l.refusal ≡ e) × IsRefusal e
-ColumnsLaidOut b rows n l (accepted C) = ColumnsLaid b rows n l C
+-- the same refusal, or a layout that shows the columns
+abbrev pub ColumnsLaidOut : List ℕ → (rows n : ℕ) → Result ColumnsLayout Refusal → Decoded Columns → Type 0
+ColumnsLaidOut b rows n (Err e) (refused number) = refusal_number e ≡ number
+ColumnsLaidOut b rows n (Ok l) (accepted C) = ColumnsLaid b rows n l C
+ColumnsLaidOut b rows n (Err e) (accepted C) = ⊥
+ColumnsLaidOut b rows n (Ok l) (refused number) = ⊥
 
 -- a layout shows this catalogue
 pub record Laid (b : List ℕ) (l : Layout) (C : Catalogue) : Type 0 where
-  pub accepts : l.refusal ≡ 0
   pub rows : l.rows ≡ C.rows
   pub columns : l.columns ≡ length C.columns
   pub short : l.rows ≤ row_limit
@@ -40,7 +42,9 @@ pub record Laid (b : List ℕ) (l : Layout) (C : Catalogue) : Type 0 where
   pub starts_size : length l.starts ≡ column_limit
   pub mark : ShowsMark b l.mark C
 
--- a layout shows what was decoded
-abbrev pub LaidOut : List ℕ → Layout → Decoded Catalogue → Type 0
-LaidOut b l (refused e) = (l.refusal ≡ e) × IsRefusal e × (l.rows ≡ 0) × (l.columns ≡ 0)
-LaidOut b l (accepted C) = Laid b l C
+-- the same refusal, or a layout that shows what was decoded
+abbrev pub LaidOut : List ℕ → Result Layout Refusal → Decoded Catalogue → Type 0
+LaidOut b (Err e) (refused number) = refusal_number e ≡ number
+LaidOut b (Ok l) (accepted C) = Laid b l C
+LaidOut b (Err e) (accepted C) = ⊥
+LaidOut b (Ok l) (refused number) = ⊥

@@ -1,48 +1,49 @@
 -- A number read digit by digit.
 use Prim.Native.Nat.{ℕ, ◌+◌, ◌-◌, ◌*◌, ◌≤◌, ◌<◌}
 use native.Mathlib.Omega.{arith}
-use mathlib.Core.Path.{◌≡◌}
+use mathlib.Core.Path.{◌≡◌, refl}
 use mathlib.Core.Bool.{true, false}
 use mathlib.Core.List.{List}
 use lib.ListN.{length, get_or, drop}
 use borrow.Author.Tests.{ne_eqb, le-leb, lt-leb}
+use Rattle.std.proofs.lemmas.List.{drop_all}
 use Rattle.syntax.specs.Parsed.{wrong, parsed, ParsedTo}
 use Rattle.syntax.specs.Conditions.{is_digit, more_digits, number_ahead}
-use Rattle.lexer.proofs.Ahead.{ahead, nothing_ahead}
+use Rattle.lexer.proofs.Ahead.{ahead}
 
-module _ (text : List ℕ) (at limit : ℕ) where
-  pub number_none : at ≡ length text → number_ahead limit (drop at text) ≡ wrong
+pub number_none : (text : List ℕ) (at limit : ℕ) → length text ≤ at → number_ahead limit (drop at text) ≡ wrong
+unfolding number_ahead
+number_none text at limit l = rw (drop_all at text l)
+
+module _ (text : List ℕ) (at limit : ℕ) (l : at < length text) {first : ℕ} (is : first ≡ get_or text at 0) where
+  pub number_zero : first ≡ 48 → ParsedTo text at (number_ahead limit (drop at text)) 0 (at + 1)
   unfolding number_ahead
-  number_none e = rw (nothing_ahead text at (omega arith))
+  number_zero e = record { gives = rw (ahead text at l is refl, e); past = omega arith; inside = omega arith }
 
-  pub number_zero : at < length text → get_or text at 0 ≡ 48 → ParsedTo text at (number_ahead limit (drop at text)) 0 (at + 1)
-  unfolding number_ahead
-  number_zero l e = record { gives = rw (ahead text at l, e); past = omega arith; inside = omega arith }
+  module _ (n : first ≡ 48 → ⊥) where
+    pub number_wrong : is_digit first ≡ false → number_ahead limit (drop at text) ≡ wrong
+    unfolding number_ahead
+    number_wrong d = rw (ahead text at l is refl, ne_eqb first 48 n, d)
 
-  pub number_wrong : at < length text → (get_or text at 0 ≡ 48 → ⊥) → is_digit (get_or text at 0) ≡ false → number_ahead limit (drop at text) ≡ wrong
-  unfolding number_ahead
-  number_wrong l n d = rw (ahead text at l, ne_eqb (get_or text at 0) 48 n, d)
+    pub number_begins : is_digit first ≡ true → {number : ℕ} → number ≡ first - 48 → number_ahead limit (drop at text) ≡ more_digits limit number (drop (at + 1) text)
+    unfolding number_ahead
+    number_begins d e = rw (ahead text at l is refl, ne_eqb first 48 n, d, e)
 
-  pub number_begins : at < length text → (get_or text at 0 ≡ 48 → ⊥) → is_digit (get_or text at 0) ≡ true
-      → number_ahead limit (drop at text) ≡ more_digits limit (get_or text at 0 - 48) (drop (at + 1) text)
-  unfolding number_ahead
-  number_begins l n d = rw (ahead text at l, ne_eqb (get_or text at 0) 48 n, d)
+pub digits_over : (text : List ℕ) (next limit number : ℕ) → length text ≤ next
+    → more_digits limit number (drop next text) ≡ parsed number (drop (length text) text)
+unfolding more_digits
+digits_over text next limit number l = rw (drop_all next text l, drop_all (length text) text (omega arith))
 
-module _ (text : List ℕ) (next limit number : ℕ) where
-  pub digits_over : next ≡ length text → more_digits limit number (drop next text) ≡ parsed number (drop next text)
+module _ (text : List ℕ) (next limit number : ℕ) (l : next < length text) where
+  pub digits_end : is_digit (get_or text next 0) ≡ false → more_digits limit number (drop next text) ≡ parsed number (drop next text)
   unfolding more_digits
-  digits_over e = rw (nothing_ahead text next (omega arith))
+  digits_end d = rw (ahead text next l refl refl, d)
 
-  pub digits_end : next < length text → is_digit (get_or text next 0) ≡ false → more_digits limit number (drop next text) ≡ parsed number (drop next text)
-  unfolding more_digits
-  digits_end l d = rw (ahead text next l, d)
+  module _ (d : is_digit (get_or text next 0) ≡ true) {more : ℕ} (e : more ≡ number * 10 + (get_or text next 0 - 48)) where
+    pub digits_pass : limit < more → more_digits limit number (drop next text) ≡ wrong
+    unfolding more_digits
+    digits_pass m = rw (ahead text next l refl refl, d, ← e, lt-leb more limit m)
 
-  pub digits_pass : next < length text → is_digit (get_or text next 0) ≡ true → limit < number * 10 + (get_or text next 0 - 48)
-      → more_digits limit number (drop next text) ≡ wrong
-  unfolding more_digits
-  digits_pass l d m = rw (ahead text next l, d, lt-leb (number * 10 + (get_or text next 0 - 48)) limit m)
-
-  pub digits_go : next < length text → is_digit (get_or text next 0) ≡ true → number * 10 + (get_or text next 0 - 48) ≤ limit
-      → more_digits limit number (drop next text) ≡ more_digits limit (number * 10 + (get_or text next 0 - 48)) (drop (next + 1) text)
-  unfolding more_digits
-  digits_go l d m = rw (ahead text next l, d, le-leb (number * 10 + (get_or text next 0 - 48)) limit m)
+    pub digits_go : more ≤ limit → more_digits limit number (drop next text) ≡ more_digits limit more (drop (next + 1) text)
+    unfolding more_digits
+    digits_go m = rw (ahead text next l refl refl, d, ← e, le-leb more limit m)

@@ -1,51 +1,30 @@
--- A word compared byte by byte.
-use Prim.Native.Nat.{ℕ, ◌+◌, ◌-◌, ◌<◌}
-use native.Mathlib.Omega.{arith}
-use mathlib.Core.Path.{◌≡◌, refl, sym, ap, ap₂, ◌∙◌}
-use mathlib.Core.Bool.{Bool, true, false, cond}
+-- A word compared with the front of a text: std's `starts_with` and what `strip` takes.
+use Prim.Native.Nat.{ℕ, ◌+◌, ◌-◌}
+use mathlib.Core.Path.{◌≡◌, refl, sym, ap, ◌∙◌}
+use mathlib.Core.Bool.{Bool, true, false, ◌&&◌, cond}
 use mathlib.Core.List.{List, [], ◌∷◌}
-use lib.ListN.{length, get_or, drop, length-drop}
-use lib.Seq.{drop-length}
+use lib.ListN.{length, take, drop}
 use lib.Dec.{eqb}
-use borrow.Author.Tests.{eq-eqb, ne_eqb}
-use Rattle.syntax.specs.Parsed.{absent, stripped, strip}
-use Rattle.lexer.proofs.Ahead.{ahead}
+use Rattle.std.specs.List.{starts_with}
+use Rattle.std.proofs.lemmas.List.{drop-drop, take_rest}
+use Rattle.syntax.specs.Parsed.{Stripped, absent, stripped, strip}
 
-strip_all : (text : List ℕ) → strip [] text ≡ stripped text
+both : (here behind : Bool) (s : Stripped) → cond here (cond behind s absent) absent ≡ cond (here && behind) s absent
+both true behind s = refl
+both false behind s = refl
+
+front_strip : (w text : List ℕ) → strip w text ≡ cond (starts_with eqb text w) (stripped (drop (length w) text)) absent
 unfolding strip
-strip_all text = refl
+front_strip [] text = refl
+front_strip (x ∷ w) [] = refl
+front_strip (x ∷ w) (y ∷ text) =
+    ap (λ (s : Stripped). cond (eqb x y) s absent) (front_strip w text) ∙ both (eqb x y) (starts_with eqb text w) (stripped (drop (length w) text))
 
-strip_short : (w text : List ℕ) → length text < length w → strip w text ≡ absent
-unfolding strip
-strip_short [] text l = absurd (omega arith)
-strip_short (x ∷ w) [] l = refl
-strip_short (x ∷ w) (y ∷ text) l = rw (strip_short w text (omega arith)) (go (eqb x y))
-  where
-    go : (b : Bool) → cond b absent absent ≡ absent
-    go true = refl
-    go false = refl
-
-module _ (w text : List ℕ) (at : ℕ) where
-  pub word_cut : length text - at < length w → strip w (drop at text) ≡ absent
-  word_cut l = strip_short w (drop at text) (omega (arith, length-drop at text))
-
-  pub word_begins : strip w (drop at text) ≡ strip (drop 0 w) (drop (at + 0) text)
-  word_begins = let z : at ≡ at + 0 = omega arith in ap (λ (k : ℕ). strip w (drop k text)) z
-
-  strip_here : (i : ℕ) → i < length w → at + i < length text
-      → strip (drop i w) (drop (at + i) text) ≡ cond (eqb (get_or w i 0) (get_or text (at + i) 0)) (strip (drop (i + 1) w) (drop (at + i + 1) text)) absent
-  unfolding strip
-  strip_here i l m = rw (ahead w i l, ahead text (at + i) m)
-
-  pub word_goes : (i : ℕ) → i < length w → at + i < length text → get_or text (at + i) 0 ≡ get_or w i 0
-      → strip (drop i w) (drop (at + i) text) ≡ strip (drop (i + 1) w) (drop (at + (i + 1)) text)
-  word_goes i l m e =
-      let z : at + i + 1 ≡ at + (i + 1) = omega arith in
-      strip_here i l m ∙ rw (eq-eqb (get_or w i 0) (get_or text (at + i) 0) (sym e), z)
-
-  pub word_differs : (i : ℕ) → i < length w → at + i < length text → (get_or text (at + i) 0 ≡ get_or w i 0 → ⊥)
-      → strip (drop i w) (drop (at + i) text) ≡ absent
-  word_differs i l m n = strip_here i l m ∙ rw (ne_eqb (get_or w i 0) (get_or text (at + i) 0) (λ e. n (sym e)))
-
-  pub word_ends : (i : ℕ) → i ≡ length w → strip (drop i w) (drop (at + i) text) ≡ stripped (drop (at + length w) text)
-  word_ends i e = ap₂ strip (ap (λ (k : ℕ). drop k w) e ∙ drop-length w) (ap (λ (k : ℕ). drop (at + k) text) e) ∙ strip_all (drop (at + length w) text)
+-- from a place on, where a slice of the text is seen as all that is left of its rest there
+pub word_strip : (w text : List ℕ) (at : ℕ) {found : Bool} → found ≡ starts_with eqb (take (length text - at) (drop at text)) w
+    → strip w (drop at text) ≡ cond found (stripped (drop (at + length w) text)) absent
+word_strip w text at {found} e =
+    let rest : found ≡ starts_with eqb (drop at text) w = e ∙ ap (λ (t : List ℕ). starts_with eqb t w) (take_rest text at) in
+    front_strip w (drop at text)
+    ∙ ap (λ (t : List ℕ). cond (starts_with eqb (drop at text) w) (stripped t) absent) (drop-drop (length w) at text)
+    ∙ ap (λ (b : Bool). cond b (stripped (drop (at + length w) text)) absent) (sym rest)

@@ -1,51 +1,43 @@
 // Decimal numbers.
-ghost use Rattle.std.specs.Prelude.{◌≡◌, ◌^◌, ◌≤◌, ◌<◌, length, drop};
-ghost use Rattle.syntax.specs.Conditions.{is_digit, number_ahead};
+ghost use Rattle.std.specs.Prelude.{◌^◌, ◌≤◌, ◌<◌, length, drop};
+ghost use Rattle.syntax.specs.Conditions.{number_ahead};
 ghost use Rattle.lexer.specs.Lexed.{NumberRead};
 
-// What stands where a number is expected.
-#[derive(Drop)]
-pub enum Number {
-    Wrong,
-    Read { number: u64, next: usize },
-}
-
-pub fn is_digit(x: u8) -> bool
-    ensures { result ≡ is_digit x }
-{
-    b'0' <= x && x <= b'9'
+// A number that was read, and the place behind it.
+#[derive(Clone, Copy, PartialEq, Eq, Debug)]
+pub struct Number {
+    pub number: u64,
+    pub next: usize,
 }
 
 // The number at a place of the text, up to a limit and without leading zeros.
-pub fn read_number(text: &[u8], at: usize, limit: u64) -> Number
+pub fn read_number(text: &[u8], at: usize, limit: u64) -> Option<Number>
     requires { (at ≤ length text.now) × (9 ≤ limit) × (limit < 2 ^ 32) }
     ensures { NumberRead text.now at limit (number_ahead limit (drop at text.now)) result }
 {
-    if at == text.len() {
-        return Number::Wrong;
-    }
-    let first = text[at];
+    let first = *text.get(at)?;
     if first == b'0' {
-        return Number::Read {
+        return Some(Number {
             number: 0,
             next: at + 1,
-        };
+        });
     }
-    if !is_digit(first) {
-        return Number::Wrong;
+    if !first.is_ascii_digit() {
+        return None;
     }
-    let mut number = (first - b'0') as u64;
-    let mut next = at + 1;
-    while next < text.len() {
+    let mut number = u64::from(first - b'0');
+    for next in at + 1..text.len() {
         let digit = text[next];
-        if !is_digit(digit) {
-            return Number::Read { number, next };
+        if !digit.is_ascii_digit() {
+            return Some(Number { number, next });
         }
-        number = number * 10 + (digit - b'0') as u64;
+        number = number * 10 + u64::from(digit - b'0');
         if limit < number {
-            return Number::Wrong;
+            return None;
         }
-        next += 1;
     }
-    Number::Read { number, next }
+    Some(Number {
+        number,
+        next: text.len(),
+    })
 }

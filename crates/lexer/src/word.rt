@@ -1,21 +1,15 @@
 // Fixed words.
 ghost use Rattle.std.specs.Prelude.{◌≤◌, length};
-ghost use Rattle.lexer.specs.Lexed.{WordAt};
+ghost use Rattle.lexer.specs.Lexed.{WordRead};
 
-// Whether the word stands at a place of the text.
-pub fn starts(text: &[u8], at: usize, word: &[u8]) -> bool
+// The place behind the word, if it stands at a place of the text.
+pub fn read_word(text: &[u8], at: usize, word: &[u8]) -> Option<usize>
     requires { at ≤ length text.now }
-    ensures { WordAt text.now at word.now result }
+    ensures { WordRead text.now at word.now result }
 {
-    if text.len() - at < word.len() {
-        return false;
+    if text[at..].starts_with(word) {
+        Some(at + word.len())
+    } else {
+        None
     }
-    let mut i: usize = 0;
-    while i < word.len() {
-        if text[at + i] != word[i] {
-            return false;
-        }
-        i += 1;
-    }
-    true
 }

@@ -17,16 +17,13 @@ pub fn put_rows(
     ensures { LogWritten catalogue.now plan.now turns.now probed.now met.now
         rows out.old result out.new }
 {
-    let mut at: usize = 0;
-    let mut base: usize = 0;
-    while base < rows {
+    let mut at = 0;
+    for base in (0..rows).step_by(Word::ROWS) {
         // The last block may have fewer rows.
-        let left = rows - base;
-        let count = if left < Word::ROWS { left } else { Word::ROWS };
-        let mut blanks = [0u64; Word::ROWS];
+        let count = Word::ROWS.min(rows - base);
+        let mut blanks = [0; Word::ROWS];
         blanks::gather_blanks(catalogue, plan, turns, probed, met, base, &mut blanks);
         at = copy_log::block::put_block(out, at, turns, probed, met, &blanks, base, count);
-        base += Word::ROWS;
     }
     at
 }

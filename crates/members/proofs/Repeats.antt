@@ -155,8 +155,8 @@ module _ (payload q os : List ℕ) (r : Bool) (c : ℕ) (r-is : r ≡ same paylo
       go h (inl z) = or_right (is_repeated payload (predicates_at q os n)) (rw (← z) (sym r-is ∙ e))
       go h (inr z) = or_left (same payload (payload_of (predicate_in q (record_at q os n)))) (sym (h (omega arith)))
 
-  pub unlike_more : (n left next : ℕ) → left ≤ c + 1 → c ≤ next → Unlike payload q os left n → r ≡ false → Unlike payload q os next n
-  unlike_more n left next a b h e d i j = go (same? d c)
+  pub unlike_more : (n : ℕ) → Unlike payload q os (c + 1) n → r ≡ false → Unlike payload q os c n
+  unlike_more n h e d i j = go (same? d c)
     where
       go : (d ≡ c) ⊎ (d ≡ c → ⊥) → same payload (payload_of (predicate_in q (record_at q os d))) ≡ false
       go (inl z) = rw z (sym r-is ∙ e)
@@ -172,15 +172,3 @@ unlike_passed payload q os h n left next some h-is has l other U d i j = go (leb
     go false e =
         let m : d < left = leb-false left d e in
         sym (same_shown q os d (has d j) payload false (other_head payload q (start_at os d) (end_at q os d) some (has d j).0 (has d j).1 h h-is (λ z. other d i m (sym z))))
-
--- and one predicate more that has another; none is left
-module _ (h : ℕ) (q os : List ℕ) (n left : ℕ) where
-  pub other_more : 0 < left → OtherHeads h q os left n → (head_at q (start_at os (left - 1)) ≡ h → ⊥) → OtherHeads h q os (left - 1) n
-  other_more l other ne d i j e = go (same? d (left - 1))
-    where
-      go : (d ≡ left - 1) ⊎ (d ≡ left - 1 → ⊥) → ⊥
-      go (inl z) = ne (rw z at e)
-      go (inr z) = other d (omega arith) j e
-
-  pub other_none : left ≤ 0 → OtherHeads h q os left n → OtherHeads h q os 0 n
-  other_none l other d i j e = other d (omega arith) j e

@@ -1,5 +1,5 @@
 -- Column and kind of a predicate as one number, and the predicates that have others.
-use Rattle.std.specs.Prelude.{ℕ, ◌-◌, ◌≤◌, ◌<◌, ◌≡◌, List}
+use Rattle.std.specs.Prelude.{ℕ, ◌+◌, ◌≤◌, ◌<◌, ◌≡◌, List}
 use Rattle.words.specs.Words.{word_at}
 use Rattle.predicate.specs.Payload.{payload_head}
 use Rattle.records.specs.Offsets.{start_at}
@@ -11,8 +11,8 @@ head_at b at = word_at b at payload_head
 abbrev pub OtherHeads : (h : ℕ) → (q offsets : List ℕ) → (c n : ℕ) → Type 0
 OtherHeads h q os c n = (d : ℕ) → c ≤ d → d < n → head_at q (start_at os d) ≡ h → ⊥
 
--- of the first n predicates, those up to the last with head h are r; r is 0 where none has it
-pub record LastHeadIs (h : ℕ) (q offsets : List ℕ) (n r : ℕ) : Type 0 where
-  pub inside : r ≤ n
-  pub others : OtherHeads h q offsets r n
-  pub last : 0 < r → head_at q (start_at offsets (r - 1)) ≡ h
+-- of the first n predicates, c is the last with head h
+pub record LastHeadIs (h : ℕ) (q offsets : List ℕ) (n c : ℕ) : Type 0 where
+  pub inside : c < n
+  pub others : OtherHeads h q offsets (c + 1) n
+  pub has : head_at q (start_at offsets c) ≡ h

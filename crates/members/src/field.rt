@@ -1,5 +1,5 @@
 // One field of a query.
-ghost use Rattle.std.specs.Prelude.{◌≡◌, ◌≤◌, length};
+ghost use Rattle.std.specs.Prelude.{◌≡◌, ◌≤◌, length, IfOk};
 ghost use Rattle.fields.specs.Header.{header_at};
 ghost use Rattle.query.specs.Format.{depth_of};
 ghost use Rattle.query.specs.Decode.{group_field, predicate_field, member_field};
@@ -7,20 +7,22 @@ ghost use Rattle.records.specs.Offsets.{HasFields};
 ghost use Rattle.records.specs.Table.{predicates_at};
 ghost use Rattle.query.specs.Sound.{SoundField};
 
-use fields::header::Header;
-use query::format::{Group, Predicate, Refusal};
+use fields::header::Field;
+use query::format::{Group, Predicate};
 use query::member::MemberField;
+use query::refusal::Refusal;
 
-fn group_field(allowed: usize, tag: u8, start: usize, end: usize) -> MemberField
-    ensures { result ≡ group_field (depth_of allowed) tag start end }
+fn group_field(allowed: usize, field: Field) -> Result<MemberField, Refusal>
+    ensures { result ≡ group_field (depth_of allowed) field.tag field.start field.end }
 {
+    let Field { tag, start, end } = field;
     if allowed == 0 {
-        return MemberField::Refused(Refusal::TOO_DEEP);
+        return Err(Refusal::TooDeep);
     }
     if start == end {
-        return MemberField::Refused(Refusal::EMPTY_GROUP);
+        return Err(Refusal::EmptyGroup);
     }
-    MemberField::Group { tag, start, end }
+    Ok(MemberField::Group { tag, start, end })
 }
 
 // The predicates before it are those whose fields begin at the first n offsets.
@@ -31,20 +33,20 @@ fn predicate_field(
     end: usize,
     n: usize,
     offsets: &[usize],
-) -> MemberField
+) -> Result<MemberField, Refusal>
     requires { (start ≤ end) × (end ≤ length q.now) × HasFields q.now offsets.now n }
     ensures { result ≡ predicate_field tags.now q.now (predicates_at q.now offsets.now n) start end }
 {
     if Predicate::LIMIT <= n {
-        return MemberField::Refused(Refusal::TOO_MANY_PREDICATES);
+        return Err(Refusal::TooManyPredicates);
     }
     if !payload::payload_is_valid(tags, &q[start..end]) {
-        return MemberField::Refused(Refusal::INVALID_PAYLOAD);
+        return Err(Refusal::InvalidPayload);
     }
     if crate::repeated::is_repeated(&q[start..end], q, offsets, n) {
-        return MemberField::Refused(Refusal::REPEATED_PAYLOAD);
+        return Err(Refusal::RepeatedPayload);
     }
-    MemberField::Leaf { start, end }
+    Ok(MemberField::Leaf { start, end })
 }
 
 // The member expected at a place inside an enclosing end, with so many more groups allowed.
@@ -56,29 +58,18 @@ pub fn read_field(
     allowed: usize,
     n: usize,
     offsets: &[usize],
-) -> MemberField
+) -> Result<MemberField, Refusal>
     requires { (at ≤ end) × (end ≤ length q.now) × HasFields q.now offsets.now n }
-    ensures { (result ≡ member_field tags.now q.now (depth_of allowed)
-        (predicates_at q.now offsets.now n) (header_at q.now at end))
-        × SoundField tags.now q.now at end (depth_of allowed) n result }
+    ensures exact { result ≡ member_field tags.now q.now (depth_of allowed)
+        (predicates_at q.now offsets.now n) (header_at q.now at end) }
+    ensures sound { IfOk result (SoundField tags.now q.now at end (depth_of allowed) n) }
 {
-    match fields::header::read_header(q, at, end) {
-        Header::Cut => MemberField::Refused(Refusal::MEMBER_CUT),
-        Header::Field {
-            tag,
-            start,
-            end: stop,
-        } => {
-            if tag == Predicate::TAG {
-                return predicate_field(tags, q, start, stop, n, offsets);
-            }
-            if tag == Group::CONJUNCTION_TAG {
-                return group_field(allowed, tag, start, stop);
-            }
-            if tag == Group::DISJUNCTION_TAG {
-                return group_field(allowed, tag, start, stop);
-            }
-            MemberField::Refused(Refusal::UNKNOWN_TAG)
-        }
+    let Some(field) = fields::header::read_header(q, at, end) else {
+        return Err(Refusal::MemberCut);
+    };
+    match field.tag {
+        Predicate::TAG => predicate_field(tags, q, field.start, field.end, n, offsets),
+        Group::CONJUNCTION_TAG | Group::DISJUNCTION_TAG => group_field(allowed, field),
+        _ => Err(Refusal::UnknownTag),
     }
 }

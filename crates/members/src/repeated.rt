@@ -1,16 +1,17 @@
 // Whether a payload is that of an earlier predicate.
-ghost use Rattle.std.specs.Prelude.{◌≡◌, ◌+◌, ◌≤◌, length};
+ghost use Rattle.std.specs.Prelude.{◌≡◌, ◌+◌, ◌≤◌, length, MatchOption};
 ghost use Rattle.fields.specs.Header.{header_size, field_end};
 ghost use Rattle.predicate.specs.Meaning.{same};
 ghost use Rattle.predicate.specs.Payload.{payload_head};
 ghost use Rattle.query.specs.Decode.{payload_at, is_repeated};
 ghost use Rattle.records.specs.Offsets.{HasFields};
 ghost use Rattle.records.specs.Table.{predicates_at};
-ghost use Rattle.members.specs.Heads.{head_at, LastHeadIs};
+ghost use Rattle.members.specs.Heads.{head_at, OtherHeads, LastHeadIs};
 
 use fields::header::Header;
 
-// Eight bytes at a time, then one by one.
+// Eight bytes at a time, then one by one: `a == b` takes up to twice as long where texts of one column and kind are told apart, `chunks_exact`
+// with `zip` and `all` some hundredths more.
 fn same_bytes(a: &[u8], b: &[u8]) -> bool
     ensures { result ≡ same a.now b.now }
 {
@@ -39,22 +40,20 @@ fn head(b: &[u8], at: usize) -> usize
     requires { at + payload_head ≤ length b.now }
     ensures { result ≡ head_at b.now at }
 {
-    fields::number::widen(b[at]) + 256 * fields::number::widen(b[at + 1])
+    usize::from(b[at]) + 256 * usize::from(b[at + 1])
 }
 
-// Of the first n predicates, how many there are up to the last that has this head; 0 where none has it.
-fn up_to_head(h: usize, q: &[u8], offsets: &[usize], n: usize) -> usize
+// Of the first n predicates, the last that has this head.
+fn last_with_head(h: usize, q: &[u8], offsets: &[usize], n: usize) -> Option<usize>
     requires { HasFields q.now offsets.now n }
-    ensures { LastHeadIs h q.now offsets.now n result }
+    ensures { MatchOption result (OtherHeads h q.now offsets.now 0 n) (LastHeadIs h q.now offsets.now n) }
 {
-    let mut left = n;
-    while 0 < left {
-        if head(q, offsets[left - 1] + Header::SIZE) == h {
-            return left;
+    for c in (0..n).rev() {
+        if head(q, offsets[c] + Header::SIZE) == h {
+            return Some(c);
         }
-        left -= 1;
     }
-    0
+    None
 }
 
 // Whether the payload is that of the predicate whose field begins at a place.
@@ -74,12 +73,12 @@ pub fn is_repeated(payload: &[u8], q: &[u8], offsets: &[usize], n: usize) -> boo
     ensures { result ≡ is_repeated payload.now (predicates_at q.now offsets.now n) }
 {
     let h = head(payload, 0);
-    let mut left = up_to_head(h, q, offsets, n);
-    while 0 < left {
-        if is_payload_at(payload, q, offsets[left - 1]) {
+    let mut left = n;
+    while let Some(c) = last_with_head(h, q, offsets, left) {
+        if is_payload_at(payload, q, offsets[c]) {
             return true;
         }
-        left = up_to_head(h, q, offsets, left - 1);
+        left = c;
     }
     false
 }

@@ -1,17 +1,13 @@
 -- The number of four bytes from the number of the same bytes with the least significant first, and where a block's numbers lie.
-use Rattle.std.proofs.Common.{◌≡◌, ℕ, ◌+◌, ◌*◌, ◌/◌, ◌%◌, ◌^◌, ◌<◌, ◌≤◌, true, eqb, List, length, get_or, sym, refl, ap, ◌∙◌, ap₂, arith, eq-eqb, eqb-true}
+use Rattle.std.proofs.Common.{◌≡◌, ℕ, ◌+◌, ◌*◌, ◌/◌, ◌%◌, ◌^◌, ◌<◌, true, eqb, List, get_or, sym, refl, ap, ◌∙◌, ap₂, arith, eq-eqb, eqb-true}
 use native.Mathlib.Nat.{mod-add-mod, add-mod-mod}
 use lib.Bits.{bit_and, and_mask, and_mod, and_shr}
 use Rattle.bools.specs.Bools.{iff_eq}
 use Rattle.fields.specs.Numbers.{number_at, Bytes}
 use Rattle.words.specs.Words.{word_at}
 use Rattle.words.proofs.WordLaws.{word_four}
-use Rattle.catalogue.specs.Format.{number_tag, blank_number}
-use Rattle.catalogue.proofs.Rows.{has_number}
+use Rattle.catalogue.specs.Format.{blank_number}
 use Rattle.predicate.specs.Meaning.{number_blank}
-use Rattle.sets.specs.Set.{below_set}
-use Rattle.sets.specs.SetLaws.{below_has}
-use Rattle.heads.specs.Block.{HasDueRows}
 
 -- the first byte and the third
 pairs : (x : ℕ) → bit_and x 16711935 ≡ x % 256 + 65536 * (x / 65536 % 256)
@@ -84,7 +80,3 @@ blank_either b p bytes {x} e = iff_eq (eqb x blank_number) (number_blank (number
 
     from : number_at b p 4 ≡ blank_number → eqb x blank_number ≡ true
     from t = eq-eqb x blank_number (omega (arith, word_four b p, number_four b p, bytes p, bytes (p + 1), bytes (p + 2), bytes (p + 3)))
-
--- the numbers of a block whose rows are all due lie in the bytes
-pub block_numbers : (b : List ℕ) (start base : ℕ) → HasDueRows b number_tag start base (below_set 64) → start + 4 * base + 256 ≤ length b
-block_numbers b start base D = let h = has_number b start (base + 63) (D 63 (below_has 64 63 (omega arith))) in omega arith

@@ -1,13 +1,12 @@
 // A number condition at the due rows of a block of 64 rows, as a word: bit d is row base + d.
 #![tactic(auto)]
 
-ghost use Rattle.std.specs.Prelude.{◌≡◌, ◌+◌, ◌*◌, ◌%◌, ◌^◌, ◌<◌, ◌≤◌, length};
+ghost use Rattle.std.specs.Prelude.{◌≡◌, ◌+◌, ◌%◌, ◌^◌, ◌<◌, ◌≤◌, length};
 ghost use Rattle.fields.specs.Numbers.{number_at};
 ghost use Rattle.catalogue.specs.Format.{number_tag, number_size};
+ghost use Rattle.catalogue.specs.InPlace.{HasRow};
 ghost use Rattle.predicate.specs.Meaning.{number_blank};
-ghost use Rattle.sets.specs.Set.{below_set};
 ghost use Rattle.sets.specs.Kept.{KeptBy};
-ghost use Rattle.sets.specs.Gathered.{gathered};
 ghost use Rattle.heads.specs.Block.{HasDueRows};
 ghost use Rattle.numbers.specs.Within.{number_in_row, within};
 
@@ -52,69 +51,24 @@ fn is_blank_at(b: &[u8], at: usize) -> bool
     words::half_at(b, at) as u32 == Number::BLANK
 }
 
-// The 32 numbers from a place on. No bit waits for another.
-fn half_within(b: &[u8], at: usize, low: u32, width: u32) -> u32
-    requires { (at + number_size * 32 ≤ length b.now) × (low + width < 2 ^ 32) }
-    ensures { result ≡ gathered (λ d. within low width (number_in_row b.now at d)) 32 }
-{
-    let mut met: u32 = 0;
-    let mut d: usize = 0;
-    while d < 32 {
-        let passes = is_within_at(b, at + Number::SIZE * d, low, width);
-        met = met | sets::bit_at(passes, fields::number::narrow(d));
-        d += 1;
-    }
-    met
-}
-
-fn half_blank(b: &[u8], at: usize) -> u32
-    requires { at + number_size * 32 ≤ length b.now }
-    ensures { result ≡ gathered (λ d. number_blank (number_in_row b.now at d)) 32 }
-{
-    let mut met: u32 = 0;
-    let mut d: usize = 0;
-    while d < 32 {
-        let passes = is_blank_at(b, at + Number::SIZE * d);
-        met = met | sets::bit_at(passes, fields::number::narrow(d));
-        d += 1;
-    }
-    met
-}
-
-// The rows of a whole block, straight through, by halves: lanes of 32 bits hold a number and its bit.
-fn all_within(b: &[u8], start: usize, base: usize, low: u32, width: u32) -> u64
-    requires { HasDueRows b.now number_tag start base (below_set 64) × (low + width < 2 ^ 32) }
-    ensures { KeptBy (λ d. within low width (number_in_row b.now start (base + d))) (below_set 64) result }
-{
-    let at = start + Number::SIZE * base;
-    half_within(b, at, low, width) as u64
-        + 0x1_0000_0000 * half_within(b, at + Number::SIZE * 32, low, width) as u64
-}
-
-fn all_blank(b: &[u8], start: usize, base: usize) -> u64
-    requires { HasDueRows b.now number_tag start base (below_set 64) }
-    ensures { KeptBy (λ d. number_blank (number_in_row b.now start (base + d))) (below_set 64) result }
-{
-    let at = start + Number::SIZE * base;
-    half_blank(b, at) as u64 + 0x1_0000_0000 * half_blank(b, at + Number::SIZE * 32) as u64
-}
-
 // The due rows whose numbers are among those.
 fn due_within(b: &[u8], start: usize, base: usize, low: u32, width: u32, due: u64) -> u64
     requires { HasDueRows b.now number_tag start base due × (low + width < 2 ^ 32) }
     ensures { KeptBy (λ d. within low width (number_in_row b.now start (base + d))) due result }
 {
-    let mut left = due;
-    let mut met: u64 = 0;
-    while left != 0 {
-        let d = sets::first(left);
-        let row = base + fields::number::widen(d);
-        let next = sets::rest(left);
-        let n = catalogue::column::number_at(b, start, row);
-        met = met | sets::kept(is_within(low, width, n), left ^ next);
-        left = next;
-    }
-    met
+    sets::kept_where(
+        due,
+        |d| -> bool
+            requires { HasRow b.now number_tag start (base + d) × (low + width < 2 ^ 32) }
+            ensures { result ≡ within low width (number_in_row b.entry.now start (base + d)) }
+        {
+            is_within(
+                low,
+                width,
+                catalogue::column::number_at(b, start, base + usize::from(d)),
+            )
+        },
+    )
 }
 
 // The same, by the shorter way.
@@ -123,7 +77,19 @@ pub fn numbers_within(b: &[u8], start: usize, base: usize, low: u32, width: u32,
     ensures { KeptBy (λ d. within low width (number_in_row b.now start (base + d))) due result }
 {
     if due == sets::below(64) {
-        return all_within(b, start, base, low, width);
+        return sets::all_where(
+            |d| -> bool
+                requires { HasRow b.now number_tag start (base + d) × (low + width < 2 ^ 32) }
+                ensures { result ≡ within low width (number_in_row b.entry.now start (base + d)) }
+            {
+                is_within_at(
+                    b,
+                    start + Number::SIZE * (base + usize::from(d)),
+                    low,
+                    width,
+                )
+            },
+        );
     }
     due_within(b, start, base, low, width, due)
 }
@@ -135,7 +101,12 @@ pub fn numbers_blank(b: &[u8], start: usize, base: usize, due: u64) -> u64
 {
     let full = sets::below(64);
     if due == full {
-        return all_blank(b, start, base);
+        return sets::all_where(
+            |d| -> bool
+                requires { HasRow b.now number_tag start (base + d) }
+                ensures { result ≡ number_blank (number_in_row b.entry.now start (base + d)) }
+            { is_blank_at(b, start + Number::SIZE * (base + usize::from(d))) },
+        );
     }
     due_within(b, start, base, Number::BLANK, 0, due)
 }

@@ -1,12 +1,11 @@
 -- What a condition asks, read from a place of a text, its operand written to a place of an output; as `syntax` reads it from the text's rest there.
-use Rattle.std.specs.Prelude.{ℕ, ◌+◌, ◌-◌, ◌≤◌, ◌≡◌, List, length}
+use Rattle.std.specs.Prelude.{ℕ, ◌+◌, ◌-◌, ◌≤◌, ◌≡◌, List, length, Option, None, Some}
 use Rattle.fields.specs.Output.{Wrote}
 use Rattle.predicate.specs.Kinds.{text_blank_kind}
 use Rattle.predicate.specs.Meaning.{range_size}
 use Rattle.syntax.specs.Parsed.{Parsed, wrong, ParsedTo}
 use Rattle.syntax.specs.Conditions as ahead
 use Rattle.operands.specs.declared.test.Test.{Test}
-use Rattle.operands.specs.declared.test.Test.TheVariants as test
 
 -- room from a place on for the longest operand that the rest of the text can spell: a byte has a byte or more there, but two numbers of four bytes
 -- may have fewer
@@ -21,6 +20,6 @@ pub record TestTo (text : List ℕ) (at : ℕ) (p : Parsed ahead.Asked) (end : �
   pub room : stop ≤ length old
   pub small : kind ≤ text_blank_kind
 
-abbrev pub TestRead : (text : List ℕ) → (at : ℕ) → Parsed ahead.Asked → (end : ℕ) → (old : List ℕ) → Test → (new : List ℕ) → Type 0
-TestRead text at p end old test.Wrong new = p ≡ wrong
-TestRead text at p end old (test.Read kind next stop) new = TestTo text at p end old kind next stop new
+abbrev pub TestRead : (text : List ℕ) → (at : ℕ) → Parsed ahead.Asked → (end : ℕ) → (old : List ℕ) → Option Test → (new : List ℕ) → Type 0
+TestRead text at p end old None new = p ≡ wrong
+TestRead text at p end old (Some read) new = TestTo text at p end old read.kind read.next read.end new

@@ -10,17 +10,11 @@ pub fn is_order(order: &[u8], n: u8) -> bool
     ensures { result ≡ is_order n order.now }
 {
     let mut seen: u64 = 0;
-    let mut i: usize = 0;
-    while i < order.len() {
-        let c = order[i];
-        if n <= c {
-            return false;
-        }
-        if sets::has(seen, c) {
+    for &c in order {
+        if n <= c || sets::has(seen, c) {
             return false;
         }
         seen = sets::with(seen, c);
-        i += 1;
     }
     seen == sets::below(n)
 }

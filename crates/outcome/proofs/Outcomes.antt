@@ -15,13 +15,16 @@ use Rattle.task.specs.Task.{predicate_at}
 use Rattle.input.specs.declared.begin.Beginning.{Beginning}
 use Rattle.task.specs.Input.{Input, decode_input}
 use Rattle.input.specs.Beginning.{HasInput}
-use Rattle.answers.specs.declared.word.Answer.TheVariants.{Refused, Accepted}
+use Rattle.answers.specs.declared.refusal.Refusal.{Refusal}
+use Rattle.answers.specs.Refusal.{refusal_number}
+use Rattle.answers.specs.Answer.{Refused, Accepted}
 use Rattle.answers.specs.Refusals.{no_such_row_or_predicate}
 use Rattle.answers.specs.Answers.{outcome_number, outcome_answer, Answered}
 use Rattle.answers.proofs.Outcomes.{outcome_small}
+use Rattle.answers.proofs.Refusals.{refused_fits}
 
-pub outcome_answer_refused : (d : Decoded Input) (row c k : ℕ) → (d ≡ refused k) × (k < 256) → Answered (outcome_answer d row c) (Refused k)
-outcome_answer_refused d row c k h = (rw h.0, omega arith)
+pub outcome_answer_refused : (d : Decoded Input) (row c : ℕ) (e : Refusal) → d ≡ refused (refusal_number e) → Answered (outcome_answer d row c) (Refused (refusal_number e))
+outcome_answer_refused d row c e h = (rw h, refused_fits e)
 
 -- the three ends of working out one condition, once the input is accepted
 module _ {b q : List ℕ} {r : Beginning} {T : Tables} (G : HasInput b q r T) (row c : ℕ) where

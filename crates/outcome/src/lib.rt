@@ -4,6 +4,7 @@
 ghost use Rattle.std.specs.Prelude.{◌≡◌};
 ghost use Rattle.task.specs.Input.{decode_input};
 ghost use Rattle.input.specs.Beginning.{HasInputOffsets};
+ghost use Rattle.answers.specs.Answer.{answer_of};
 ghost use Rattle.answers.specs.Answers.{outcome_number, outcome_answer, Answered};
 
 use ancestors::Ancestors;
@@ -11,15 +12,18 @@ use answers::refusal::Refusal;
 use answers::word::Answer;
 use input::begin::Beginning;
 use plan::table::Plan;
+use predicate::fold::Fold;
+use predicate::outcome::Outcome;
 use query::format::Predicate;
 
-fn number_of(outcome: predicate::outcome::Outcome) -> u64
+// A `From` would be an impl of std's trait for `predicate`'s type, which only `predicate` may write, and the numbers are the answers'.
+fn number_of(outcome: Outcome) -> u64
     ensures { result ≡ outcome_number outcome }
 {
     match outcome {
-        predicate::outcome::Outcome::No => 0,
-        predicate::outcome::Outcome::Yes => 1,
-        predicate::outcome::Outcome::Blank => 2,
+        Outcome::No => 0,
+        Outcome::Yes => 1,
+        Outcome::Blank => 2,
     }
 }
 
@@ -30,55 +34,52 @@ fn outcome_accepted(
     offsets: &[usize],
     entry: u64,
     condition: u64,
-) -> Answer
+) -> Result<Answer, Refusal>
     requires { HasInputOffsets catalogue.now question.now begun offsets.now }
-    ensures { Answered (outcome_answer (decode_input catalogue.now question.now) entry condition) result }
+    ensures { Answered (outcome_answer (decode_input catalogue.now question.now) entry condition) (answer_of result) }
 {
-    let rows = begun.rows;
-    let n = begun.n;
-    let tags = begun.tags;
-    let starts = begun.starts;
-    if rows as u64 <= entry {
-        return Answer::Refused(Refusal::NO_SUCH_ROW_OR_PREDICATE);
+    if begun.rows as u64 <= entry {
+        return Err(Refusal::NoSuchRowOrPredicate);
     }
-    if n as u64 <= condition {
-        return Answer::Refused(Refusal::NO_SUCH_ROW_OR_PREDICATE);
+    if begun.n as u64 <= condition {
+        return Err(Refusal::NoSuchRowOrPredicate);
     }
     let mut plan = [0usize; Plan::TABLE_SIZE];
     plan::table::plan_predicate(
-        &tags,
-        &starts,
+        &begun.tags,
+        &begun.starts,
         question,
         offsets,
         condition as usize,
         &mut plan,
     );
-    let fold = predicate::fold::fold_table();
+    let table = predicate::fold::fold_table();
     let outcome = access::outcome_of(
-        &fold,
+        Fold { table: &table },
         catalogue,
         question,
         &plan,
         condition as usize,
         entry as usize,
     );
-    Answer::Accepted {
+    Ok(Answer {
         first: number_of(outcome),
         second: 0,
         third: 0,
-    }
+    })
 }
 
 // The refusals of the input, then 18: no such row or predicate.
-pub fn outcome_at(catalogue: &[u8], question: &[u8], entry: u64, condition: u64) -> Answer
-    ensures { Answered (outcome_answer (decode_input catalogue.now question.now) entry condition) result }
+pub fn outcome_at(
+    catalogue: &[u8],
+    question: &[u8],
+    entry: u64,
+    condition: u64,
+) -> Result<Answer, Refusal>
+    ensures { Answered (outcome_answer (decode_input catalogue.now question.now) entry condition) (answer_of result) }
 {
     let mut offsets = [0usize; Predicate::LIMIT];
     let mut ancestors = [0u8; Ancestors::TABLE_SIZE];
-    let begun = input::begin::begin(catalogue, question, &mut offsets, &mut ancestors);
-    let refusal = begun.refusal;
-    if refusal != 0 {
-        return Answer::Refused(refusal);
-    }
+    let begun = input::begin::begin(catalogue, question, &mut offsets, &mut ancestors)?;
     outcome_accepted(catalogue, question, begun, &offsets, entry, condition)
 }

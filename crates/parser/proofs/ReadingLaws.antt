@@ -20,9 +20,10 @@ use Rattle.syntax.specs.Parsed.{wrong, absent, stripped, strip}
 use Rattle.syntax.specs.Conditions.{condition_ahead}
 use Rattle.syntax.specs.Machine.{Typed, misspelled, Frame, opened, join_to, closed_with, start, after, question_of}
 use Rattle.syntax.proofs.ParsedLaws.{strip_sound}
-use Rattle.syntax.proofs.Steps.{start_group, start_condition, start_wrong, start_nothing, after_comma, after_closing, after_other, after_nothing, after_whole, after_more}
+use Rattle.syntax.proofs.Steps.{start_group, start_condition, start_wrong, after_comma, after_closing, after_other, after_nothing, after_whole, after_more}
 use Rattle.syntax.proofs.ConditionLaws.{condition_sound, condition_short}
-use Rattle.lexer.proofs.Ahead.{ahead, nothing_ahead}
+use Rattle.std.proofs.lemmas.List.{drop_more, drop_all}
+use Rattle.lexer.specs.Lexed.{WordTo}
 use Rattle.operands.specs.Reading.{HasRoom}
 use Rattle.conditions.specs.Reading.{ConditionTo}
 use Rattle.parser.specs.declared.groups.Place.{Place}
@@ -47,7 +48,12 @@ expecting_first tags text out = record {
 -- a comma that stands there is found
 comma_there : (text : List ℕ) (at : ℕ) → at < length text → get_or text at 0 ≡ comma → strip (comma ∷ []) (drop at text) ≡ absent → ⊥
 unfolding strip
-comma_there text at l c h = let z : stripped (drop (at + 1) text) ≡ absent = rw (ahead text at l, c) at h in let w : ◌≡◌ {A = ℕ} 0 1 = cc in absurd (omega arith)
+comma_there text at l c h = let z : stripped (drop (at + 1) text) ≡ absent = rw (drop_more text at 0 l, c) at h in let w : ◌≡◌ {A = ℕ} 0 1 = cc in absurd (omega arith)
+
+-- how long the word is that opens a group
+pub group_size : (k : Bool) → length (group_word k) ≡ 4
+group_size true = refl
+group_size false = refl
 
 -- a step is left
 some_step : (steps : ℕ) {at size : ℕ} → at ≤ size → size < at + steps → (j : ℕ) × (steps ≡ suc j)
@@ -63,31 +69,29 @@ module _ {whole : Typed} {tags text : List ℕ} {here : Place} {out : List ℕ} 
   next_gives : whole ≡ start (suc left.0) tags E.frames (drop here.at text)
   next_gives = E.gives ∙ ap (λ (n : ℕ). start n tags E.frames (drop here.at text)) left.1
 
-  pub expecting_over : length text ≤ here.at → whole ≡ misspelled
-  expecting_over l = next_gives ∙ ap (start (suc left.0) tags E.frames) (nothing_ahead text here.at l) ∙ start_nothing tags left.0 E.frames
-
   -- a group begins
-  pub group_opened : (k : Bool) {next : ℕ} {new : List ℕ} → Fits text out → strip (group_word k) (drop here.at text) ≡ stripped (drop (here.at + 4) text)
-      → here.at + 4 ≤ length text → Wrote here.end (header_of (group_tag k) here.innermost) out next new
-      → Expecting whole tags text (place (here.at + 4) next (here.end + 1)) new
-  group_opened k {next} {new} fits there l w =
+  pub group_opened : (k : Bool) {behind next : ℕ} {new : List ℕ} → Fits text out → WordTo text here.at (group_word k) behind
+      → Wrote here.end (header_of (group_tag k) here.innermost) out next new
+      → Expecting whole tags text (place behind next (here.end + 1)) new
+  group_opened k {behind} {next} {new} fits W w =
       let s = E.standing in
       let z : next ≡ here.end + 3 = omega (arith, w.place, length_bytes 2 here.innermost) in
+      let b : behind ≡ here.at + 4 = omega (arith, W.behind, group_size k) in
       let front : Front ((flat E.frames ++ []) ++ header_of (group_tag k) (open_at E.frames)) next new =
-      rw (← s.opens) (front_then s.front w (omega (arith, s.room, fits))) in
+      rw (← s.opens) (front_then s.front w (omega (arith, s.room, fits, W.inside))) in
       record {
         frames = opened k E.frames;
         standing = record {
           front = subst (λ (x : List ℕ). Front x next new) (flat_opened k E.frames) front;
           opens = omega (arith, front_size_lem s.front, ap length (append-nil (flat E.frames)), open_first (record { settling = k; done = [] }) E.frames);
-          inside = l;
+          inside = W.inside;
           room = omega (arith, s.room);
         };
         steps = left.0;
         enough = omega (arith, E.enough, left.1);
         gives = next_gives
-            ∙ ap (start (suc left.0) tags E.frames) (strip_sound (group_word k) (drop here.at text) (drop (here.at + 4) text) there)
-            ∙ start_group tags left.0 k E.frames (drop (here.at + 4) text);
+            ∙ ap (start (suc left.0) tags E.frames) (strip_sound (group_word k) (drop here.at text) (drop behind text) W.gives)
+            ∙ start_group tags left.0 k E.frames (drop behind text);
       }
 
   pub condition_misspelled : NoGroup text here.at → condition_ahead tags (drop here.at text) ≡ wrong → whole ≡ misspelled
@@ -159,7 +163,7 @@ module _ {whole : Typed} {tags text : List ℕ} {here : Place} {out : List ℕ} 
     whole_read e = record {
       bytes = M.member;
       gives = behind_gives [] nothing_open
-          ∙ ap (after (suc behind_left.0) tags M.member []) (nothing_ahead text here.at (omega arith))
+          ∙ ap (after (suc behind_left.0) tags M.member []) (drop_all here.at text (omega arith))
           ∙ after_whole tags behind_left.0 M.member;
       front = rw nothing_open at M.standing.front;
     }
@@ -167,7 +171,7 @@ module _ {whole : Typed} {tags text : List ℕ} {here : Place} {out : List ℕ} 
     pub text_goes_on : (here.at ≡ length text → ⊥) → whole ≡ misspelled
     text_goes_on n =
         behind_gives [] nothing_open
-        ∙ ap (after (suc behind_left.0) tags M.member []) (ahead text here.at (omega (arith, M.standing.inside, n)))
+        ∙ ap (after (suc behind_left.0) tags M.member []) (drop_more text here.at 0 (omega (arith, M.standing.inside, n)))
         ∙ after_more tags behind_left.0 M.member (get_or text here.at 0) (drop (here.at + 1) text)
 
   -- a group is open
@@ -185,9 +189,8 @@ module _ {whole : Typed} {tags text : List ℕ} {here : Place} {out : List ℕ} 
     open_opens = M.standing.opens ∙ ap open_at innermost.2
 
     -- a comma: another member is expected
-    pub comma_read : strip (comma ∷ []) (drop here.at text) ≡ stripped (drop (here.at + 1) text) → here.at + 1 ≤ length text
-        → Expecting whole tags text (place (here.at + 1) here.end here.innermost) out
-    comma_read there l =
+    pub comma_read : {behind : ℕ} → WordTo text here.at (comma ∷ []) behind → Expecting whole tags text (place behind here.end here.innermost) out
+    comma_read {behind} W =
         let f : Frame = innermost.0 in
         let s : List Frame = innermost.1 in
         record {
@@ -195,14 +198,14 @@ module _ {whole : Typed} {tags text : List ℕ} {here : Place} {out : List ℕ} 
           standing = record {
             front = subst (λ (x : List ℕ). Front x here.end out) (flat_joined f s M.member) open_front;
             opens = open_opens ∙ open_first f s ∙ sym (open_first (join_to f M.member) s);
-            inside = l;
-            room = omega (arith, M.standing.room);
+            inside = W.inside;
+            room = omega (arith, M.standing.room, W.behind);
           };
           steps = behind_left.0;
-          enough = omega (arith, M.enough, behind_left.1);
+          enough = omega (arith, M.enough, behind_left.1, W.behind);
           gives = open_gives
-              ∙ ap (after (suc behind_left.0) tags M.member (f ∷ s)) (strip_sound (comma ∷ []) (drop here.at text) (drop (here.at + 1) text) there)
-              ∙ after_comma tags behind_left.0 M.member f s (drop (here.at + 1) text);
+              ∙ ap (after (suc behind_left.0) tags M.member (f ∷ s)) (strip_sound (comma ∷ []) (drop here.at text) (drop behind text) W.gives)
+              ∙ after_comma tags behind_left.0 M.member f s (drop behind text);
         }
 
     -- neither a comma nor the group's end
@@ -212,12 +215,12 @@ module _ {whole : Typed} {tags text : List ℕ} {here : Place} {out : List ℕ} 
         go : (b : Bool) → leb (length text) here.at ≡ b → whole ≡ misspelled
         go true e =
             open_gives
-            ∙ ap (after (suc behind_left.0) tags M.member (innermost.0 ∷ innermost.1)) (nothing_ahead text here.at (leb-true (length text) here.at e))
+            ∙ ap (after (suc behind_left.0) tags M.member (innermost.0 ∷ innermost.1)) (drop_all here.at text (leb-true (length text) here.at e))
             ∙ after_nothing tags behind_left.0 M.member innermost.0 innermost.1
         go false e =
             let l : here.at < length text = leb-false (length text) here.at e in
             open_gives
-            ∙ ap (after (suc behind_left.0) tags M.member (innermost.0 ∷ innermost.1)) (ahead text here.at l)
+            ∙ ap (after (suc behind_left.0) tags M.member (innermost.0 ∷ innermost.1)) (drop_more text here.at 0 l)
             ∙ after_other tags behind_left.0 M.member innermost.0 innermost.1 (get_or text here.at 0) (drop (here.at + 1) text)
             (λ c. comma_there text here.at l c absent-there) (n l)
 
@@ -263,6 +266,6 @@ module _ {whole : Typed} {tags text : List ℕ} {here : Place} {out : List ℕ} 
             steps = behind_left.0;
             enough = omega (arith, M.enough, behind_left.1);
             gives = open_gives
-                ∙ ap (after (suc behind_left.0) tags m (f ∷ s)) (ahead text here.at l ∙ ap (λ (x : ℕ). x ∷ drop (here.at + 1) text) c)
+                ∙ ap (after (suc behind_left.0) tags m (f ∷ s)) (drop_more text here.at 0 l ∙ ap (λ (x : ℕ). x ∷ drop (here.at + 1) text) c)
                 ∙ after_closing tags behind_left.0 m f s (drop (here.at + 1) text);
           }

@@ -1,15 +1,13 @@
 -- A text that the code reads from place to place, as the machine of `syntax` reads it: what the machine gives from here on, it gives for the whole.
-use Rattle.std.specs.Prelude.{ℕ, ◌+◌, ◌*◌, ◌≤◌, ◌<◌, ◌≡◌, Bool, true, false, ◌⊎◌, List, [], ◌++◌, length, get_or, drop}
+use Rattle.std.specs.Prelude.{ℕ, ◌+◌, ◌*◌, ◌≤◌, ◌<◌, ◌≡◌, Bool, true, false, List, [], ◌++◌, length, get_or, drop, Option, None, Some}
 use Rattle.fields.specs.Output.{Front}
 use Rattle.query.specs.Encode.{group_tag}
 use Rattle.syntax.specs.Spelling.{group_word, closing}
-use Rattle.syntax.specs.Parsed.{absent, stripped, strip}
+use Rattle.syntax.specs.Parsed.{absent, strip}
 use Rattle.syntax.specs.Machine.{typed_limit, Typed, misspelled, typed, Frame, start, after}
+use Rattle.lexer.specs.Lexed.{WordTo}
 use Rattle.parser.specs.declared.groups.Place.{Place}
-use Rattle.parser.specs.declared.whole.Member.{Member}
-use Rattle.parser.specs.declared.whole.Member.TheVariants as member
-use Rattle.parser.specs.declared.whole.Question.{Question}
-use Rattle.parser.specs.declared.whole.Question.TheVariants as question
+use Rattle.parser.specs.declared.groups.GroupWord.{GroupWord}
 use Rattle.parser.specs.Open.{flat, open_at}
 
 -- a text that may be taken, and room for what it can spell: a question takes at most one and a half times the bytes of its text, and a condition that
@@ -41,14 +39,13 @@ pub record Behind (whole : Typed) (tags text : List ℕ) (here : Place) (out : L
   pub enough : length text < here.at + steps
   pub gives : whole ≡ after steps tags member frames (drop here.at text)
 
--- no group begins at a place; the tag of the one that does, 0 where none does
+-- no group begins at a place; or one does, with its tag
 abbrev pub NoGroup : (text : List ℕ) → (at : ℕ) → Type 0
 NoGroup text at = (strip (group_word false) (drop at text) ≡ absent) × (strip (group_word true) (drop at text) ≡ absent)
 
-abbrev pub GroupAt : (text : List ℕ) → (at tag : ℕ) → Type 0
-GroupAt text at tag =
-    ((tag ≡ 0) × NoGroup text at)
-    ⊎ ((k : Bool) × (tag ≡ group_tag k) × (strip (group_word k) (drop at text) ≡ stripped (drop (at + 4) text)) × (at + 4 ≤ length text))
+abbrev pub GroupAt : (text : List ℕ) → (at : ℕ) → Option GroupWord → Type 0
+GroupAt text at None = NoGroup text at
+GroupAt text at (Some word) = (k : Bool) × (word.tag ≡ group_tag k) × WordTo text at (group_word k) word.next
 
 -- the groups that begin there are opened: where a member is expected, it still is, and it is a condition
 abbrev pub GroupsOpenable : (text : List ℕ) → Place → (out : List ℕ) → Type 0
@@ -78,9 +75,9 @@ pub record MemberTo (tags text : List ℕ) (from : Place) (old : List ℕ) (here
   pub inside : here.at ≤ length text
   pub keeps : (whole : Typed) → Expecting whole tags text from old → Behind whole tags text here new
 
-abbrev pub MemberRead : (tags text : List ℕ) → (from : Place) → (old : List ℕ) → Member → (new : List ℕ) → Type 0
-MemberRead tags text from old member.Wrong new = (whole : Typed) → Expecting whole tags text from old → whole ≡ misspelled
-MemberRead tags text from old (member.Read at end innermost) new = MemberTo tags text from old (record { at = at; end = end; innermost = innermost }) new
+abbrev pub MemberRead : (tags text : List ℕ) → (from : Place) → (old : List ℕ) → Option Place → (new : List ℕ) → Type 0
+MemberRead tags text from old None new = (whole : Typed) → Expecting whole tags text from old → whole ≡ misspelled
+MemberRead tags text from old (Some here) new = MemberTo tags text from old here new
 
 -- the whole text; where it is misspelled the output, the engine's own, may hold anything
 pub record QuestionTo (whole : Typed) (size : ℕ) (new : List ℕ) : Type 0 where
@@ -88,6 +85,6 @@ pub record QuestionTo (whole : Typed) (size : ℕ) (new : List ℕ) : Type 0 whe
   pub gives : whole ≡ typed bytes
   pub front : Front bytes size new
 
-abbrev pub TextRead : Typed → Question → (new : List ℕ) → Type 0
-TextRead whole question.Misspelled new = whole ≡ misspelled
-TextRead whole (question.Read size) new = QuestionTo whole size new
+abbrev pub TextRead : Typed → Option ℕ → (new : List ℕ) → Type 0
+TextRead whole None new = whole ≡ misspelled
+TextRead whole (Some size) new = QuestionTo whole size new

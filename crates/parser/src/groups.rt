@@ -3,38 +3,46 @@
 ghost use Rattle.std.specs.Prelude.{◌≤◌, length};
 ghost use Rattle.parser.specs.Reading.{GroupAt, GroupsOpenable, Opened, GroupsClosable, Closed};
 
+use lexer::word::read_word;
 use query::format::Group;
 
 // How far the text is read and the output written, and where the length of the innermost open group stands, 0 where none is open.
-#[derive(Clone, Copy)]
+// An Option would be no plainer: the number is written to the output as it is, and read back from there.
+#[derive(Clone, Copy, PartialEq, Eq, Debug)]
 pub struct Place {
     pub at: usize,
     pub end: usize,
     pub innermost: usize,
 }
 
-// How a group is spelled: the bytes of "all(" and of "any(", and the byte that closes it.
-#[derive(Drop)]
-pub struct GroupWord;
+// A group that begins: its tag, and the place behind its word.
+#[derive(Clone, Copy, PartialEq, Eq, Debug)]
+pub struct GroupWord {
+    pub tag: u8,
+    pub next: usize,
+}
 
 impl GroupWord {
-    pub const SIZE: usize = 4;
-
+    // The byte that closes a group.
     pub const CLOSING: u8 = b')';
 }
 
-// The tag of the group that begins at a place of the text, 0 where none does.
-fn group_tag(text: &[u8], at: usize) -> u8
+// The group that begins at a place of the text.
+fn read_group(text: &[u8], at: usize) -> Option<GroupWord>
     requires { at ≤ length text.now }
     ensures { GroupAt text.now at result }
 {
-    if lexer::word::starts(text, at, b"all(") {
-        return Group::CONJUNCTION_TAG;
+    if let Some(next) = read_word(text, at, b"all(") {
+        return Some(GroupWord {
+            tag: Group::CONJUNCTION_TAG,
+            next,
+        });
     }
-    if lexer::word::starts(text, at, b"any(") {
-        return Group::DISJUNCTION_TAG;
-    }
-    0
+    let next = read_word(text, at, b"any(")?;
+    Some(GroupWord {
+        tag: Group::DISJUNCTION_TAG,
+        next,
+    })
 }
 
 // Opens the groups that begin at a place where a member is expected.
@@ -43,14 +51,10 @@ pub fn open_groups(text: &[u8], out: &mut [u8], from: Place) -> Place
     ensures { Opened text.now from out.old result out.new }
 {
     let mut here = from;
-    while here.at < text.len() {
-        let tag = group_tag(text, here.at);
-        if tag == 0 {
-            return here;
-        }
-        let next = fields::header::put_header(out, here.end, tag, here.innermost);
+    while let Some(group) = read_group(text, here.at) {
+        let next = fields::header::put_header(out, here.end, group.tag, here.innermost);
         here = Place {
-            at: here.at + GroupWord::SIZE,
+            at: group.next,
             end: next,
             innermost: here.end + 1,
         };
@@ -64,21 +68,14 @@ pub fn close_groups(text: &[u8], out: &mut [u8], from: Place) -> Place
     ensures { Closed text.now from out.old result out.new }
 {
     let mut here = from;
-    while here.at < text.len() {
-        if here.innermost == 0 {
-            return here;
-        }
-        let at = here.at;
-        if text[at] != GroupWord::CLOSING {
-            return here;
-        }
+    while here.innermost != 0 && here.at < text.len() && text[here.at] == GroupWord::CLOSING {
         let outer = fields::number::two_bytes(out, here.innermost);
-        let end = here.end;
-        fields::number::put_two_bytes(out, here.innermost, end - (here.innermost + 2));
+        let size = here.end - (here.innermost + 2);
+        fields::number::put_two_bytes(out, here.innermost, size);
         here = Place {
-            at: at + 1,
-            end,
+            at: here.at + 1,
             innermost: outer,
+            ..here
         };
     }
     here

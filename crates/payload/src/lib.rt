@@ -22,12 +22,14 @@ impl Payload {
 fn kind_fits(tag: u8, kind: u8) -> bool
     ensures { result ≡ kind_fits tag kind }
 {
-    if kind <= Kind::NUMBER_BLANK {
-        return tag == Column::NUMBER_TAG;
+    match kind {
+        Kind::RANGE..=Kind::NUMBER_BLANK => tag == Column::NUMBER_TAG,
+        Kind::EQUALS..=Kind::TEXT_BLANK => tag == Column::TEXT_TAG,
+        _ => false,
     }
-    kind <= Kind::TEXT_BLANK && tag == Column::TEXT_TAG
 }
 
+// Two comparisons, as document 01 has them: a range's `contains` is no plainer.
 fn range_fits(operand: &[u8]) -> bool
     ensures { result ≡ range_fits operand.now }
 {
@@ -43,32 +45,23 @@ fn range_fits(operand: &[u8]) -> bool
 fn operand_fits(kind: u8, operand: &[u8]) -> bool
     ensures { result ≡ operand_fits kind operand.now }
 {
-    if kind == Kind::RANGE {
-        return range_fits(operand);
+    match kind {
+        Kind::RANGE => range_fits(operand),
+        Kind::NUMBER_BLANK | Kind::TEXT_BLANK => operand.is_empty(),
+        _ => (1..=Text::LIMIT).contains(&operand.len()),
     }
-    if kind == Kind::NUMBER_BLANK {
-        return operand.len() == 0;
-    }
-    if kind == Kind::TEXT_BLANK {
-        return operand.len() == 0;
-    }
-    1 <= operand.len() && operand.len() <= Text::LIMIT
 }
 
 // Whether a payload is a condition over columns with these tags.
 pub fn payload_is_valid(tags: &[u8], payload: &[u8]) -> bool
     ensures { result ≡ valid_payload tags.now payload.now }
 {
-    if payload.len() < Payload::HEAD {
+    let [column, kind, operand @ ..] = payload else {
         return false;
-    }
-    let column = fields::number::widen(payload[0]);
-    if tags.len() <= column {
+    };
+    let Some(tag) = tags.get(usize::from(*column)) else {
         return false;
-    }
-    let kind = predicate::kind::plain_kind(payload[1]);
-    if !kind_fits(tags[column], kind) {
-        return false;
-    }
-    operand_fits(kind, &payload[Payload::HEAD..])
+    };
+    let kind = predicate::kind::plain_kind(*kind);
+    kind_fits(*tag, kind) && operand_fits(kind, operand)
 }

@@ -1,18 +1,15 @@
--- The plan: an access put, and the loop over the predicates.
+-- The plan: an access put, of a record that was read.
 use Prim.Native.Nat.{ℕ, ◌+◌, ◌-◌, ◌*◌, ◌≤◌, ◌<◌}
 use native.Mathlib.Omega.{arith}
 use mathlib.Core.Path.{◌≡◌, ◌∙◌}
-use mathlib.Core.WellFounded.InvImage
-use mathlib.Core.WellFounded.{WellFounded}
 use mathlib.Core.Logic.{◌⊎◌, inl, inr}
 use mathlib.Core.List.{List}
 use lib.ListN.{length, get_or, set, length-set}
 use lib.Seq.{get_or-set_same, get_or-set_other}
-use lib.WfN.{lt-wf_rel}
 use Rattle.bools.specs.Bools.{same?}
 use Rattle.records.specs.declared.PredicateRecord.{PredicateRecord}
 use Rattle.query.specs.Format.{predicate_limit}
-use Rattle.plan.specs.Plan.{Access, access_width, plan_size, access_at, access_of, HasColumn, AccessPut, Planned}
+use Rattle.plan.specs.Plan.{Access, access_width, plan_size, access_at, access_of, HasColumn, AccessPut}
 
 -- the five stores of an access
 module _ (P : List ℕ) (c a b k p s : ℕ) (sized : length P ≡ plan_size) (inside : c < predicate_limit) where
@@ -99,17 +96,6 @@ module _ (P : List ℕ) (c a b k p s : ℕ) (sized : length P ≡ plan_size) (in
           go (inl z) = inl (omega (arith, n))
           go (inr z) = inr (omega (arith, z))
 
-pub planned_none : (tags starts : List ℕ) (R : ℕ → PredicateRecord) (P : List ℕ) → Planned tags starts R P 0
-planned_none tags starts R P c l = absurd (omega arith)
-
-pub planned_more : (tags starts : List ℕ) (R : ℕ → PredicateRecord) (P P' : List ℕ) (n : ℕ) → AccessPut n (access_of tags starts (R n)) P P'
-    → Planned tags starts R P n → Planned tags starts R P' (n + 1)
-planned_more tags starts R P P' n p h c l = go (same? c n)
-  where
-    go : (c ≡ n) ⊎ (c ≡ n → ⊥) → access_at P' c ≡ access_of tags starts (R c)
-    go (inl e) = rw (e, p.here)
-    go (inr e) = p.elsewhere c e ∙ h c (omega (arith, e))
-
 -- a record that was read is the predicate's own
 module _ (tags starts : List ℕ) (r r' : PredicateRecord) (e : r ≡ r') where
   pub record_column : HasColumn tags starts r' → HasColumn tags starts r
@@ -117,39 +103,3 @@ module _ (tags starts : List ℕ) (r r' : PredicateRecord) (e : r ≡ r') where
 
   pub record_put : (P P' : List ℕ) (c : ℕ) → AccessPut c (access_of tags starts r) P P' → access_at P' c ≡ access_of tags starts r'
   record_put P P' c p = rw (← e) p.here
-
--- how far the loop over the predicates is: the list has the accesses of the first `count` of n
-pub record Stage (tags starts : List ℕ) (R : ℕ → PredicateRecord) (n : ℕ) : Type 0 where
-  pub count : ℕ
-  pub list : List ℕ
-  pub few : count ≤ n
-  pub sized : length list ≡ plan_size
-  pub planned : Planned tags starts R list count
-
-module _ {tags starts : List ℕ} {R : ℕ → PredicateRecord} {n : ℕ} where
-  abbrev pub begun : (P : List ℕ) → length P ≡ plan_size → Stage tags starts R n
-  begun P sized = record { count = 0; list = P; few = omega arith; sized = sized; planned = planned_none tags starts R P }
-
-  -- one more access is put
-  abbrev pub put_on : (s : Stage tags starts R n) → s.count < n → (P : List ℕ) → length P ≡ length s.list
-      → AccessPut s.count (access_of tags starts (R s.count)) s.list P → Stage tags starts R n
-  put_on s l P e p = record {
-    count = s.count + 1;
-    list = P;
-    few = omega arith;
-    sized = e ∙ s.sized;
-    planned = planned_more tags starts R s.list P s.count p s.planned;
-  }
-
-  pub planned_end : (s : Stage tags starts R n) → n ≤ s.count → Planned tags starts R s.list n
-  planned_end s l c h = s.planned c (omega arith)
-
-  -- the order of the stages: fewer predicates are left
-  abbrev pub Nearer : Stage tags starts R n → Stage tags starts R n → Type 0
-  Nearer s t = n - s.count < n - t.count
-
-  pub nearer_wf : WellFounded Nearer
-  nearer_wf = InvImage.wf (λ (s : Stage tags starts R n). n - s.count) lt-wf_rel.wf
-
-pub nearer : (c n : ℕ) → c < n → n - (c + 1) < n - c
-nearer c n l = omega arith

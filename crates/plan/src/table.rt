@@ -1,4 +1,5 @@
-// The plan of a run: five numbers for each predicate, filled once, so that no block looks up a column.
+// The plan of a run: five numbers for each predicate, filled once, so that no block looks up a column. They lie in one
+// list, since `fill_plan`, `plan_predicate` and `met_of` take `&[usize]`, which their callers may go on handing over.
 ghost use Rattle.std.specs.Prelude.{◌≡◌, ◌≤◌, ◌<◌, length};
 ghost use Rattle.query.specs.Format.{predicate_limit};
 ghost use Rattle.records.specs.Offsets.{HasFields};
@@ -24,10 +25,10 @@ fn put_access(tags: &[u8], starts: &[usize], r: PredicateRecord, c: usize, plan:
     ensures { AccessPut c (access_of tags.now starts.now r) plan.old plan.new }
 {
     let i = Plan::WIDTH * c;
-    let column = fields::number::widen(r.column);
-    plan[i] = fields::number::widen(tags[column]);
+    let column = usize::from(r.column);
+    plan[i] = usize::from(tags[column]);
     plan[i + 1] = starts[column];
-    plan[i + 2] = fields::number::widen(r.kind);
+    plan[i + 2] = usize::from(r.kind);
     plan[i + 3] = r.place;
     plan[i + 4] = r.len;
 }
@@ -60,10 +61,8 @@ fn plan_records(
         × HasColumns tags.now starts.now (record_in table.now) n }
     ensures { Planned tags.now starts.now (record_in table.now) plan.new n }
 {
-    let mut c: usize = 0;
-    while c < n {
+    for c in 0..n {
         put_access(tags, starts, table[c], c, plan);
-        c += 1;
     }
 }
 

@@ -1,6 +1,23 @@
 // The fold table (ISO/IEC 8859-1): entry x is the byte x without its case and its accent. Beside the entry of an
 // accented letter stands the letter's number.
+ghost use Rattle.std.specs.Prelude.{◌≡◌};
+ghost use Rattle.predicate.specs.Meaning.{fold};
 ghost use Rattle.predicate.specs.Outcome.{Folds};
+
+// The fold, by a lent table: the caller takes that of fold_table once.
+#[derive(Clone, Copy)]
+pub struct Fold<'a> {
+    pub table: &'a [u8],
+    ghost folds: { Folds table.now },
+}
+
+impl Fold<'_> {
+    pub fn of(self, x: u8) -> u8
+        ensures { result ≡ fold x }
+    {
+        self.table[usize::from(x)]
+    }
+}
 
 // A table of its own, for the caller to lend: the constant itself would be copied at every use.
 pub fn fold_table() -> [u8; 256]

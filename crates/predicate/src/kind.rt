@@ -1,4 +1,4 @@
-// The kinds of a predicate.
+// The kinds of a predicate. They stay bytes: `text_test`, `outcome_at` and `plain_kind` answer for every byte of the format.
 ghost use Rattle.std.specs.Prelude.{◌≡◌};
 ghost use Rattle.predicate.specs.Kinds.{plain_kind, asks_content};
 
@@ -26,14 +26,15 @@ pub fn plain_kind(kind: u8) -> u8
     ensures { result ≡ plain_kind kind }
 {
     if kind < Kind::OPPOSITE_FROM {
-        return kind;
+        kind
+    } else {
+        kind - Kind::OPPOSITE_FROM
     }
-    kind - Kind::OPPOSITE_FROM
 }
 
 // Whether a kind below the opposites asks what a field holds, and not whether it is blank.
 pub fn asks_content(kind: u8) -> bool
     ensures { result ≡ asks_content kind }
 {
-    kind == Kind::RANGE || Kind::EQUALS <= kind && kind <= Kind::CONTAINS
+    matches!(kind, Kind::RANGE | Kind::EQUALS..=Kind::CONTAINS)
 }

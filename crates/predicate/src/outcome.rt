@@ -2,11 +2,32 @@
 ghost use Rattle.std.specs.Prelude.{◌≡◌};
 ghost use Rattle.predicate.specs.Meaning.{yes_if, opposite, answers_blank};
 
-#[derive(Drop)]
+#[derive(Clone, Copy, PartialEq, Eq, Debug)]
 pub enum Outcome {
     No,
     Yes,
     Blank,
+}
+
+impl Outcome {
+    // A blank is its own opposite.
+    pub fn opposite(self) -> Outcome
+        ensures { result ≡ opposite self }
+    {
+        match self {
+            Outcome::No => Outcome::Yes,
+            Outcome::Yes => Outcome::No,
+            Outcome::Blank => Outcome::Blank,
+        }
+    }
+}
+
+impl From<bool> for Outcome {
+    ghost from_gives = { λ test r. r ≡ yes_if test };
+
+    fn from(test: bool) -> Outcome {
+        if test { Outcome::Yes } else { Outcome::No }
+    }
 }
 
 // Whether a kind below the opposites answers blank, at a field that is blank or not.
@@ -14,20 +35,4 @@ pub fn answers_blank(kind: u8, blank: bool) -> bool
     ensures { result ≡ answers_blank kind blank }
 {
     blank && crate::kind::asks_content(kind)
-}
-
-pub fn yes_if(test: bool) -> Outcome
-    ensures { result ≡ yes_if test }
-{
-    if test { Outcome::Yes } else { Outcome::No }
-}
-
-pub fn opposite_of(a: Outcome) -> Outcome
-    ensures { result ≡ opposite a }
-{
-    match a {
-        Outcome::No => Outcome::Yes,
-        Outcome::Yes => Outcome::No,
-        Outcome::Blank => Outcome::Blank,
-    }
 }

@@ -14,7 +14,7 @@ pub fn withdrawn_line(catalogue: &[u8], mark: usize) -> [u8; Line::SIZE]
     ensures { WithdrawnFor (drop mark catalogue.now) result }
 {
     let mut line = [0u8; Line::SIZE];
-    fields::output::put(&mut line, 0, &catalogue[mark..catalogue.len()]);
+    fields::output::put(&mut line, 0, &catalogue[mark..]);
     line
 }
 

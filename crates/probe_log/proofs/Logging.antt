@@ -1,6 +1,5 @@
 -- The cases of a copy: the input refused, the order refused, or the rows worked and the end of the copy.
-use Prim.Native.Nat.{ℕ, ◌*◌, ◌<◌}
-use native.Mathlib.Omega.{arith}
+use Prim.Native.Nat.{ℕ, ◌*◌}
 use mathlib.Core.Path.{◌≡◌, sym, ◌∙◌}
 use mathlib.Core.Bool.{true, false}
 use mathlib.Core.List.{List}
@@ -14,8 +13,10 @@ use Rattle.input.specs.declared.begin.Beginning.{Beginning}
 use Rattle.task.specs.Input.{decode_input}
 use Rattle.input.specs.Beginning.{HasInput}
 use Rattle.input.proofs.InHand.{input_short, input_accessed}
-use Rattle.answers.specs.declared.word.Answer.{Answer}
-use Rattle.answers.specs.declared.word.Answer.TheVariants.{Refused}
+use Rattle.answers.specs.declared.refusal.Refusal.{Refusal}
+use Rattle.answers.specs.Refusal.{refusal_number}
+use Rattle.answers.specs.Answer.{Answer, Refused}
+use Rattle.answers.proofs.Refusals.{refused_fits}
 use Rattle.answers.specs.Word.{packed, FitsWord}
 use Rattle.answers.specs.Refusals.{not_order}
 use Rattle.answers.specs.Checks.{checked}
@@ -25,10 +26,10 @@ use Rattle.work.specs.Worked.{HasPlan, RunWorked}
 use Rattle.probe_log.specs.Sequence.{log_in_turn}
 use Rattle.finish_log.specs.Finish.{MarksOf, HasMarks, finished_log, LogFinished}
 
-pub log_refused : (b q order output : List ℕ) (k : ℕ) → (decode_input b q ≡ refused k) × (k < 256)
-    → (written (packed (Refused k)) output ≡ log_in_turn b q order output) × FitsWord (Refused k)
+pub log_refused : (b q order output : List ℕ) (e : Refusal) → decode_input b q ≡ refused (refusal_number e)
+    → (written (packed (Refused (refusal_number e))) output ≡ log_in_turn b q order output) × FitsWord (Refused (refusal_number e))
 unfolding log_of
-log_refused b q order output k h = (rw h.0, omega arith)
+log_refused b q order output e h = (rw h, refused_fits e)
 
 module _ {b q : List ℕ} {r : Beginning} {T : Tables} (G : HasInput b q r T) (order : List ℕ) where
   pub log_not_order : (output : List ℕ) → is_order r.n order ≡ false → written (packed (Refused not_order)) output ≡ log_in_turn b q order output

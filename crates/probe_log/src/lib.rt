@@ -2,6 +2,7 @@
 #![tactic(auto)]
 
 ghost use Rattle.std.specs.Prelude.{◌≡◌};
+ghost use Rattle.answers.specs.Answer.{answer_of};
 ghost use Rattle.answers.specs.Word.{packed, FitsWord};
 ghost use Rattle.answers.specs.Written.{written};
 ghost use Rattle.probe_log.specs.Sequence.{log_in_turn};
@@ -15,21 +16,22 @@ use plan::table::Plan;
 use query::format::Predicate;
 
 // The checks, the work, the end.
-pub fn log_question(catalogue: &[u8], question: &[u8], order: &[u8], output: &mut [u8]) -> Answer
-    ensures { (written (packed result) output.new
-        ≡ log_in_turn catalogue.now question.now order.now output.old) × FitsWord result }
+pub fn log_question(
+    catalogue: &[u8],
+    question: &[u8],
+    order: &[u8],
+    output: &mut [u8],
+) -> Result<Answer, Refusal>
+    ensures { (written (packed (answer_of result)) output.new
+        ≡ log_in_turn catalogue.now question.now order.now output.old) × FitsWord (answer_of result) }
 {
     let mut offsets = [0usize; Predicate::LIMIT];
     let mut ancestors = [0u8; Ancestors::TABLE_SIZE];
-    let begun = input::begin::begin(catalogue, question, &mut offsets, &mut ancestors);
-    let refusal = begun.refusal;
-    if refusal != 0 {
-        return Answer::Refused(refusal);
-    }
+    let begun = input::begin::begin(catalogue, question, &mut offsets, &mut ancestors)?;
     let n = begun.n;
     let rows = begun.rows;
-    if !orders::is_order(order, fields::number::narrow(n)) {
-        return Answer::Refused(Refusal::NOT_ORDER);
+    if !orders::is_order(order, n as u8) {
+        return Err(Refusal::NotOrder);
     }
     let mut plan = [0usize; Plan::TABLE_SIZE];
     work::make_plan(question, begun, &offsets, &mut plan);

@@ -8,12 +8,12 @@ use mathlib.Core.Logic.{◌⊎◌, inl, inr}
 use mathlib.Core.List.{List, [], ◌++◌, append-nil}
 use lib.ListN.{length, get_or, length-append}
 use lib.Dec.{eqb}
+use Rattle.std.specs.Prelude.{Option, None, Some, Result, Ok, Err, IfOk}
 use borrow.Author.Tests.{eqb-false, eq-eqb, ne_eqb}
-use Rattle.fields.specs.declared.header.Header.{Header}
-use Rattle.fields.specs.declared.header.Header.TheVariants.{Cut, Field}
+use Rattle.fields.specs.declared.header.Field.{Field}
 use Rattle.fields.specs.Decoded.{Decoded, refused, accepted}
 use Rattle.fields.specs.Numbers.{number_at, bytes_of}
-use Rattle.fields.specs.Header.{header_at, header_size, field_of}
+use Rattle.fields.specs.Header.{header_at, some_field, header_size, field_of}
 use Rattle.fields.proofs.FieldLaws.{HeaderIs, FieldAt, header_is, header_whole, header_cut, field_length, header_read}
 use Rattle.fields.proofs.FrontLaws.{Follows, appended, part_same, header_same, header_farther}
 use Rattle.catalogue.specs.Catalogue.{Catalogue}
@@ -22,6 +22,7 @@ use Rattle.predicate.specs.Payload.{tags_of}
 use Rattle.strategy.specs.Tree.{Tree, Forest}
 use Rattle.query.specs.declared.member.MemberField.{MemberField}
 use Rattle.query.specs.declared.member.MemberField.TheVariants as field
+use Rattle.query.specs.declared.refusal.Refusal.{Refusal}
 use Rattle.query.specs.Format.{member_cut, bytes_after_query}
 use Rattle.query.specs.Query.{Query}
 use Rattle.query.specs.Sound.{SoundField}
@@ -37,18 +38,18 @@ module _ (tags : List ℕ) {q q' : List ℕ} {from : ℕ} (follows : Follows q q
   unfolding payload_at
   payload_front = part_same follows
 
-  field_front : (at end depth : ℕ) (earlier : List Predicate) (h : Header) → from ≤ at → end ≤ length q → HeaderIs q at end h
+  field_front : (at end depth : ℕ) (earlier : List Predicate) (h : Option Field) → from ≤ at → end ≤ length q → HeaderIs q at end h
       → member_field tags q' depth earlier h ≡ member_field tags q depth earlier h
   unfolding member_field predicate_field
-  field_front at end depth earlier Cut f l s = refl
-  field_front at end depth earlier (Field tag start stop) f l s = rw (payload_front start stop (omega (arith, s.begins)) (omega (arith, s.sized)) (omega (arith, s.within)))
+  field_front at end depth earlier None w l s = refl
+  field_front at end depth earlier (Some f) w l s = rw (payload_front f.start f.end (omega (arith, s.begins)) (omega (arith, s.sized)) (omega (arith, s.within)))
 
-  then_front : (at end depth number : ℕ) (m : MemberField) (go far : ℕ → ℕ → Read (Forest ℕ)) → from ≤ at → end ≤ length q → SoundField tags q at end depth number m
+  then_front : (at end depth number : ℕ) (m : Result MemberField Refusal) (go far : ℕ → ℕ → Read (Forest ℕ)) → from ≤ at → end ≤ length q → IfOk m (SoundField tags q at end depth number)
       → ((start stop : ℕ) → start ≡ at + header_size → start < stop → stop ≤ end → far start stop ≡ go start stop)
       → field_then q' number m far ≡ field_then q number m go
-  then_front at end depth number (field.Refused e) go far f l s same = refl
-  then_front at end depth number (field.Leaf start stop) go far f l s same = rw (payload_front start stop (omega arith) (omega arith) (omega arith))
-  then_front at end depth number (field.Group tag start stop) go far f l s same = rw (same start stop s.0 s.1 s.2)
+  then_front at end depth number (Err e) go far f l s same = refl
+  then_front at end depth number (Ok (field.Leaf start stop)) go far f l s same = rw (payload_front start stop (omega arith) (omega arith) (omega arith))
+  then_front at end depth number (Ok (field.Group tag start stop)) go far f l s same = rw (same start stop s.0 s.1 s.2)
 
   more_front : (at end number : ℕ) (o : Read (Tree ℕ)) (rest far : List Predicate → ℕ → Read (Forest ℕ)) → SoundTree tags q at end number o
       → ((ps : List Predicate) (next : ℕ) → at < next → next ≤ end → far ps next ≡ rest ps next) → member_then o far ≡ member_then o rest
@@ -80,7 +81,7 @@ module _ (tags : List ℕ) {q q' : List ℕ} {from : ℕ} (follows : Follows q q
         (λ ps next. members k tags q next end depth (earlier ++ ps)) (λ ps next. members k' tags q' next end depth (earlier ++ ps)) (member_sound k tags q at end depth earlier)
         (λ ps next x y. members_front k k' next end depth (earlier ++ ps) (omega arith) l (omega arith) (omega arith))))
 
-cut_refused : (k : ℕ) (tags q : List ℕ) (at end depth : ℕ) (earlier : List Predicate) → 0 < k → header_at q at end ≡ Cut → member k tags q at end depth earlier ≡ refused member_cut
+cut_refused : (k : ℕ) (tags q : List ℕ) (at end depth : ℕ) (earlier : List Predicate) → 0 < k → header_at q at end ≡ None → member k tags q at end depth earlier ≡ refused member_cut
 unfolding member member_field
 cut_refused zero tags q at end depth earlier l c = absurd (omega arith)
 cut_refused (suc k) tags q at end depth earlier l c = rw c
@@ -107,7 +108,7 @@ pub question_whole : (C : Catalogue) (q : List ℕ) → header_size + number_at 
 unfolding decode_query decode_tagged
 question_whole C q w e h tail =
     let a = length-append q tail in
-    let x : header_at q 0 (length q) ≡ Field (get_or q 0 0) header_size (header_size + number_at q 1 2) = header_whole q 0 (length q) (omega arith) in
+    let x : header_at q 0 (length q) ≡ some_field (get_or q 0 0) header_size (header_size + number_at q 1 2) = header_whole q 0 (length q) (omega arith) in
     let s : FieldAt q 0 (length q) (get_or q 0 0) header_size (header_size + number_at q 1 2) = rw x at (header_is q 0 (length q)) in
     let y : header_at (q ++ tail) 0 (length (q ++ tail)) ≡ header_at q 0 (length q) = header_farther (appended q tail) s (omega arith) (omega arith) (length (q ++ tail)) (omega arith) ∙ sym x in
     rw (member_front (tags_of C) (appended q tail) (2 * length q + 1) (2 * length (q ++ tail) + 1) 0 (length q) (length (q ++ tail)) 0 [] (omega arith) (omega arith) y (omega arith) (omega arith))
@@ -129,13 +130,13 @@ rest_refused tags q e at end number (accepted (t, ps, next)) rest far s same h =
 module _ (tags : List ℕ) {q q' : List ℕ} {from : ℕ} (follows : Follows q q' from) (end far : ℕ) (within : end ≤ length q) (farther : end ≤ far) (e : ℕ) (uncut : e ≡ member_cut → ⊥) where
   module _ (k k' at depth : ℕ) (earlier : List Predicate) (f : from ≤ at) (i : at ≤ end) (l : 2 * (end - at) < k) (l' : 2 * (end - at) < k') (rest rest' : List Predicate → ℕ → Read (Forest ℕ))
       (same : (ps : List Predicate) (next : ℕ) → at < next → next ≤ end → rest ps next ≡ refused e → rest' ps next ≡ refused e) where
-    first_farther : (x : Header) → header_at q at end ≡ x → HeaderIs q at end x
+    first_farther : (x : Option Field) → header_at q at end ≡ x → HeaderIs q at end x
         → member_then (member k tags q at end depth earlier) rest ≡ refused e → member_then (member k' tags q' at far depth earlier) rest' ≡ refused e
-    first_farther Cut c s h =
+    first_farther None c s h =
         let y : ◌≡◌ {A = Read (Forest ℕ)} (refused member_cut) (refused e) = rw (cut_refused k tags q at end depth earlier (omega arith) c) at h in
         let z : e ≡ member_cut = cc in
         absurd (uncut z)
-    first_farther (Field tag start stop) c s h =
+    first_farther (Some f') c s h =
         rw (member_front tags follows k k' at end far depth earlier f within (header_farther follows s f within far farther ∙ sym c) l l')
         (rest_refused tags q e at end (length earlier) (member k tags q at end depth earlier) rest rest' (member_sound k tags q at end depth earlier) same h)
 
@@ -167,7 +168,7 @@ module _ (tags : List ℕ) (j : Bool) (payload : List ℕ) (some : 0 < length pa
   unfolding member
   group_read k s =
       let n = field_length (group_tag j) payload in
-      let h : header_at written 0 (length written) ≡ Field (group_tag j) header_size (header_size + length payload) =
+      let h : header_at written 0 (length written) ≡ some_field (group_tag j) header_size (header_size + length payload) =
       header_read written 0 (group_tag j) payload [] (sym (append-nil written)) (length written) short (omega arith) in
       rw (s, h, group_is tags written j 0 [] header_size (header_size + length payload), ← (group_members 0 (group_tag j) header_size (header_size + length payload) (omega arith) (λ z. omega arith)))
 

@@ -7,6 +7,7 @@ use mathlib.Core.Bool.{Bool, true, false, cond}
 use mathlib.Core.List.{List, [], ◌∷◌, ◌++◌}
 use lib.ListN.{length, take, drop, length-append, length-take, length-drop}
 use lib.Dec.{eqb}
+use Rattle.std.specs.Prelude.{Result, Ok, Err, IfOk}
 use borrow.Author.Tests.{eqb-true}
 use Rattle.fields.specs.Decoded.{refused, accepted}
 use Rattle.fields.specs.Header.{header_at}
@@ -16,6 +17,7 @@ use Rattle.predicate.specs.Payload.{valid_payload, predicate_of, payload_head}
 use Rattle.predicate.proofs.PayloadLaws.{valid_payload_lem}
 use Rattle.query.specs.declared.member.MemberField.{MemberField}
 use Rattle.query.specs.declared.member.MemberField.TheVariants as field
+use Rattle.query.specs.declared.refusal.Refusal.{Refusal}
 use Rattle.query.specs.Format.{predicate_limit, bytes_after_query}
 use Rattle.query.specs.Query.{Query}
 use Rattle.query.specs.Decode.{payload_at, payload_of, member_field, Read, as_group, field_then, member_before, member_then, unless_end, member, members, whole_query, decode_tagged}
@@ -106,11 +108,11 @@ module _ (tags q : List ℕ) where
           each = s.each;
         }
 
-    field_then_sound : (depth : ℕ) (h : MemberField) (go : ℕ → ℕ → Read (Forest ℕ)) → SoundField tags q at end depth number h
+    field_then_sound : (depth : ℕ) (h : Result MemberField Refusal) (go : ℕ → ℕ → Read (Forest ℕ)) → IfOk h (SoundField tags q at end depth number)
         → ((start stop : ℕ) → SoundForest tags q start stop number (go start stop)) → SoundTree tags q at end number (field_then q number h go)
     unfolding size
-    field_then_sound depth (field.Refused e) go s g = tt
-    field_then_sound depth (field.Leaf start stop) go s g = record {
+    field_then_sound depth (Err e) go s g = tt
+    field_then_sound depth (Ok (field.Leaf start stop)) go s g = record {
       past = omega arith;
       inside = s.2;
       some = omega arith;
@@ -120,7 +122,7 @@ module _ (tags q : List ℕ) where
       full = tt;
       each = (leaf_fits start stop s.1 s.4, tt);
     }
-    field_then_sound depth (field.Group tag start stop) go s g =
+    field_then_sound depth (Ok (field.Group tag start stop)) go s g =
         group_sound (go start stop) tag start stop (omega arith) s.1 s.2 (g start stop)
 
     more_sound : (t : Tree ℕ) (ps : List Predicate) (next : ℕ) (o : Read (Forest ℕ)) → TreeSound tags q at end number t ps next

@@ -6,6 +6,7 @@ use mathlib.Core.Bool.{Bool, true, false, cond}
 use mathlib.Core.List.{List, [], ◌++◌}
 use lib.ListN.{length}
 use lib.Dec.{eqb}
+use Rattle.std.specs.Prelude.{Result, Ok, Err, IfOk}
 use Rattle.fields.specs.Decoded.{Decoded, refused, accepted}
 use Rattle.fields.specs.Header.{header_size, header_at}
 use Rattle.catalogue.specs.Catalogue.{Catalogue}
@@ -14,12 +15,26 @@ use Rattle.predicate.specs.Payload.{tags_of}
 use Rattle.strategy.specs.Tree.{Tree, Forest}
 use Rattle.query.specs.declared.member.MemberField.{MemberField}
 use Rattle.query.specs.declared.member.MemberField.TheVariants as field
+use Rattle.query.specs.declared.refusal.Refusal.{Refusal}
+use Rattle.query.specs.declared.refusal.Refusal.TheVariants as refusal
 use Rattle.query.specs.Format.{bytes_after_query}
 use Rattle.query.specs.Query.{Query}
+use Rattle.query.specs.Refusal.{refusal_number}
 use Rattle.query.specs.Sound.{IsRefusal, SoundField}
 use Rattle.query.specs.Decode.{member_field, Read, as_group, field_then, member_before, member_then, unless_end, member, members, whole_query, decode_tagged, decode_query}
 use Rattle.query.proofs.Fields.{field_sound}
 use Rattle.query.proofs.Readings.{SoundTree, member_sound}
+
+-- the number of each is one of those
+pub refusal_number_range : (e : Refusal) → IsRefusal (refusal_number e)
+refusal_number_range refusal.MemberCut = (omega arith, omega arith)
+refusal_number_range refusal.UnknownTag = (omega arith, omega arith)
+refusal_number_range refusal.EmptyGroup = (omega arith, omega arith)
+refusal_number_range refusal.TooDeep = (omega arith, omega arith)
+refusal_number_range refusal.InvalidPayload = (omega arith, omega arith)
+refusal_number_range refusal.TooManyPredicates = (omega arith, omega arith)
+refusal_number_range refusal.RepeatedPayload = (omega arith, omega arith)
+refusal_number_range refusal.BytesAfterQuery = (omega arith, omega arith)
 
 abbrev Stopping : {A : Type 0} → Read A → Type 0
 Stopping (refused e) = IsRefusal e
@@ -30,11 +45,11 @@ module _ (tags q : List ℕ) where
   group_stopping tag (refused e) s = s
   group_stopping tag (accepted (f, ps, next)) s = tt
 
-  field_stopping : (at end depth number : ℕ) (h : MemberField) (go : ℕ → ℕ → Read (Forest ℕ)) → SoundField tags q at end depth number h
+  field_stopping : (at end depth number : ℕ) (h : Result MemberField Refusal) (go : ℕ → ℕ → Read (Forest ℕ)) → IfOk h (SoundField tags q at end depth number)
       → ((start stop : ℕ) → start ≡ at + header_size → start < stop → stop ≤ end → Stopping (go start stop)) → Stopping (field_then q number h go)
-  field_stopping at end depth number (field.Refused e) go s g = s
-  field_stopping at end depth number (field.Leaf start stop) go s g = tt
-  field_stopping at end depth number (field.Group tag start stop) go s g = group_stopping tag (go start stop) (g start stop s.0 s.1 s.2)
+  field_stopping at end depth number (Err e) go s g = refusal_number_range e
+  field_stopping at end depth number (Ok (field.Leaf start stop)) go s g = tt
+  field_stopping at end depth number (Ok (field.Group tag start stop)) go s g = group_stopping tag (go start stop) (g start stop s.0 s.1 s.2)
 
   before_stopping : (t : Tree ℕ) (ps : List Predicate) (o : Read (Forest ℕ)) → Stopping o → Stopping (member_before t ps o)
   before_stopping t ps (refused e) s = s

@@ -7,6 +7,7 @@ use mathlib.Core.Bool.{Bool, true, false, cond}
 use mathlib.Core.List.{List, [], ◌++◌, append_assoc, append-nil}
 use lib.ListN.{length, drop, length-append}
 use lib.Dec.{leb}
+use Rattle.std.specs.Prelude.{Ok, Err}
 use borrow.Author.Tests.{ne_eqb, eq-eqb}
 use Rattle.fields.specs.Decoded.{refused, accepted}
 use Rattle.fields.specs.Header.{header_size, field_of}
@@ -15,7 +16,8 @@ use Rattle.strategy.specs.Tree.{Tree, leaf, group, Forest, none, more, NonEmpty,
 use Rattle.predicate.specs.Meaning.{Predicate}
 use Rattle.predicate.specs.Payload.{valid_payload}
 use Rattle.query.specs.declared.member.MemberField.TheVariants as field
-use Rattle.query.specs.Format.{predicate_tag, predicate_limit, depth_limit, too_deep, invalid_payload, too_many_predicates, repeated_payload}
+use Rattle.query.specs.declared.refusal.Refusal.TheVariants as refusal
+use Rattle.query.specs.Format.{predicate_tag, predicate_limit, depth_limit, too_deep, repeated_payload}
 use Rattle.query.specs.Decode.{payload_at, is_repeated, predicate_field, group_field, member_field, Read, as_group, field_then, member_before, member_then, member, members, whole_query, decode_tagged}
 use Rattle.query.specs.Encode.{group_tag, encode, encodes}
 use Rattle.query.proofs.DecodeLaws.{some_bytes, some_members, group_is}
@@ -31,7 +33,7 @@ module _ (tags q : List ℕ) (number : ℕ) (members-of : ℕ → ℕ → Read (
   predicate_to earlier = go (leb predicate_limit (length earlier)) (valid_payload tags (payload_at q start stop)) (is_repeated (payload_at q start stop) earlier)
     where
       go : (x y z : Bool)
-          → To stop (field_then q number (cond x (field.Refused too_many_predicates) (cond y (cond z (field.Refused repeated_payload) (field.Leaf start stop)) (field.Refused invalid_payload))) members-of)
+          → To stop (field_then q number (cond x (Err refusal.TooManyPredicates) (cond y (cond z (Err refusal.RepeatedPayload) (Ok (field.Leaf start stop))) (Err refusal.InvalidPayload))) members-of)
       go true y z = (omega arith, omega arith)
       go false true true = (omega arith, omega arith)
       go false true false = refl
@@ -45,7 +47,7 @@ module _ (tags q : List ℕ) (number : ℕ) (members-of : ℕ → ℕ → Read (
   unfolding group_field
   group_to depth tag n h = rw (ne_eqb start stop n) (go (leb depth_limit depth))
     where
-      go : (x : Bool) → To stop (field_then q number (cond x (field.Refused too_deep) (field.Group tag start stop)) members-of)
+      go : (x : Bool) → To stop (field_then q number (cond x (Err refusal.TooDeep) (Ok (field.Group tag start stop))) members-of)
       go true = (omega arith, omega arith)
       go false = as_group_to tag (members-of start stop) h
 

@@ -1,7 +1,6 @@
 -- A query's bytes as values; the checks in document 01's order, front to back, the first that fails decides.
-use Rattle.std.specs.Prelude.{ℕ, zero, suc, ◌+◌, ◌-◌, ◌*◌, Bool, true, false, ◌||◌, cond, List, [], ◌∷◌, ◌++◌, length, take, drop, leb, eqb}
-use Rattle.fields.specs.declared.header.Header.{Header}
-use Rattle.fields.specs.declared.header.Header.TheVariants.{Cut, Field}
+use Rattle.std.specs.Prelude.{ℕ, zero, suc, ◌+◌, ◌-◌, ◌*◌, Bool, true, false, ◌||◌, cond, List, [], ◌∷◌, ◌++◌, length, take, drop, leb, eqb, Option, None, Some, Result, Ok, Err}
+use Rattle.fields.specs.declared.header.Field.{Field}
 use Rattle.fields.specs.Decoded.{Decoded, refused, accepted, mapped, and_then}
 use Rattle.fields.specs.Header.{header_at}
 use Rattle.catalogue.specs.Catalogue.{Catalogue}
@@ -10,7 +9,10 @@ use Rattle.predicate.specs.Meaning.{Predicate, same}
 use Rattle.predicate.specs.Payload.{tags_of, valid_payload, predicate_of, payload_head}
 use Rattle.query.specs.declared.member.MemberField.{MemberField}
 use Rattle.query.specs.declared.member.MemberField.TheVariants as field
-use Rattle.query.specs.Format.{conjunction_tag, disjunction_tag, predicate_tag, predicate_limit, depth_limit, member_cut, unknown_tag, empty_group, too_deep, invalid_payload, too_many_predicates, repeated_payload, bytes_after_query}
+use Rattle.query.specs.declared.refusal.Refusal.{Refusal}
+use Rattle.query.specs.declared.refusal.Refusal.TheVariants as refusal
+use Rattle.query.specs.Refusal.{refusal_number}
+use Rattle.query.specs.Format.{conjunction_tag, disjunction_tag, predicate_tag, predicate_limit, depth_limit, bytes_after_query}
 use Rattle.query.specs.Query.{Query}
 
 -- the bytes of a payload
@@ -26,24 +28,24 @@ is_repeated payload [] = false
 is_repeated payload (p ∷ ps) = same payload (payload_of p) || is_repeated payload ps
 
 -- "Condition: 12, .. 11, .. 13, .."
-unfoldable pub predicate_field : (tags q : List ℕ) → (earlier : List Predicate) → (start end : ℕ) → MemberField
+unfoldable pub predicate_field : (tags q : List ℕ) → (earlier : List Predicate) → (start end : ℕ) → Result MemberField Refusal
 predicate_field tags q earlier start end =
-    cond (leb predicate_limit (length earlier)) (field.Refused too_many_predicates)
+    cond (leb predicate_limit (length earlier)) (Err refusal.TooManyPredicates)
     (cond (valid_payload tags (payload_at q start end))
-    (cond (is_repeated (payload_at q start end) earlier) (field.Refused repeated_payload) (field.Leaf start end))
-    (field.Refused invalid_payload))
+    (cond (is_repeated (payload_at q start end) earlier) (Err refusal.RepeatedPayload) (Ok (field.Leaf start end)))
+    (Err refusal.InvalidPayload))
 
 -- "Group: 10, deeper than 8; 9, empty"; `depth` groups enclose it
-unfoldable pub group_field : (depth tag start end : ℕ) → MemberField
+unfoldable pub group_field : (depth tag start end : ℕ) → Result MemberField Refusal
 group_field depth tag start end =
-    cond (leb depth_limit depth) (field.Refused too_deep) (cond (eqb start end) (field.Refused empty_group) (field.Group tag start end))
+    cond (leb depth_limit depth) (Err refusal.TooDeep) (cond (eqb start end) (Err refusal.EmptyGroup) (Ok (field.Group tag start end)))
 
 -- "At each field: 7, .. 8, .."
-unfoldable pub member_field : (tags q : List ℕ) → (depth : ℕ) → (earlier : List Predicate) → Header → MemberField
-member_field tags q depth earlier Cut = field.Refused member_cut
-member_field tags q depth earlier (Field tag start end) =
-    cond (eqb tag predicate_tag) (predicate_field tags q earlier start end)
-    (cond (eqb tag conjunction_tag || eqb tag disjunction_tag) (group_field depth tag start end) (field.Refused unknown_tag))
+unfoldable pub member_field : (tags q : List ℕ) → (depth : ℕ) → (earlier : List Predicate) → Option Field → Result MemberField Refusal
+member_field tags q depth earlier None = Err refusal.MemberCut
+member_field tags q depth earlier (Some f) =
+    cond (eqb f.tag predicate_tag) (predicate_field tags q earlier f.start f.end)
+    (cond (eqb f.tag conjunction_tag || eqb f.tag disjunction_tag) (group_field depth f.tag f.start f.end) (Err refusal.UnknownTag))
 
 -- what a reading gives: a value, the predicates read and the place after them
 abbrev pub Read : Type 0 → Type 0
@@ -57,10 +59,10 @@ abbrev pub as_group : (tag : ℕ) → Read (Forest ℕ) → Read (Tree ℕ)
 as_group tag r = mapped (λ (f, ps, next). (group (settling_of tag) f, ps, next)) r
 
 -- a member, from its field; its number is how many predicates stand before it
-abbrev pub field_then : (q : List ℕ) → (number : ℕ) → MemberField → (ℕ → ℕ → Read (Forest ℕ)) → Read (Tree ℕ)
-field_then q number (field.Refused e) members = refused e
-field_then q number (field.Leaf start end) members = accepted (leaf number, predicate_of (start + payload_head) (payload_at q start end) ∷ [], end)
-field_then q number (field.Group tag start end) members = as_group tag (members start end)
+abbrev pub field_then : (q : List ℕ) → (number : ℕ) → Result MemberField Refusal → (ℕ → ℕ → Read (Forest ℕ)) → Read (Tree ℕ)
+field_then q number (Err e) members = refused (refusal_number e)
+field_then q number (Ok (field.Leaf start end)) members = accepted (leaf number, predicate_of (start + payload_head) (payload_at q start end) ∷ [], end)
+field_then q number (Ok (field.Group tag start end)) members = as_group tag (members start end)
 
 abbrev pub member_before : Tree ℕ → List Predicate → Read (Forest ℕ) → Read (Forest ℕ)
 member_before t ps r = mapped (λ (f, rest, next). (more t f, ps ++ rest, next)) r

@@ -13,31 +13,10 @@ impl Predicate {
 pub struct Group;
 
 impl Group {
+    // A group's kind stays its byte: `close_group` puts it into the lent table of ancestors, from which `propagate_rows` reads it.
     pub const CONJUNCTION_TAG: u8 = 65;
 
     pub const DISJUNCTION_TAG: u8 = 79;
 
     pub const DEPTH_LIMIT: usize = 8;
-}
-
-// Document 01's refusals 7 to 14.
-#[derive(Drop)]
-pub struct Refusal;
-
-impl Refusal {
-    pub const MEMBER_CUT: u8 = 7;
-
-    pub const UNKNOWN_TAG: u8 = 8;
-
-    pub const EMPTY_GROUP: u8 = 9;
-
-    pub const TOO_DEEP: u8 = 10;
-
-    pub const INVALID_PAYLOAD: u8 = 11;
-
-    pub const TOO_MANY_PREDICATES: u8 = 12;
-
-    pub const REPEATED_PAYLOAD: u8 = 13;
-
-    pub const BYTES_AFTER_QUERY: u8 = 14;
 }

@@ -2,9 +2,8 @@
 
 // What stands where a member is expected, every check of it done but those of its own members; the payload is the
 // bytes from start up to end.
-#[derive(Drop)]
+#[derive(Clone, Copy)]
 pub enum MemberField {
-    Refused(u8),
     Leaf { start: usize, end: usize },
     Group { tag: u8, start: usize, end: usize },
 }

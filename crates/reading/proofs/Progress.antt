@@ -8,6 +8,7 @@ use mathlib.Core.Bool.{true, false, cond}
 use mathlib.Core.List.{List, [], ◌∷◌, ◌++◌, append_assoc, append-nil}
 use lib.ListN.{length, set, length-append}
 use lib.Dec.{ltb}
+use Rattle.std.specs.Prelude.{Result, Ok, Err}
 use Rattle.fields.specs.Decoded.{refused, accepted}
 use Rattle.fields.specs.Header.{header_at, header_size, field_end}
 use Rattle.fields.proofs.Tests.{tests}
@@ -19,14 +20,14 @@ use Rattle.predicate.specs.Payload.{predicate_of, payload_head}
 use Rattle.query.specs.declared.member.MemberField.{MemberField}
 use Rattle.query.specs.declared.member.MemberField.TheVariants as field
 use Rattle.reading.specs.declared.member.Progress.{Progress}
-use Rattle.reading.specs.declared.member.Progress.TheVariants.{Refused, Next}
+use Rattle.query.specs.declared.refusal.Refusal.{Refusal}
 use Rattle.query.specs.Format.{predicate_limit, depth_limit, depth_of}
 use Rattle.query.specs.Decode.{payload_at, member_field, Read, settling_of, as_group, member_before, member_then, member, members}
 use Rattle.records.specs.Offsets.{HasPayload}
 use Rattle.records.specs.Table.{predicates_at}
 use Rattle.reading.specs.Tables.{Tables, tables}
 use Rattle.ancestors.specs.Ancestors.{ancestors_width, ancestors_size, height_at, ancestor_over, ancestors_of, Low, Under, SameHeights, Spans, Closed}
-use Rattle.reading.specs.MemberRead.{AncestorsGained, Reported, MemberReported, MembersReported, MemberRead, MembersRead, StaysWithin, Readable}
+use Rattle.reading.specs.MemberRead.{progress, AncestorsGained, Reported, MemberReported, MembersReported, MemberRead, MembersRead, StaysWithin, Readable}
 use Rattle.records.proofs.Records.{predicates_put, payload_put, record_shows}
 use Rattle.ancestors.proofs.AncestorLaws.{fresh_height, fresh_kept, fresh_none, fresh_old, fresh_low, fresh_spans}
 use Rattle.query.proofs.Readings.{SoundTree, SoundForest, member_sound, members_sound}
@@ -74,7 +75,7 @@ gained_leaf os os' A n d h l = record {
 -- answers
 
 module _ (q : List ℕ) (n : ℕ) (T T1 T2 : Tables) where
-  put_reported : (o : Read (Forest ℕ)) (t : Tree ℕ) (ps : List Predicate) (r : Progress) → size t ≡ length ps
+  put_reported : (o : Read (Forest ℕ)) (t : Tree ℕ) (ps : List Predicate) (r : Result Progress Refusal) → size t ≡ length ps
       → predicates_at q T1.offsets (n + length ps) ≡ predicates_at q T.offsets n ++ ps → AncestorsGained n (length ps) (enclosing t n) T T1
       → Reported q enclosing_in (n + length ps) o r T1 T2 → Reported q enclosing_in n (member_before t ps o) r T T2
   put_reported (refused e) t ps r s a A b = b
@@ -84,28 +85,28 @@ module _ (q : List ℕ) (n : ℕ) (T T1 T2 : Tables) where
     ancestors = simp length-append (gained_more n (length ps) (length rest) t f T T1 T2 s A b.ancestors);
   }
 
-  then_reported : (tags : List ℕ) (at end number : ℕ) (o : Read (Tree ℕ)) (p m : ℕ) (r : Progress) (go : List Predicate → ℕ → Read (Forest ℕ))
-      → SoundTree tags q at end number o → Reported q enclosing n o (Next p m) T T1
+  then_reported : (tags : List ℕ) (at end number : ℕ) (o : Read (Tree ℕ)) (p m : ℕ) (r : Result Progress Refusal) (go : List Predicate → ℕ → Read (Forest ℕ))
+      → SoundTree tags q at end number o → Reported q enclosing n o (progress p m) T T1
       → Reported q enclosing_in m (go (predicates_at q T1.offsets m) p) r T1 T2 → Reported q enclosing_in n (member_then o (λ ps next. go (predicates_at q T.offsets n ++ ps) next)) r T T2
-  then_reported tags at end number (refused e) p m r go s h l = let z : ◌≡◌ {A = ℕ} 0 1 = cc in absurd (omega arith)
+  then_reported tags at end number (refused e) p m r go s h l = absurd h
   then_reported tags at end number (accepted (t, ps, next)) p m r go s h l =
-      let z : p ≡ next = cc in
-      let y : m ≡ n + length ps = cc in
+      let z : p ≡ next = h.answer.0 in
+      let y : m ≡ n + length ps = h.answer.1 in
       put_reported (go (predicates_at q T.offsets n ++ ps) next) t ps r s.counted h.shown h.ancestors (rw (z, y, h.shown) at l)
 
-  then_refused : (o : Read (Tree ℕ)) (e : ℕ) (go : List Predicate → ℕ → Read (Forest ℕ)) → Reported q enclosing n o (Refused e) T T1 → Reported q enclosing_in n (member_then o go) (Refused e) T T1
+  then_refused : (o : Read (Tree ℕ)) (e : Refusal) (go : List Predicate → ℕ → Read (Forest ℕ)) → Reported q enclosing n o (Err e) T T1 → Reported q enclosing_in n (member_then o go) (Err e) T T1
   then_refused (refused x) e go h = h
-  then_refused (accepted (t, ps, next)) e go h = let z : ◌≡◌ {A = ℕ} 0 1 = cc in absurd (omega arith)
+  then_refused (accepted (t, ps, next)) e go h = absurd h.answer
 
-  group_refused : (o : Read (Forest ℕ)) (tag e : ℕ) → Reported q enclosing_in n o (Refused e) T T1 → Reported q enclosing n (as_group tag o) (Refused e) T T2
+  group_refused : (o : Read (Forest ℕ)) (tag : ℕ) (e : Refusal) → Reported q enclosing_in n o (Err e) T T1 → Reported q enclosing n (as_group tag o) (Err e) T T2
   group_refused (refused x) tag e h = h
-  group_refused (accepted (f, ps, next)) tag e h = let z : ◌≡◌ {A = ℕ} 0 1 = cc in absurd (omega arith)
+  group_refused (accepted (f, ps, next)) tag e h = absurd h.answer
 
-  group_reported : (tags : List ℕ) (at end number : ℕ) (o : Read (Forest ℕ)) (tag p m : ℕ) → SoundForest tags q at end number o → Reported q enclosing_in n o (Next p m) T T1
-      → T2.offsets ≡ T1.offsets → Closed n m m tag T1.ancestors T2.ancestors → Reported q enclosing n (as_group tag o) (Next p m) T T2
-  group_reported tags at end number (refused x) tag p m s h a C = let z : ◌≡◌ {A = ℕ} 0 1 = cc in absurd (omega arith)
+  group_reported : (tags : List ℕ) (at end number : ℕ) (o : Read (Forest ℕ)) (tag p m : ℕ) → SoundForest tags q at end number o → Reported q enclosing_in n o (progress p m) T T1
+      → T2.offsets ≡ T1.offsets → Closed n m m tag T1.ancestors T2.ancestors → Reported q enclosing n (as_group tag o) (progress p m) T T2
+  group_reported tags at end number (refused x) tag p m s h a C = absurd h
   group_reported tags at end number (accepted (f, ps, next)) tag p m s h a C =
-      let y : m ≡ n + length ps = cc in
+      let y : m ≡ n + length ps = h.answer.1 in
       record {
         answer = h.answer;
         shown = rw a h.shown;
@@ -115,19 +116,19 @@ module _ (q : List ℕ) (n : ℕ) (T T1 T2 : Tables) where
 -- the paths of `read_group`
 
 module _ (tags q : List ℕ) (at end depth n : ℕ) (T T1 : Tables) where
-  pub members_end : at ≡ end → MembersReported tags q at end depth n (Next at n) T T
+  pub members_end : at ≡ end → MembersReported tags q at end depth n (progress at n) T T
   unfolding members
   members_end e zero l = absurd (omega arith)
-  members_end e (suc k) l = simp tests (record { answer = simp add-zero; shown = simp (add-zero, append-nil); ancestors = gained_none n T })
+  members_end e (suc k) l = simp tests (record { answer = (refl, simp add-zero); shown = simp (add-zero, append-nil); ancestors = gained_none n T })
 
-  pub members_refused : (e : ℕ) → (at ≡ end → ⊥) → MemberReported tags q at end depth n (Refused e) T T1 → MembersReported tags q at end depth n (Refused e) T T1
+  pub members_refused : (e : Refusal) → (at ≡ end → ⊥) → MemberReported tags q at end depth n (Err e) T T1 → MembersReported tags q at end depth n (Err e) T T1
   unfolding members
   members_refused e ne h zero l = absurd (omega arith)
   members_refused e ne h (suc k) l =
       simp tests (then_refused q n T T1 T1 (member k tags q at end depth (predicates_at q T.offsets n)) e
       (λ ps next. members k tags q next end depth (predicates_at q T.offsets n ++ ps)) (h k (omega arith)))
 
-  pub members_more : (p m : ℕ) (r : Progress) (T2 : Tables) → (at ≡ end → ⊥) → at < p → p ≤ end → MemberReported tags q at end depth n (Next p m) T T1
+  pub members_more : (p m : ℕ) (r : Result Progress Refusal) (T2 : Tables) → (at ≡ end → ⊥) → at < p → p ≤ end → MemberReported tags q at end depth n (progress p m) T T1
       → MembersReported tags q p end depth m r T1 T2 → MembersReported tags q at end depth n r T T2
   unfolding members
   members_more p m r T2 ne b e h g zero l = absurd (omega arith)
@@ -137,22 +138,22 @@ module _ (tags q : List ℕ) (at end depth n : ℕ) (T T1 : Tables) where
 
   -- the paths of `read_member`
 
-  module _ (f : MemberField) (f-is : f ≡ member_field tags q depth (predicates_at q T.offsets n) (header_at q at end)) where
-    pub member_refused : (e : ℕ) → f ≡ field.Refused e → MemberReported tags q at end depth n (Refused e) T T1
+  module _ (f : Result MemberField Refusal) (f-is : f ≡ member_field tags q depth (predicates_at q T.offsets n) (header_at q at end)) where
+    pub member_refused : (e : Refusal) → f ≡ Err e → MemberReported tags q at end depth n (Err e) T T1
     unfolding member
     member_refused e j zero l = absurd (omega arith)
     member_refused e j (suc k) l = simp (← f-is, j)
 
-    module _ (tag start stop : ℕ) (is-group : f ≡ field.Group tag start stop) (after : start ≡ at + header_size) (order : start < stop) (within : stop ≤ end)
+    module _ (tag start stop : ℕ) (is-group : f ≡ Ok (field.Group tag start stop)) (after : start ≡ at + header_size) (order : start < stop) (within : stop ≤ end)
         (inner : ℕ) (deeper : inner ≡ depth + 1) where
-      pub member_group_refused : (e : ℕ) → MembersReported tags q start stop inner n (Refused e) T T1 → MemberReported tags q at end depth n (Refused e) T T1
+      pub member_group_refused : (e : Refusal) → MembersReported tags q start stop inner n (Err e) T T1 → MemberReported tags q at end depth n (Err e) T T1
       unfolding member
       member_group_refused e g zero l = absurd (omega arith)
       member_group_refused e g (suc k) l =
           simp (← f-is, is-group) (group_refused q n T T1 T1 (members k tags q start stop (depth + 1) (predicates_at q T.offsets n)) tag e (rw deeper at (g k (omega arith))))
 
-      pub member_group : (p m : ℕ) (T2 : Tables) → MembersReported tags q start stop inner n (Next p m) T T1 → T2.offsets ≡ T1.offsets
-          → Closed n m m tag T1.ancestors T2.ancestors → MemberReported tags q at end depth n (Next p m) T T2
+      pub member_group : (p m : ℕ) (T2 : Tables) → MembersReported tags q start stop inner n (progress p m) T T1 → T2.offsets ≡ T1.offsets
+          → Closed n m m tag T1.ancestors T2.ancestors → MemberReported tags q at end depth n (progress p m) T T2
       unfolding member
       member_group p m T2 g c C zero l = absurd (omega arith)
       member_group p m T2 g c C (suc k) l =
@@ -165,19 +166,19 @@ module _ (tags q : List ℕ) (at end depth n : ℕ) (os A : List ℕ) (start sto
   leaf_predicates =
       rw (begins, ends) (predicates_put q os n at free ∙ ap (λ p. predicates_at q os n ++ (p ∷ [])) (record_shows q (at + header_size) (field_end q at) (omega arith)))
 
-  pub member_leaf : (f : MemberField) → f ≡ member_field tags q depth (predicates_at q os n) (header_at q at end) → f ≡ field.Leaf start stop
-      → MemberReported tags q at end depth n (Next stop (n + 1)) (tables os A) (tables (set os n at) (set A (ancestors_width * n) 0))
+  pub member_leaf : (f : Result MemberField Refusal) → f ≡ member_field tags q depth (predicates_at q os n) (header_at q at end) → f ≡ Ok (field.Leaf start stop)
+      → MemberReported tags q at end depth n (progress stop (n + 1)) (tables os A) (tables (set os n at) (set A (ancestors_width * n) 0))
   unfolding member
   member_leaf f i j zero l = absurd (omega arith)
   member_leaf f i j (suc k) l =
       simp (← i, j) (record {
-        answer = refl;
+        answer = (refl, refl);
         shown = leaf_predicates;
         ancestors = gained_leaf os (set os n at) A n (length (predicates_at q os n)) line low;
       })
 
   pub leaf_within : stop ≤ end → end ≤ length q → n < predicate_limit → depth ≤ depth_limit → ((c : ℕ) → c < n → HasPayload q os c) → Spans n A
-      → StaysWithin (at + header_size) end depth n q (Next stop (n + 1)) (tables os A) (tables (set os n at) (set A (ancestors_width * n) 0))
+      → StaysWithin (at + header_size) end depth n q (progress stop (n + 1)) (tables os A) (tables (set os n at) (set A (ancestors_width * n) 0))
   leaf_within b e c d p s = record {
     past = omega arith;
     inside = b;
@@ -193,8 +194,8 @@ module _ (tags q : List ℕ) (at end depth n : ℕ) (os A : List ℕ) (start sto
 -- bounds
 
 pub group_within : (q : List ℕ) (at end depth inner n start stop p m tag : ℕ) (T0 : Tables) (os A A' : List ℕ) → start ≡ at + header_size → stop ≤ end
-    → inner ≡ depth + 1 → StaysWithin start stop inner n q (Next p m) T0 (tables os A) → Closed n m m tag A A'
-    → StaysWithin (at + header_size) end depth n q (Next p m) T0 (tables os A')
+    → inner ≡ depth + 1 → StaysWithin start stop inner n q (progress p m) T0 (tables os A) → Closed n m m tag A A'
+    → StaysWithin (at + header_size) end depth n q (progress p m) T0 (tables os A')
 group_within q at end depth inner n start stop p m tag T0 os A A' a b deeper w C = record {
   past = omega (arith, w.past);
   inside = omega (arith, w.inside);
@@ -221,7 +222,7 @@ pub record InGroup (tags q : List ℕ) (at end allowed n p m : ℕ) (T0 T : Tabl
   pub room : Readable p end allowed m q T
   pub under : Under n m (depth_of allowed) T.ancestors
   pub kept : SameHeights n T0.ancestors T.ancestors
-  pub rest : (r : Progress) (T' : Tables) → MembersReported tags q p end (depth_of allowed) m r T T' → MembersReported tags q at end (depth_of allowed) n r T0 T'
+  pub rest : (r : Result Progress Refusal) (T' : Tables) → MembersReported tags q p end (depth_of allowed) m r T T' → MembersReported tags q at end (depth_of allowed) n r T0 T'
 
 pub in_group_none : (tags q : List ℕ) (at end allowed n : ℕ) (T : Tables) → Readable at end allowed n q T → InGroup tags q at end allowed n at n T T
 in_group_none tags q at end allowed n T R = record {
@@ -234,7 +235,7 @@ in_group_none tags q at end allowed n T R = record {
 }
 
 module _ (tags q : List ℕ) (at end allowed n p m : ℕ) (T0 T : Tables) (G : InGroup tags q at end allowed n p m T0 T) where
-  pub in_group_end : end ≤ p → MembersRead tags q at end (depth_of allowed) n (Next p m) T0 T
+  pub in_group_end : end ≤ p → MembersRead tags q at end (depth_of allowed) n (progress p m) T0 T
   in_group_end l =
       let z : p ≡ end = omega (arith, G.room.order) in
       record {
@@ -249,17 +250,17 @@ module _ (tags q : List ℕ) (at end allowed n p m : ℕ) (T0 T : Tables) (G : I
           kept = G.kept;
           spans = G.room.spans;
         };
-        exact = G.rest (Next p m) T (members_end tags q p end (depth_of allowed) m T T z);
+        exact = G.rest (progress p m) T (members_end tags q p end (depth_of allowed) m T T z);
       }
 
   module _ (T1 : Tables) (left : p < end) where
-    pub in_group_refused : (e : ℕ) → MemberRead tags q p end (depth_of allowed) m (Refused e) T T1 → MembersRead tags q at end (depth_of allowed) n (Refused e) T0 T1
+    pub in_group_refused : (e : Refusal) → MemberRead tags q p end (depth_of allowed) m (Err e) T T1 → MembersRead tags q at end (depth_of allowed) n (Err e) T0 T1
     in_group_refused e h = record {
       within = h.within;
-      exact = G.rest (Refused e) T1 (members_refused tags q p end (depth_of allowed) m T T1 e (λ z. omega arith) h.exact);
+      exact = G.rest (Err e) T1 (members_refused tags q p end (depth_of allowed) m T T1 e (λ z. omega arith) h.exact);
     }
 
-    pub in_group_more : (next k : ℕ) → MemberRead tags q p end (depth_of allowed) m (Next next k) T T1
+    pub in_group_more : (next k : ℕ) → MemberRead tags q p end (depth_of allowed) m (progress next k) T T1
         → length T1.offsets ≡ predicate_limit → length T1.ancestors ≡ ancestors_size → InGroup tags q at end allowed n next k T0 T1
     in_group_more next k h s l =
         let w = h.within in

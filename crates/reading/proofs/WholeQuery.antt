@@ -1,11 +1,12 @@
 -- The whole query: the reading's answer and tables are handed on as `decode_tagged` says.
 use Prim.Native.Nat.{ℕ, ◌+◌, ◌-◌, ◌*◌, ◌≤◌, ◌<◌}
 use native.Mathlib.Omega.{arith}
-use mathlib.Core.Path.{◌≡◌, refl, ap, subst}
+use mathlib.Core.Path.{◌≡◌, refl, sym, ap, subst}
 use mathlib.Core.Bool.{Bool, true, false, ◌&&◌, cond}
 use mathlib.Core.List.{List, []}
 use lib.ListN.{length}
 use lib.Dec.{ltb, leb, eqb}
+use Rattle.std.specs.Prelude.{Ok, Err}
 use borrow.Author.Tests.{eq-eqb, ne_eqb, leb-true, ltb-true}
 use Rattle.fields.specs.Decoded.{refused, accepted}
 use Rattle.strategy.specs.Tree.{Tree}
@@ -15,16 +16,16 @@ use Rattle.predicate.specs.Meaning.{Predicate}
 use Rattle.predicate.specs.Payload.{kind_fits}
 use Rattle.bools.specs.Bools.{and_left}
 use Rattle.predicate.proofs.PayloadLaws.{valid_payload_lem}
-use Rattle.reading.specs.declared.member.Progress.TheVariants as progress
-use Rattle.reading.specs.declared.whole.Reading.TheVariants.{Refused, Accepted}
-use Rattle.query.specs.Format.{bytes_after_query}
+use Rattle.query.specs.declared.refusal.Refusal.{Refusal}
+use Rattle.query.specs.declared.refusal.Refusal.TheVariants.{BytesAfterQuery}
 use Rattle.query.specs.Decode.{payload_of, Read, member, whole_query, decode_tagged}
 use Rattle.records.specs.Table.{record_at, predicate_in, predicates_at}
 use Rattle.reading.specs.Tables.{Tables, HasTables}
-use Rattle.reading.specs.MemberRead.{Reported, MemberRead}
+use Rattle.reading.specs.MemberRead.{progress, Reported, MemberRead}
 use Rattle.reading.specs.QueryRead.{Recorded, QueryRead}
 use Rattle.query.proofs.Readings.{Fits, Each, SoundTree, member_sound}
 use Rattle.query.proofs.Accepted.{each_at}
+use Rattle.query.proofs.Refusals.{refusal_number_range}
 use Rattle.records.proofs.Records.{predicates_length, predicates_at_lem}
 
 -- a valid payload's kind is at most 133
@@ -57,37 +58,37 @@ module _ (tags q : List ℕ) (T T1 : Tables) where
   unfolding predicates_at
   reported r h = h.exact (2 * length q + 1) (omega arith)
 
-  pub whole_refused : (e : ℕ) → MemberRead tags q 0 (length q) 0 0 (progress.Refused e) T T1 → QueryRead tags q (decode_tagged tags q) (Refused e) T1
+  pub whole_refused : (e : Refusal) → MemberRead tags q 0 (length q) 0 0 (Err e) T T1 → QueryRead tags q (decode_tagged tags q) (Err e) T1
   unfolding decode_tagged
-  whole_refused e h = go (member (2 * length q + 1) tags q 0 (length q) 0 []) (reported (progress.Refused e) h)
+  whole_refused e h = go (member (2 * length q + 1) tags q 0 (length q) 0 []) (reported (Err e) h)
     where
-      go : (o : Read (Tree ℕ)) → Reported q enclosing 0 o (progress.Refused e) T T1 → QueryRead tags q (whole_query q o) (Refused e) T1
-      go (refused x) t = let z : e ≡ x = cc in (ap Refused z, rw z at h.within)
-      go (accepted (t, ps, next)) d = let z : ◌≡◌ {A = ℕ} 0 1 = cc in absurd (omega arith)
+      go : (o : Read (Tree ℕ)) → Reported q enclosing 0 o (Err e) T T1 → QueryRead tags q (whole_query q o) (Err e) T1
+      go (refused x) t = (t, rw t at (refusal_number_range e))
+      go (accepted (t, ps, next)) d = absurd d.answer
 
-  pub whole_left : (p m : ℕ) → MemberRead tags q 0 (length q) 0 0 (progress.Next p m) T T1 → (p ≡ length q → ⊥) → QueryRead tags q (decode_tagged tags q) (Refused bytes_after_query) T1
+  pub whole_left : (p m : ℕ) → MemberRead tags q 0 (length q) 0 0 (progress p m) T T1 → (p ≡ length q → ⊥) → QueryRead tags q (decode_tagged tags q) (Err BytesAfterQuery) T1
   unfolding decode_tagged
-  whole_left p m h n = go (member (2 * length q + 1) tags q 0 (length q) 0 []) (reported (progress.Next p m) h)
+  whole_left p m h n = go (member (2 * length q + 1) tags q 0 (length q) 0 []) (reported (progress p m) h)
     where
-      go : (o : Read (Tree ℕ)) → Reported q enclosing 0 o (progress.Next p m) T T1 → QueryRead tags q (whole_query q o) (Refused bytes_after_query) T1
-      go (refused x) t = let z : ◌≡◌ {A = ℕ} 0 1 = cc in absurd (omega arith)
-      go (accepted (t, ps, next)) d = let z : next ≡ p = cc in rw (z, ne_eqb _ _ n) (refl, (omega arith, omega arith))
+      go : (o : Read (Tree ℕ)) → Reported q enclosing 0 o (progress p m) T T1 → QueryRead tags q (whole_query q o) (Err BytesAfterQuery) T1
+      go (refused x) t = absurd t
+      go (accepted (t, ps, next)) d = let z : next ≡ p = sym d.answer.0 in rw (z, ne_eqb _ _ n) (refl, (omega arith, omega arith))
 
-  pub whole_accepted : (p m : ℕ) → MemberRead tags q 0 (length q) 0 0 (progress.Next p m) T T1 → p ≡ length q → HasTables T1
-      → QueryRead tags q (decode_tagged tags q) (Accepted m) T1
+  pub whole_accepted : (p m : ℕ) → MemberRead tags q 0 (length q) 0 0 (progress p m) T T1 → p ≡ length q → HasTables T1
+      → QueryRead tags q (decode_tagged tags q) (Ok m) T1
   unfolding decode_tagged predicates_at
   whole_accepted p m h e s =
-      go (member (2 * length q + 1) tags q 0 (length q) 0 []) (reported (progress.Next p m) h) (member_sound (2 * length q + 1) tags q 0 (length q) 0 [])
+      go (member (2 * length q + 1) tags q 0 (length q) 0 []) (reported (progress p m) h) (member_sound (2 * length q + 1) tags q 0 (length q) 0 [])
     where
-      go : (o : Read (Tree ℕ)) → Reported q enclosing 0 o (progress.Next p m) T T1 → SoundTree tags q 0 (length q) 0 o → QueryRead tags q (whole_query q o) (Accepted m) T1
-      go (refused x) t k = let z : ◌≡◌ {A = ℕ} 0 1 = cc in absurd (omega arith)
+      go : (o : Read (Tree ℕ)) → Reported q enclosing 0 o (progress p m) T T1 → SoundTree tags q 0 (length q) 0 o → QueryRead tags q (whole_query q o) (Ok m) T1
+      go (refused x) t k = absurd t
       go (accepted (t, ps, next)) d k =
-          let z : next ≡ p = cc in
-          let y : m ≡ length ps = (let w : m ≡ 0 + length ps = cc in omega arith) in
+          let z : next ≡ p = sym d.answer.0 in
+          let y : m ≡ length ps = (let w : m ≡ 0 + length ps = d.answer.1 in omega arith) in
           let l : predicates_at q T1.offsets (length ps) ≡ ps = (let w : 0 + length ps ≡ length ps = omega arith in rw w at d.shown) in
           let few = k.few (omega arith) in
           rw (z, eq-eqb _ _ e) (
-            ap Accepted y,
+            ap Ok y,
             record {
               some = k.some;
               few = omega arith;

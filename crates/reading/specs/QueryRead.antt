@@ -1,17 +1,17 @@
 -- What a reading hands on: all that a caller needs of the engine's tables, and no fact about bytes.
-use Rattle.std.specs.Prelude.{ℕ, ◌≤◌, ◌<◌, ◌≡◌, true, List, length}
+use Rattle.std.specs.Prelude.{ℕ, ◌≤◌, ◌<◌, ◌≡◌, true, List, length, Result, Ok}
 use Rattle.fields.specs.Decoded.{Decoded, refused, accepted}
 use Rattle.strategy.specs.Tree.{size, Numbered, NonEmpty}
 use Rattle.strategy.specs.Propagation.{enclosing}
 use Rattle.predicate.specs.Payload.{valid_payload}
-use Rattle.reading.specs.declared.whole.Reading.{Reading}
-use Rattle.reading.specs.declared.whole.Reading.TheVariants.{Refused, Accepted}
+use Rattle.query.specs.declared.refusal.Refusal.{Refusal}
 use Rattle.query.specs.Format.{predicate_limit}
 use Rattle.query.specs.Query.{Query}
 use Rattle.query.specs.Decode.{payload_of}
 use Rattle.records.specs.Offsets.{HasFields}
 use Rattle.records.specs.Table.{record_at, predicate_in, predicates_at}
 use Rattle.reading.specs.Tables.{Tables, HasTables}
+use Rattle.reading.specs.MemberRead.{RefusedBy}
 use Rattle.ancestors.specs.Ancestors.{ancestors_of, Low, Spans}
 use Rattle.query.specs.Sound.{IsRefusal}
 
@@ -38,6 +38,6 @@ pub record Tabled (tags q : List ℕ) (Q : Query) (n : ℕ) (T : Tables) : Type 
   pub sized : HasTables T
 
 -- a refusal is handed on by its number, an accepted query by its tables
-abbrev pub QueryRead : (tags q : List ℕ) → Decoded Query → Reading → Tables → Type 0
-QueryRead tags q (refused e) r T = (r ≡ Refused e) × IsRefusal e
-QueryRead tags q (accepted Q) r T = (r ≡ Accepted (length Q.predicates)) × Tabled tags q Q (length Q.predicates) T
+abbrev pub QueryRead : (tags q : List ℕ) → Decoded Query → Result ℕ Refusal → Tables → Type 0
+QueryRead tags q (refused e) r T = RefusedBy e r × IsRefusal e
+QueryRead tags q (accepted Q) r T = (r ≡ Ok (length Q.predicates)) × Tabled tags q Q (length Q.predicates) T

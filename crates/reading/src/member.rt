@@ -5,16 +5,18 @@ ghost use Rattle.reading.specs.MemberRead.{Readable, MemberRead, MembersRead};
 
 use ancestors::Ancestors;
 use query::member::MemberField;
+use query::refusal::Refusal;
 
-// A refusal, or the place after what was read and the number of predicates up to there.
-#[derive(Drop)]
-pub enum Progress {
-    Refused(u8),
-    Next { at: usize, n: usize },
+// How far a reading is: the place after what was read, and the number of predicates up to there.
+#[derive(Clone, Copy)]
+pub struct Progress {
+    pub at: usize,
+    pub n: usize,
 }
 
 // The member at a place inside an enclosing end, with n predicates before it and so many more groups allowed; offsets[c] is
-// where the field of predicate c begins, line c of ancestors tells the groups around it.
+// where the field of predicate c begins, line c of ancestors tells the groups around it. No struct of these: `read_query` is lent
+// each table as a slice of its own.
 #[cycle(read_group_read_member)]
 pub fn read_member(
     tags: &[u8],
@@ -25,33 +27,29 @@ pub fn read_member(
     n: usize,
     offsets: &mut [usize],
     ancestors: &mut [u8],
-) -> Progress
+) -> Result<Progress, Refusal>
     requires { Readable at end allowed n q.now (tables offsets.old ancestors.old) }
     ensures { MemberRead tags.now q.now at end (depth_of allowed) n result
         (tables offsets.old ancestors.old) (tables offsets.new ancestors.new) }
 {
-    match members::field::read_field(tags, q, at, end, allowed, n, offsets) {
-        MemberField::Refused(e) => Progress::Refused(e),
+    let field = members::field::read_field(tags, q, at, end, allowed, n, offsets)?;
+    match field {
         MemberField::Leaf {
             start: _,
             end: stop,
         } => {
             offsets[n] = at;
             ancestors[Ancestors::LINE_SIZE * n] = 0;
-            Progress::Next { at: stop, n: n + 1 }
+            Ok(Progress { at: stop, n: n + 1 })
         }
         MemberField::Group {
             tag,
             start,
             end: stop,
         } => {
-            match read_group(tags, q, start, stop, allowed - 1, n, offsets, ancestors) {
-                Progress::Refused(e) => Progress::Refused(e),
-                Progress::Next { at: next, n: m } => {
-                    ancestors::close_group(ancestors, n, m, tag);
-                    Progress::Next { at: next, n: m }
-                }
-            }
+            let read = read_group(tags, q, start, stop, allowed - 1, n, offsets, ancestors)?;
+            ancestors::close_group(ancestors, n, read.n, tag);
+            Ok(read)
         }
     }
 }
@@ -67,23 +65,14 @@ fn read_group(
     n: usize,
     offsets: &mut [usize],
     ancestors: &mut [u8],
-) -> Progress
+) -> Result<Progress, Refusal>
     requires { Readable at end allowed n q.now (tables offsets.old ancestors.old) }
     ensures { MembersRead tags.now q.now at end (depth_of allowed) n result
         (tables offsets.old ancestors.old) (tables offsets.new ancestors.new) }
 {
-    let mut p = at;
-    let mut m = n;
-    while p < end {
-        match read_member(tags, q, p, end, allowed, m, offsets, ancestors) {
-            Progress::Refused(e) => {
-                return Progress::Refused(e);
-            }
-            Progress::Next { at: next, n: k } => {
-                p = next;
-                m = k;
-            }
-        }
+    let mut read = Progress { at, n };
+    while read.at < end {
+        read = read_member(tags, q, read.at, end, allowed, read.n, offsets, ancestors)?;
     }
-    Progress::Next { at: p, n: m }
+    Ok(read)
 }

@@ -10,7 +10,7 @@ use fields::header::Header;
 use payload::Payload;
 
 // Document 01's record of a condition: the operand is the len bytes of the query from place on.
-#[derive(Clone, Copy)]
+#[derive(Clone, Copy, PartialEq, Eq, Debug)]
 pub struct PredicateRecord {
     pub column: u8,
     pub kind: u8,
@@ -46,9 +46,7 @@ pub fn tabulate(q: &[u8], offsets: &[usize], n: usize, table: &mut [PredicateRec
     requires { HasFields q.now offsets.now n × (n ≤ length table.old) }
     ensures { table.new ≡ records_of q.now offsets.now n ++ drop n table.old }
 {
-    let mut c: usize = 0;
-    while c < n {
+    for c in 0..n {
         table[c] = record_at(q, offsets, c);
-        c += 1;
     }
 }

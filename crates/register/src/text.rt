@@ -21,10 +21,8 @@ fn put_entries(out: &mut [u8], at: usize, listed: &[u8], rows: usize) -> usize
     ensures { Wrote at (entries listed.now rows) out.old result out.new × (result ≤ at + entry_room * rows) }
 {
     let mut end = at;
-    let mut row: usize = 0;
-    while row < rows {
+    for row in 0..rows {
         end = put_entry(out, end, listed, row);
-        row += 1;
     }
     end
 }
@@ -43,14 +41,10 @@ fn put_conditions(out: &mut [u8], at: usize, looks: &[u8], size: usize, n: usize
     ensures { Wrote at (conditions looks.now size n) out.old result out.new × (result ≤ at + condition_room * n) }
 {
     let mut end = at;
-    let mut c: usize = 0;
-    let mut from: usize = 0;
-    while c < n {
-        let next = from + size;
-        let count = counts::ones::count_ones(&looks[from..next]);
+    for c in 0..n {
+        let from = c * size;
+        let count = counts::ones::count_ones(&looks[from..from + size]);
         end = put_condition(out, end, c, count);
-        c += 1;
-        from = next;
     }
     end
 }
@@ -96,7 +90,8 @@ pub fn write_refused(number: u64, out: &mut [u8]) -> usize
     lines::put_line(out, next, b"refused ", number)
 }
 
-// The register of a run that gave this number and these counts and wrote the two tables, to the front of the output; its length.
+// The register of a run that gave this number and these counts and wrote the two tables, to the front of the output; its length. The number is
+// that of the packed word, 0 where nothing is refused: C's interface has it so.
 pub fn write_register(
     number: u64,
     found: u64,

@@ -1,16 +1,13 @@
 -- The checks of a request one by one, and what holds where none fails.
-use Prim.Native.Nat.{ℕ, ◌*◌, ◌^◌, ◌≤◌, ◌<◌}
-use native.Mathlib.Nat.{mul-le-mul_right}
+use Prim.Native.Nat.{ℕ, ◌*◌, ◌≤◌, ◌<◌}
 use native.Mathlib.Omega.{arith}
-use mathlib.Core.Path.{◌≡◌, sym, ◌∙◌}
+use mathlib.Core.Path.{◌≡◌, sym}
 use mathlib.Core.Bool.{true, false}
 use mathlib.Core.List.{List}
 use lib.Dec.{leb}
 use borrow.Author.Tests.{le-leb, lt-leb, lt-ltb, le-ltb}
 use Rattle.bools.specs.Bools.{and_parts, leb_le, ltb_lt}
 use Rattle.strategy.specs.Order.{is_order}
-use Rattle.bitmaps.specs.Table.{line_size}
-use Rattle.query.specs.Format.{predicate_limit}
 use Rattle.answers.specs.Refusals.{not_order, table_too_short, no_such_reader}
 use Rattle.answers.specs.Checks.{checked, refusal_by}
 use Rattle.answers.proofs.Checks.{AllHold, none_fails}
@@ -41,9 +38,9 @@ module _ (n size : ℕ) (order : List ℕ) (reader listed looks : ℕ) where
     unfolding checked
     request_holds g h l = rw (o, le-leb size listed g, le-leb (n * size) looks h, lt-ltb reader reader_limit l)
 
-  module _ (k : ℕ) (e : k ≡ first) (z : k ≡ 0) where
+  module _ (z : 0 ≡ first) where
     pub request_kept : AllHold (request_checks n size order reader listed looks)
-    request_kept = none_fails (request_checks n size order reader listed looks) (omega arith, (omega arith, (omega arith, tt))) (sym e ∙ z)
+    request_kept = none_fails (request_checks n size order reader listed looks) (omega arith, (omega arith, (omega arith, tt))) (sym z)
 
     pub request_order : is_order n order ≡ true
     request_order = request_kept.0
@@ -53,6 +50,3 @@ module _ (n size : ℕ) (order : List ℕ) (reader listed looks : ℕ) where
     request_fits =
         let p = and_parts (leb size listed) (leb (n * size) looks) request_kept.1.0 in
         ((leb_le size listed p.0, leb_le (n * size) looks p.1), ltb_lt reader reader_limit request_kept.1.1.0)
-
-pub lines_fit : (n size : ℕ) → n ≤ predicate_limit → size ≤ line_size → n * size < 2 ^ 64
-lines_fit n size h k = let z : n * size ≤ predicate_limit * size = mul-le-mul_right size h in omega arith

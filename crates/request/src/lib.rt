@@ -4,13 +4,14 @@
 ghost use Rattle.std.specs.Prelude.{◌≡◌, ◌≤◌};
 ghost use Rattle.bitmaps.specs.Table.{line_size};
 ghost use Rattle.query.specs.Format.{predicate_limit};
+ghost use Rattle.answers.specs.Refusal.{refusal_in};
 ghost use Rattle.answers.specs.Checks.{refusal_by};
 ghost use Rattle.demands.specs.Run.{request_checks};
 
 use answers::refusal::Refusal;
 use answers::tally::Reader;
 
-// 0, or the number of the first that fails. A line of bits has this size, the lent tables are so long.
+// The first check that fails refuses. A line of bits has this size, the lent tables are so long.
 pub fn check_request(
     order: &[u8],
     n: usize,
@@ -18,21 +19,21 @@ pub fn check_request(
     reader: u64,
     listed: usize,
     looks: usize,
-) -> u8
+) -> Result<(), Refusal>
     requires { (n ≤ predicate_limit) × (size ≤ line_size) }
-    ensures { result ≡ refusal_by (request_checks n size order.now reader listed looks) }
+    ensures { refusal_in result ≡ refusal_by (request_checks n size order.now reader listed looks) }
 {
-    if !orders::is_order(order, fields::number::narrow(n)) {
-        return Refusal::NOT_ORDER;
+    if !orders::is_order(order, n as u8) {
+        return Err(Refusal::NotOrder);
     }
     if listed < size {
-        return Refusal::TABLE_TOO_SHORT;
+        return Err(Refusal::TableTooShort);
     }
     if looks < n * size {
-        return Refusal::TABLE_TOO_SHORT;
+        return Err(Refusal::TableTooShort);
     }
     if Reader::LIMIT <= reader {
-        return Refusal::NO_SUCH_READER;
+        return Err(Refusal::NoSuchReader);
     }
-    0
+    Ok(())
 }

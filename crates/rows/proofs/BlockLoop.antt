@@ -1,5 +1,5 @@
 -- The loop over the turns of a block, as the code has it: its state, what each call asks, and what each turn leaves.
-use Prim.Native.Nat.{ℕ, ◌+◌, ◌-◌, ◌≤◌, ◌<◌}
+use Prim.Native.Nat.{ℕ, ◌+◌, ◌≤◌, ◌<◌}
 use native.Mathlib.Omega.{arith}
 use mathlib.Core.Path.{◌≡◌, refl, sym, ap, ◌∙◌, subst}
 use mathlib.Core.Bool.{Bool, true, false, cond}
@@ -44,9 +44,6 @@ ready_once {G} {n} {T} R = subst Once R.turns ((order_law n G.turns).0 R.ordered
 -- a turn is a predicate's
 ready_turn : {G : Slices} {n : ℕ} {T : Task} (i : ℕ) → Ready G n T → i < length G.turns → get_or G.turns i 0 < n
 ready_turn {G} {n} i R h = ((order_law n G.turns).0 R.ordered).inside (get_or G.turns i 0) (among_at G.turns i h)
-
-pub turns_left : {i n : ℕ} → i < n → n - (i + 1) < n - i
-turns_left h = omega arith
 
 pub in_words : {c words : ℕ} → c < predicate_limit → words ≡ predicate_limit → c < words
 in_words few e = omega arith

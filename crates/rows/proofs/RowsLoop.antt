@@ -269,9 +269,6 @@ blocking_start w s p = record {
   done = λ n T R X. record { selected = none_before (selection T) s; marks = none_before (marking T n) p.no_bits };
 }
 
-pub rows_left : {base rows : ℕ} → base < rows → rows - (base + block_rows) < rows - base
-rows_left h = omega arith
-
 pub blocking_end : {G : Slices} {E : Extent} {W : List ℕ} {base : ℕ} {S P₀ P : List ℕ} → E.rows ≤ base → Blocking G E W base S P₀ P → RowsWorked G E S P
 blocking_end {G} {E} {W} {base} {S} {P₀} {P} h B n T R X =
     let r = X.rows in

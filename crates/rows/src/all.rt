@@ -5,9 +5,10 @@ ghost use Rattle.rows.specs.Worked.{RowsReady, RowsWorked};
 
 use crate::block::Block;
 use bitmaps::word::Word;
+use predicate::fold::Fold;
 
 // How many rows there are, where in the catalogue the bytes of the mark start, and the predicates that are live at first.
-#[derive(Drop)]
+#[derive(Clone, Copy)]
 pub struct Extent {
     pub rows: usize,
     pub mark: usize,
@@ -31,13 +32,11 @@ pub fn work_rows(
         (slices catalogue.now question.now turns.now plan.now ancestors.now)
         extent selected.new marks.new }
 {
-    let fold = predicate::fold::fold_table();
-    let rows = extent.rows;
-    let start = extent.start;
-    let mark = extent.mark;
+    let table = predicate::fold::fold_table();
+    let fold = Fold { table: &table };
+    let Extent { rows, mark, start } = extent;
     let withdrawn = present::withdrawn_line(catalogue, mark);
-    let mut base: usize = 0;
-    while base < rows {
+    for base in (0..rows).step_by(Word::ROWS) {
         let part = present::present_rows(&withdrawn, rows, base);
         let block = Block {
             base,
@@ -45,9 +44,8 @@ pub fn work_rows(
             start,
         };
         let found = crate::block::work_block(
-            &fold, catalogue, question, turns, plan, ancestors, block, marks,
+            fold, catalogue, question, turns, plan, ancestors, block, marks,
         );
         bitmaps::word::put_word(selected, base / 8, found);
-        base += Word::ROWS;
     }
 }

@@ -1,14 +1,14 @@
 // A block of 64 rows worked through, turn after turn.
 ghost use Rattle.std.specs.Prelude.{◌≡◌, length};
-ghost use Rattle.predicate.specs.Outcome.{Folds};
 ghost use Rattle.query.specs.Format.{predicate_limit};
 ghost use Rattle.rows.specs.Ready.{slices};
 ghost use Rattle.rows.specs.Worked.{Filled, HasNoMarks, BlockReady, BlockWorked};
 
+use predicate::fold::Fold;
 use query::format::Predicate;
 
 // Row d of the block is row base + d; the rows that take part; the predicates that are live at first.
-#[derive(Drop)]
+#[derive(Clone, Copy)]
 pub struct Block {
     pub base: usize,
     pub rows: u64,
@@ -22,7 +22,7 @@ fn fill(live: &mut [u64], start: u64, rows: u64)
 {
     let mut left = start;
     while left != 0 {
-        let c = fields::number::widen(sets::first(left));
+        let c = usize::from(sets::first(left));
         live[c] = rows;
         left = sets::rest(left);
     }
@@ -30,7 +30,7 @@ fn fill(live: &mut [u64], start: u64, rows: u64)
 
 // The rows that are selected. Each predicate's due rows are marked, and its outcomes worked out at these alone.
 pub fn work_block(
-    fold: &[u8],
+    fold: Fold,
     catalogue: &[u8],
     question: &[u8],
     turns: &[u8],
@@ -39,22 +39,17 @@ pub fn work_block(
     block: Block,
     marks: &mut [u8],
 ) -> u64
-    requires { Folds fold.now × BlockReady (slices catalogue.now question.now turns.now plan.now ancestors.now) block
-        × HasNoMarks block marks.old }
+    requires { BlockReady (slices catalogue.now question.now turns.now plan.now ancestors.now) block × HasNoMarks block marks.old }
     ensures { BlockWorked
         (slices catalogue.now question.now turns.now plan.now ancestors.now)
         block result marks.old marks.new }
 {
-    let base = block.base;
-    let rows = block.rows;
-    let start = block.start;
-    let mut live = [0u64; Predicate::LIMIT];
+    let Block { base, rows, start } = block;
+    let mut live = [0; Predicate::LIMIT];
     fill(&mut live, start, rows);
-    let mut selected: u64 = 0;
-    let mut i: usize = 0;
-    while i < turns.len() {
-        let c = fields::number::widen(turns[i]);
-        i += 1;
+    let mut selected = 0;
+    for turn in turns {
+        let c = usize::from(*turn);
         let due = live[c];
         if due == 0 {
             continue;
@@ -63,7 +58,7 @@ pub fn work_block(
         marks::mark(marks, c, base, due, met);
         live[c] = 0;
         let passed = blocks::propagation::propagate_rows(ancestors, c, &mut live, due, met);
-        selected = selected | (passed & met);
+        selected |= passed & met;
     }
     selected
 }

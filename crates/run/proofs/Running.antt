@@ -14,19 +14,22 @@ use Rattle.input.specs.declared.begin.Beginning.{Beginning}
 use Rattle.task.specs.Input.{decode_input}
 use Rattle.input.specs.Beginning.{HasInput}
 use Rattle.input.proofs.InHand.{input_short}
-use Rattle.answers.specs.declared.word.Answer.TheVariants.{Refused}
+use Rattle.answers.specs.declared.refusal.Refusal.{Refusal}
+use Rattle.answers.specs.Refusal.{refusal_number}
+use Rattle.answers.specs.Answer.{Refused}
 use Rattle.answers.specs.Word.{FitsWord}
 use Rattle.answers.specs.Checks.{checked, refusal_by}
+use Rattle.answers.proofs.Refusals.{refusal_numbered, refused_fits}
 use Rattle.answers.proofs.Checks.{checked_holds, checked_fails, checked_further}
 use Rattle.demands.specs.Run.{Lent, lent, Ran, refuse, task_of, selection, probe_bitmaps, request_checks, tally_checks, look_count, accept, run_on, run_of}
 use Rattle.request.proofs.Request.{request_kept}
 use Rattle.work.specs.Worked.{RunWorked}
 use Rattle.finish.specs.Finish.{finished}
 
-pub run_refused : (l : Lent) (k : ℕ) → (decode_input l.request.catalogue l.request.question ≡ refused k) × (k < 256)
-    → (refuse k l.listed l.looks l.tally ≡ run_of l) × FitsWord (Refused k)
+pub run_refused : (l : Lent) (e : Refusal) → decode_input l.request.catalogue l.request.question ≡ refused (refusal_number e)
+    → (refuse (refusal_number e) l.listed l.looks l.tally ≡ run_of l) × FitsWord (Refused (refusal_number e))
 unfolding run_of
-run_refused l k h = (rw h.0, omega arith)
+run_refused l e h = (rw h, refused_fits e)
 
 -- the sizes that the input gives
 module _ {b q : List ℕ} {r : Beginning} {T : Tables} (G : HasInput b q r T) where
@@ -60,16 +63,20 @@ module _ {b q : List ℕ} {r : Beginning} {T : Tables} (G : HasInput b q r T) (o
   on_input = rw (G.decoded, G.tabled.count, same_size) (sym (checked_further (λ e. refuse e listed looks tally)
       (request_checks r.n task_size order reader (length listed) (length looks)) _ _))
 
-  module _ (k : ℕ) (e : k ≡ refusal_by (request_checks r.n size order reader (length listed) (length looks))) where
-    pub run_declined : (k ≡ 0 → ⊥) → refuse k listed looks tally ≡ run_of asked
-    run_declined ne =
-        rw e (sym (checked_fails (λ x. refuse x listed looks tally) (request_checks r.n size order reader (length listed) (length looks)) further (rw e at ne)) ∙ on_input)
+  abbrev first : ℕ
+  first = refusal_by (request_checks r.n size order reader (length listed) (length looks))
 
-    -- the rows are worked, and the end of the run is the definition's
-    pub run_finished : k ≡ 0 → {S P : List ℕ} → RunWorked b q order r.n S P → {x : Ran} → x ≡ finished S P r.n size reader listed looks tally → x ≡ run_of asked
-    unfolding finished selection probe_bitmaps
-    run_finished z {S} {P} W f =
-        let w : Worked (task_of G.input order) r.n S P = W G.input G.decoded in
-        f ∙ rw (same_size, w.selected_bitmap, w.probed_bitmaps, ← G.tabled.count)
-        (sym (checked_holds (λ x. refuse x listed looks tally) (request_checks r.n size order reader (length listed) (length looks)) _
-        (request_kept r.n size order reader (length listed) (length looks) k e z)) ∙ on_input)
+  pub run_declined : (e : Refusal) → refusal_number e ≡ first
+      → (refuse (refusal_number e) listed looks tally ≡ run_of asked) × FitsWord (Refused (refusal_number e))
+  run_declined e f =
+      let ne : first ≡ 0 → ⊥ = λ z. absurd (omega (arith, (refusal_numbered e).0, f, z)) in
+      (rw f (sym (checked_fails (λ x. refuse x listed looks tally) (request_checks r.n size order reader (length listed) (length looks)) further ne) ∙ on_input), refused_fits e)
+
+  -- the rows are worked, and the end of the run is the definition's
+  pub run_finished : 0 ≡ first → {S P : List ℕ} → RunWorked b q order r.n S P → {x : Ran} → x ≡ finished S P r.n size reader listed looks tally → x ≡ run_of asked
+  unfolding finished selection probe_bitmaps
+  run_finished z {S} {P} W f =
+      let w : Worked (task_of G.input order) r.n S P = W G.input G.decoded in
+      f ∙ rw (same_size, w.selected_bitmap, w.probed_bitmaps, ← G.tabled.count)
+      (sym (checked_holds (λ x. refuse x listed looks tally) (request_checks r.n size order reader (length listed) (length looks)) _
+      (request_kept r.n size order reader (length listed) (length looks) z)) ∙ on_input)

@@ -1,11 +1,13 @@
 // Running a question in a given order, for a reader.
 #![tactic(auto)]
 
+ghost use Rattle.answers.specs.Answer.{answer_of};
 ghost use Rattle.answers.specs.Word.{packed, FitsWord};
 ghost use Rattle.demands.specs.Run.{lent};
 ghost use Rattle.demands.specs.Calls.{RunGives};
 
 use ancestors::Ancestors;
+use answers::refusal::Refusal;
 use answers::word::Answer;
 use bitmaps::copy::Line;
 use marks::MarkTable;
@@ -20,25 +22,18 @@ pub fn run_question(
     listed: &mut [u8],
     looks: &mut [u8],
     tally: &mut [u8],
-) -> Answer
+) -> Result<Answer, Refusal>
     ensures { (RunGives (lent catalogue.now question.now order.now reader
         listed.old looks.old tally.old)
-        (packed result) listed.new looks.new tally.new)
-        × FitsWord result }
+        (packed (answer_of result)) listed.new looks.new tally.new)
+        × FitsWord (answer_of result) }
 {
     let mut offsets = [0usize; Predicate::LIMIT];
     let mut ancestors = [0u8; Ancestors::TABLE_SIZE];
-    let begun = input::begin::begin(catalogue, question, &mut offsets, &mut ancestors);
-    let refusal = begun.refusal;
-    if refusal != 0 {
-        return Answer::Refused(refusal);
-    }
+    let begun = input::begin::begin(catalogue, question, &mut offsets, &mut ancestors)?;
     let n = begun.n;
     let size = bitmaps::size::bytes_for(begun.rows);
-    let failing = request::check_request(order, n, size, reader, listed.len(), looks.len());
-    if failing != 0 {
-        return Answer::Refused(failing);
-    }
+    request::check_request(order, n, size, reader, listed.len(), looks.len())?;
     let mut selected = [0u8; Line::SIZE];
     let mut probed = [0u8; MarkTable::PROBES];
     run_rows::work_run(

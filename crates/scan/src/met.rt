@@ -1,12 +1,12 @@
 // The due rows at which a predicate's outcome is yes, or blank: the kind is looked at for a block, not for each row.
-ghost use Rattle.predicate.specs.Outcome.{Folds};
 ghost use Rattle.scan.specs.Met.{HasRows, PlainMetFor, MetFor, HasRowsAnyOperand, BlankFor};
 
+use predicate::fold::Fold;
 use predicate::kind::Kind;
 
 // Of the kind below the opposites. What a leaf takes of the operand is worked out for each block: a table of it is no faster.
 fn plain_met_at(
-    table: &[u8],
+    fold: Fold,
     b: &[u8],
     start: usize,
     base: usize,
@@ -14,7 +14,7 @@ fn plain_met_at(
     operand: &[u8],
     due: u64,
 ) -> u64
-    requires { Folds table.now × HasRows b.now start base kind operand.now due }
+    requires { HasRows b.now start base kind operand.now due }
     ensures { PlainMetFor b.now start base kind operand.now due result }
 {
     let plain = predicate::kind::plain_kind(kind);
@@ -28,8 +28,8 @@ fn plain_met_at(
     if plain == Kind::TEXT_BLANK {
         return crate::text::texts_blank(b, start, base, due);
     }
-    let may = filters::sift::sift(table, b, start, base, plain, operand, due);
-    crate::text::texts_that_pass(table, b, start, base, plain, operand, may)
+    let may = filters::sift::sift(fold, b, start, base, plain, operand, due);
+    crate::text::texts_that_pass(fold, b, start, base, plain, operand, may)
 }
 
 // Those at which it is blank. No operand is asked for: a kind that asks for content answers so at every blank.
@@ -49,7 +49,7 @@ pub fn blank_at(b: &[u8], start: usize, base: usize, kind: u8, due: u64) -> u64
 
 // Those of any kind at which it is yes.
 pub fn met_at(
-    table: &[u8],
+    fold: Fold,
     b: &[u8],
     start: usize,
     base: usize,
@@ -57,10 +57,10 @@ pub fn met_at(
     operand: &[u8],
     due: u64,
 ) -> u64
-    requires { Folds table.now × HasRows b.now start base kind operand.now due }
+    requires { HasRows b.now start base kind operand.now due }
     ensures { MetFor b.now start base kind operand.now due result }
 {
-    let met = plain_met_at(table, b, start, base, kind, operand, due);
+    let met = plain_met_at(fold, b, start, base, kind, operand, due);
     if kind < Kind::OPPOSITE_FROM {
         return met;
     }

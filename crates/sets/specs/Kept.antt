@@ -8,6 +8,18 @@ use Rattle.sets.specs.Set.{has, one_set}
 abbrev pub KeptBy : (P : ℕ → Bool) → (x r : ℕ) → Type 0
 KeptBy P x r = (d : ℕ) → has r d ≡ (has x d && P d)
 
+-- a test may be asked at each number of x
+abbrev pub MayAsk : (asks : ℕ → Type 0) → (x : ℕ) → Type 0
+MayAsk asks x = (d : ℕ) → has x d ≡ true → asks d
+
+-- what the test may answer at a number of x is what P says
+abbrev pub Answers : (answers : ℕ → Bool → Type 0) → (x : ℕ) → (P : ℕ → Bool) → Type 0
+Answers answers x P = (d : ℕ) (p : Bool) → has x d ≡ true → answers d p → p ≡ P d
+
+-- r holds the numbers of x at which the test passes: those that P keeps, where the test answers as P says
+abbrev pub KeptWhere : (answers : ℕ → Bool → Type 0) → (x r : ℕ) → Type 0
+KeptWhere answers x r = (P : ℕ → Bool) → Answers answers x P → KeptBy P x r
+
 -- a filter: r holds numbers of x, and among them all that P keeps
 pub record Sifted (P : ℕ → Bool) (x r : ℕ) : Type 0 where
   pub within : (d : ℕ) → has r d ≡ true → has x d ≡ true

@@ -116,32 +116,29 @@ module _ {left t next : ℕ} (F : FirstIs left t) (R : RestIs left next) where
       back false true q e f = clash (f (sym e)) refl
       back false false q e f = rw (← e)
 
--- the number at hand is t, at whatever width w the code has it
-module _ {P : ℕ → Bool} {x left met t w : ℕ} (S : Sorting P x left met) (F : FirstIs left t) (w-is : w ≡ t) where
-  pub sort_among : has x w ≡ true
-  sort_among = rw w-is (S.within t F.among)
+  -- it lies in the set still
+  pub rest_within : (d : ℕ) → has next d ≡ true → has left d ≡ true
+  rest_within d e = left_of (eqb d t) (has left d) (sym (rest_has d) ∙ e)
+    where
+      left_of : (q l : Bool) → cond q false l ≡ true → l ≡ true
+      left_of true l y = clash y refl
+      left_of false l y = y
 
-  -- `next` is the rest, p the test's answer, and `more` what is met
-  module _ {next : ℕ} (R : RestIs left next) where
-    pub sort_next : {p : Bool} {more : ℕ} → p ≡ P w → more ≡ cond p (bit_xor left next) 0 → Sorting P x next (bit_or met more)
+  -- the number at hand is t, p the test's answer, and `more` what is met
+  module _ {P : ℕ → Bool} {x met : ℕ} (S : Sorting P x left met) where
+    pub sort_next : {p : Bool} {more : ℕ} → p ≡ P t → more ≡ cond p (bit_xor left next) 0 → Sorting P x next (bit_or met more)
     sort_next {p} {more} e m = record {
       small = let l = R.less in let s = S.small in omega arith;
-      within = λ d y. S.within d (left_of (eqb d t) (has left d) (sym (rest_has F R d) ∙ y));
-      sorted = λ d. ap₂ (λ (k l : Bool). k || (l && P d)) (has_or met more d ∙ ap (λ (b : Bool). has met d || b) (met_has d)) (rest_has F R d) ∙ go d (same? d t) ∙ S.sorted d;
+      within = λ d y. S.within d (rest_within d y);
+      sorted = λ d. ap₂ (λ (k l : Bool). k || (l && P d)) (has_or met more d ∙ ap (λ (b : Bool). has met d || b) (met_has d)) (rest_has d) ∙ go d (same? d t) ∙ S.sorted d;
     }
       where
-        left_of : (q l : Bool) → cond q false l ≡ true → l ≡ true
-        left_of true l y = clash y refl
-        left_of false l y = y
-
         kept_has : (b : Bool) (z d : ℕ) → has (cond b z 0) d ≡ (b && has z d)
         kept_has true z d = refl
         kept_has false z d = has_none d
 
         met_has : (d : ℕ) → has more d ≡ (p && eqb d t)
-        met_has d =
-            let alone : bit_xor left next ≡ one_set t = R.taken ∙ ap one_set (sym F.lowest_is) in
-            ap (λ (z : ℕ). has z d) (m ∙ rw alone) ∙ kept_has p (one_set t) d ∙ ap (λ (b : Bool). p && b) (has_one t d)
+        met_has d = ap (λ (z : ℕ). has z d) m ∙ kept_has p (bit_xor left next) d ∙ ap (λ (b : Bool). p && b) (one d)
 
         here : (k q : Bool) → ((k || (q && true)) || false) ≡ (k || (true && q))
         here true q = refl
@@ -156,7 +153,7 @@ module _ {P : ℕ → Bool} {x left met t w : ℕ} (S : Sorting P x left met) (F
             twice false r = refl
 
         go : (d : ℕ) → (d ≡ t) ⊎ (d ≡ t → ⊥) → ((has met d || (p && eqb d t)) || (cond (eqb d t) false (has left d) && P d)) ≡ (has met d || (has left d && P d))
-        go d (inl q) = rw (q, eqb_self t, F.among, e ∙ ap P w-is) (here (has met t) (P t))
+        go d (inl q) = rw (q, eqb_self t, F.among, e) (here (has met t) (P t))
         go d (inr ne) = rw (eqb_ne d t ne) (elsewhere (has met d) (has left d) p (P d))
 
 -- a filter first, and the test where it passes

@@ -2,10 +2,10 @@
 // A loop over the numbers of a set x takes first(x) and goes on with rest(x).
 #![tactic(auto)]
 
-ghost use Rattle.std.specs.Prelude.{◌≡◌, cond, ◌*◌, ◌^◌, ◌≤◌, ◌<◌};
+ghost use Rattle.std.specs.Prelude.{ℕ, ◌≡◌, cond, ◌+◌, ◌*◌, ◌^◌, ◌≤◌, ◌<◌};
 ghost use Rattle.sets.specs.Set.{has, one_set, below_set, set_minus, set_with};
-ghost use Rattle.sets.specs.Kept.{FirstIs, RestIs};
-ghost use Rattle.sets.specs.Gathered.{bit_of};
+ghost use Rattle.sets.specs.Kept.{FirstIs, RestIs, MayAsk, KeptWhere};
+ghost use Rattle.sets.specs.Gathered.{bit_of, HalfWhere};
 
 // Is d in the set.
 pub fn has(x: u64, d: u8) -> bool
@@ -28,11 +28,7 @@ pub fn below(n: u8) -> u64
     requires { n ≤ 64 }
     ensures { result ≡ below_set n }
 {
-    if n == 64 {
-        0xffff_ffff_ffff_ffff
-    } else {
-        (1u64 << n) - 1
-    }
+    if n == 64 { u64::MAX } else { (1u64 << n) - 1 }
 }
 
 // The set x without the numbers of m.
@@ -66,13 +62,6 @@ pub fn rest(x: u64) -> u64
     x & (x - 1)
 }
 
-// 1 where a test passes, else 0.
-pub fn bit(test: bool) -> u64
-    ensures { (result ≡ cond test 1 0) × (result ≤ 1) }
-{
-    if test { 1 } else { 0 }
-}
-
 // Bit d where a test passes, else 0.
 pub fn bit_at(test: bool, d: u8) -> u32
     requires { d < 32 }
@@ -87,4 +76,51 @@ pub fn kept(test: bool, x: u64) -> u64
     ensures { result ≡ cond test x 0 }
 {
     if test { x } else { 0 }
+}
+
+// The numbers of a set at which a test passes, lowest first: no branch on what the test answers.
+pub fn kept_where<F: Fn(u8) -> bool>(x: u64, test: F) -> u64
+    requires { MayAsk (F.pre test) x }
+    ensures { KeptWhere (F.post test) x result }
+{
+    let mut left = x;
+    let mut met: u64 = 0;
+    while left != 0 {
+        let next = rest(left);
+        met |= kept(test(first(left)), left ^ next);
+        left = next;
+    }
+    met
+}
+
+// Of the 32 numbers from a first one on: lanes of 32 bits hold what is tested and its bit.
+fn half_where<F: Fn(u8) -> bool>(from: u8, test: F) -> u32
+    requires { (from ≤ 32) × ((d : ℕ) → d < 32 → F.pre test (from + d)) }
+    ensures { HalfWhere (F.post test) from result }
+{
+    let mut met: u32 = 0;
+    for d in 0..32u8 {
+        met |= bit_at(test(from + d), d);
+    }
+    met
+}
+
+// The numbers below 64 at which a test passes, straight through, by halves: no bit waits for another.
+pub fn all_where<F: Fn(u8) -> bool>(test: F) -> u64
+    requires { MayAsk (F.pre test) (below_set 64) }
+    ensures { KeptWhere (F.post test) (below_set 64) result }
+{
+    u64::from(half_where(0, &test)) + 0x1_0000_0000 * u64::from(half_where(32, &test))
+}
+
+// The numbers of a set at which a test passes, by the shorter way.
+pub fn met_where<F: Fn(u8) -> bool>(x: u64, test: F) -> u64
+    requires { MayAsk (F.pre test) x }
+    ensures { KeptWhere (F.post test) x result }
+{
+    if x == below(64) {
+        all_where(test)
+    } else {
+        kept_where(x, test)
+    }
 }

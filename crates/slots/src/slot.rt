@@ -24,13 +24,15 @@ pub fn slots_are_valid(limits: &[u8], b: &[u8], at: usize, n: usize) -> bool
     let mut x: u64 = 0;
     let mut y: u64 = 0;
     let mut z: u64 = 0;
+    // Counted by hand: check_catalogue of 16 text columns takes 0.89 to 0.95 of the time of code without a proof, and 1.22 to 1.25 with
+    // `for _ in 0..n` (the benchmark).
     let mut p = at;
     let mut left = n;
     while 0 < left {
-        let k = Limit::GREATEST_LENGTH - fields::number::widen(b[p]);
-        x = x | words::word_at(b, p) & words::word_at(limits, k);
-        y = y | words::word_at(b, p + 8) & words::word_at(limits, k + 8);
-        z = z | words::word_at(b, p + 16) & words::word_at(limits, k + 16);
+        let k = Limit::GREATEST_LENGTH - usize::from(b[p]);
+        x |= words::word_at(b, p) & words::word_at(limits, k);
+        y |= words::word_at(b, p + 8) & words::word_at(limits, k + 8);
+        z |= words::word_at(b, p + 16) & words::word_at(limits, k + 16);
         p += Text::SLOT_SIZE;
         left -= 1;
     }

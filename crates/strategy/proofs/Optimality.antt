@@ -1,8 +1,8 @@
 -- Every right strategy makes each of our probes, on every assignment.
-use Rattle.std.specs.Prelude.{ℕ, ◌≤◌, ◌≡◌, refl, List, [], ◌∷◌, ◌++◌, length}
+use Rattle.std.specs.Prelude.{ℕ, ◌≤◌, refl, List, [], length}
 use Rattle.std.proofs.Common.{arith, sym, ◌∙◌, subst}
 use Rattle.strategy.specs.Assignment.{Assignment, Among, Once, AgreeOff}
-use Rattle.strategy.specs.Strategy.{Formula, Due, Strategy, final_state, predicates, probes, Right}
+use Rattle.strategy.specs.Strategy.{Formula, Strategy, final_state, predicates, Right}
 use Rattle.strategy.specs.Trace.{trace}
 use Rattle.strategy.specs.Fixing.{RightFixing}
 use Rattle.strategy.specs.Optimality.{ProbesOurs, Optimality}

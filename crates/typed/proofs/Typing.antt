@@ -6,25 +6,29 @@ use mathlib.Core.List.{List}
 use lib.ListN.{length, take}
 use lib.Seq.{length-take-le}
 use borrow.Author.Tests.{le-leb, lt-leb}
+use Rattle.std.specs.Prelude.{Ok, Err}
 use Rattle.fields.specs.Decoded.{Decoded, refused, accepted}
 use Rattle.fields.specs.Output.{Wrote}
 use Rattle.fields.proofs.OutputLaws.{put_front_lem}
 use Rattle.catalogue.specs.Catalogue.{Catalogue}
 use Rattle.catalogue.specs.Decode.{decode_catalogue}
+use Rattle.catalogue.specs.declared.refusal.Refusal.{Refusal as CatalogueRefusal}
+use Rattle.catalogue.specs.Refusal.{refusal_number as catalogue_number}
 use Rattle.layout.specs.declared.Layout.{Layout}
 use Rattle.layout.specs.Layout.{Laid, LaidOut}
 use Rattle.predicate.specs.Payload.{tags_of}
 use Rattle.query.specs.Query.{Query}
+use Rattle.query.specs.declared.refusal.Refusal.{Refusal as QuestionRefusal}
+use Rattle.query.specs.Refusal.{refusal_number as question_number}
 use Rattle.query.specs.Decode.{decode_tagged, decode_query}
-use Rattle.reading.specs.declared.whole.Reading.{Reading}
-use Rattle.reading.specs.declared.whole.Reading.TheVariants as reading
 use Rattle.reading.specs.Tables.{Tables}
 use Rattle.reading.specs.QueryRead.{QueryRead}
 use Rattle.syntax.specs.Machine.{typed_limit, Typed, misspelled, typed, question_of}
 use Rattle.parser.specs.Reading.{QuestionTo}
 use Rattle.input.proofs.Inputs.{laid_tags}
-use Rattle.answers.specs.declared.word.Answer.{Answer}
-use Rattle.answers.specs.declared.word.Answer.TheVariants.{Refused, Accepted}
+use Rattle.answers.specs.declared.refusal.Refusal.TheVariants as refusal
+use Rattle.answers.specs.Answer.{Answer, Refused, Accepted}
+use Rattle.answers.proofs.Refusals.{refused_fits}
 use Rattle.answers.specs.Word.{packed, FitsWord}
 use Rattle.answers.specs.Written.{Written, written}
 use Rattle.answers.specs.Refusals.{text_misspelled, typed_output_too_short}
@@ -41,52 +45,50 @@ abbrev LeavesFor : (tags : List ℕ) → Answer → (new text old : List ℕ) �
 LeavesFor tags a new text old = TypedFor tags (question_of tags text) old (written (packed a) new) × FitsWord a
 
 -- THE QUESTION'S BYTES
-module _ (tags q : List ℕ) (R : Reading) (T : Tables) where
-  pub question_refused : (k : ℕ) (d : Decoded Query) (old : List ℕ) → QueryRead tags q d R T → R ≡ reading.Refused k → Leaves (Refused k) old (question_typed d q old)
-  question_refused k (refused x) old w i = let y : x ≡ k = cc in (rw y, omega (arith, w.1))
-  question_refused k (accepted Q) old w i = let y : ◌≡◌ {A = ℕ} 0 1 = cc in absurd (omega arith)
+module _ (tags q : List ℕ) (T : Tables) where
+  pub question_refused : (k : QuestionRefusal) (d : Decoded Query) (old : List ℕ) → QueryRead tags q d (Err k) T → Leaves (Refused (question_number k)) old (question_typed d q old)
+  question_refused k (refused x) old w = (rw w.0, refused_fits (refusal.Question k))
+  question_refused k (accepted Q) old w = let y : ◌≡◌ {A = ℕ} 0 1 = cc in absurd (omega arith)
 
-  pub question_no_room : (n : ℕ) (d : Decoded Query) (old : List ℕ) → QueryRead tags q d R T → R ≡ reading.Accepted n → length old < length q
+  pub question_no_room : (n : ℕ) (d : Decoded Query) (old : List ℕ) → QueryRead tags q d (Ok n) T → length old < length q
       → Leaves (Refused typed_output_too_short) old (question_typed d q old)
   unfolding checked
-  question_no_room n (refused x) old w i l = let y : ◌≡◌ {A = ℕ} 0 1 = cc in absurd (omega arith)
-  question_no_room n (accepted Q) old w i l = (rw (lt-leb (length q) (length old) l), omega arith)
+  question_no_room n (refused x) old w l = absurd w.0
+  question_no_room n (accepted Q) old w l = (rw (lt-leb (length q) (length old) l), omega arith)
 
-  pub question_written : (n : ℕ) (d : Decoded Query) (size : ℕ) (old new : List ℕ) → QueryRead tags q d R T → R ≡ reading.Accepted n → length q ≤ length old
+  pub question_written : (n : ℕ) (d : Decoded Query) (size : ℕ) (old new : List ℕ) → QueryRead tags q d (Ok n) T → length q ≤ length old
       → length q < 2 ^ 24 → Wrote 0 q old size new → Leaves (Accepted 0 0 size) new (question_typed d q old)
   unfolding checked
-  question_written n (refused x) size old new w i l m v = let y : ◌≡◌ {A = ℕ} 0 1 = cc in absurd (omega arith)
-  question_written n (accepted Q) size old new w i l m v =
+  question_written n (refused x) size old new w l m v = absurd w.0
+  question_written n (accepted Q) size old new w l m v =
       let z : size ≡ length q = omega (arith, v.place) in
       (rw (le-leb (length q) (length old) l, z, v.bytes ∙ put_front_lem q old), omega arith)
 
 -- THE CATALOGUE AND THE TEXT
-module _ (b : List ℕ) (l : Layout) (text old : List ℕ) where
-  pub catalogue_refused : (l.refusal ≡ 0 → ⊥) → LaidOut b l (decode_catalogue b) → Leaves (Refused l.refusal) old (typed_of b text old)
+module _ (b text old : List ℕ) where
+  pub catalogue_refused : (k : CatalogueRefusal) → LaidOut b (Err k) (decode_catalogue b) → Leaves (Refused (catalogue_number k)) old (typed_of b text old)
   unfolding typed_of
-  catalogue_refused n h = go (decode_catalogue b) h
+  catalogue_refused k h = go (decode_catalogue b) h
     where
-      go : (d : Decoded Catalogue) → LaidOut b l d → Leaves (Refused l.refusal) old (catalogue_typed d text old)
-      go (refused x) w = (rw w.0, omega (arith, w))
-      go (accepted C) w = absurd (n w.accepts)
+      go : (d : Decoded Catalogue) → LaidOut b (Err k) d → Leaves (Refused (catalogue_number k)) old (catalogue_typed d text old)
+      go (refused x) w = (rw w, refused_fits (refusal.Catalogue k))
+      go (accepted C) w = absurd w
 
-  module _ (z : l.refusal ≡ 0) where
+  module _ (l : Layout) (h : LaidOut b (Ok l) (decode_catalogue b)) where
     -- of an accepted catalogue
-    of_catalogue : (a : Answer) (new : List ℕ) → LaidOut b l (decode_catalogue b) → ((C : Catalogue) → Laid b l C → Leaves a new (text_typed C (taken_text C text) old))
-        → Leaves a new (typed_of b text old)
+    of_catalogue : (a : Answer) (new : List ℕ) → ((C : Catalogue) → Laid b l C → Leaves a new (text_typed C (taken_text C text) old)) → Leaves a new (typed_of b text old)
     unfolding typed_of
-    of_catalogue a new h f = go (decode_catalogue b) h
+    of_catalogue a new f = go (decode_catalogue b) h
       where
-        go : (d : Decoded Catalogue) → LaidOut b l d → Leaves a new (catalogue_typed d text old)
-        go (refused x) w = absurd (omega (arith, w))
+        go : (d : Decoded Catalogue) → LaidOut b (Ok l) d → Leaves a new (catalogue_typed d text old)
+        go (refused x) w = absurd w
         go (accepted C) w = f C w
 
-    pub text_long : LaidOut b l (decode_catalogue b) → typed_limit < length text → Leaves (Refused text_misspelled) old (typed_of b text old)
-    text_long h m = of_catalogue (Refused text_misspelled) old h (λ C w. (rw (lt-leb (length text) typed_limit m), omega arith))
+    pub text_long : typed_limit < length text → Leaves (Refused text_misspelled) old (typed_of b text old)
+    text_long m = of_catalogue (Refused text_misspelled) old (λ C w. (rw (lt-leb (length text) typed_limit m), omega arith))
 
-    pub text_typed_lem : length text ≤ typed_limit → (a : Answer) (new : List ℕ) → LaidOut b l (decode_catalogue b)
-        → LeavesFor (take l.columns l.tags) a new text old → Leaves a new (typed_of b text old)
-    text_typed_lem short a new h v = of_catalogue a new h (λ C w.
+    pub text_typed_lem : length text ≤ typed_limit → (a : Answer) (new : List ℕ) → LeavesFor (take l.columns l.tags) a new text old → Leaves a new (typed_of b text old)
+    text_typed_lem short a new v = of_catalogue a new (λ C w.
         let t : take l.columns l.tags ≡ tags_of C = laid_tags w in
         let e : written (packed a) new ≡ text_typed C (question_of (tags_of C) text) old = rw t at (v.0 C (sym t)) in
         (rw (le-leb (length text) typed_limit short) e, v.1))

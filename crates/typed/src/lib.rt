@@ -3,6 +3,7 @@
 
 ghost use Rattle.std.specs.Prelude.{◌^◌, ◌<◌, length, ◌≡◌};
 ghost use Rattle.query.specs.Decode.{decode_tagged};
+ghost use Rattle.answers.specs.Answer.{answer_of};
 ghost use Rattle.answers.specs.Word.{packed, FitsWord};
 ghost use Rattle.answers.specs.Written.{written};
 ghost use Rattle.syntax.specs.Machine.{question_of};
@@ -14,9 +15,8 @@ ghost use Rattle.typed.specs.Typing.{TypedFor};
 use ancestors::Ancestors;
 use answers::refusal::Refusal;
 use answers::word::Answer;
-use parser::whole::{Question, TypedText};
+use parser::whole::TypedText;
 use query::format::Predicate;
-use reading::whole::Reading;
 
 // A text that is short, as most are: clearing a table for the longest would take longer than reading it.
 #[derive(Drop)]
@@ -30,61 +30,52 @@ impl ShortText {
 }
 
 // The checks of the question's own bytes, then the output's; the bytes written.
-fn give_question(tags: &[u8], question: &[u8], output: &mut [u8]) -> Answer
+fn give_question(tags: &[u8], question: &[u8], output: &mut [u8]) -> Result<Answer, Refusal>
     requires { length question.now < 2 ^ 24 }
-    ensures { (written (packed result) output.new
+    ensures { (written (packed (answer_of result)) output.new
         ≡ question_typed (decode_tagged tags.now question.now) question.now output.old)
-        × FitsWord result }
+        × FitsWord (answer_of result) }
 {
     let mut offsets = [0usize; Predicate::LIMIT];
     let mut ancestors = [0u8; Ancestors::TABLE_SIZE];
-    match reading::whole::read_query(tags, question, &mut offsets, &mut ancestors) {
-        Reading::Refused(e) => Answer::Refused(e),
-        Reading::Accepted { n: _ } => {
-            if output.len() < question.len() {
-                return Answer::Refused(Refusal::TYPED_OUTPUT_TOO_SHORT);
-            }
-            let size = fields::output::put(output, 0, question);
-            Answer::Accepted {
-                first: 0,
-                second: 0,
-                third: size as u64,
-            }
-        }
+    reading::whole::read_query(tags, question, &mut offsets, &mut ancestors)?;
+    if output.len() < question.len() {
+        return Err(Refusal::TypedOutputTooShort);
     }
+    let size = fields::output::put(output, 0, question);
+    Ok(Answer {
+        first: 0,
+        second: 0,
+        third: size as u64,
+    })
 }
 
 // The text read into a table that is lent, and what its question gives.
-fn type_text(tags: &[u8], text: &[u8], own: &mut [u8], output: &mut [u8]) -> Answer
+fn type_text(tags: &[u8], text: &[u8], own: &mut [u8], output: &mut [u8]) -> Result<Answer, Refusal>
     requires { Fits text.now own.old × (length own.old < 2 ^ 24) }
     ensures { TypedFor tags.now (question_of tags.now text.now) output.old
-        (written (packed result) output.new)
-        × FitsWord result }
+        (written (packed (answer_of result)) output.new)
+        × FitsWord (answer_of result) }
 {
     match parser::whole::read_text(tags, text, own) {
-        Question::Misspelled => Answer::Refused(Refusal::TEXT_MISSPELLED),
-        Question::Read { size } => give_question(tags, &own[..size], output),
+        None => Err(Refusal::TextMisspelled),
+        Some(size) => give_question(tags, &own[..size], output),
     }
 }
 
 // The catalogue's checks, the text's, and those of the question that it spells.
-pub fn type_question(catalogue: &[u8], text: &[u8], output: &mut [u8]) -> Answer
-    ensures { TypedGives catalogue.now text.now output.old (packed result) output.new × FitsWord result }
+pub fn type_question(catalogue: &[u8], text: &[u8], output: &mut [u8]) -> Result<Answer, Refusal>
+    ensures { TypedGives catalogue.now text.now output.old (packed (answer_of result)) output.new × FitsWord (answer_of result) }
 {
-    let layout = layout::lay_out(catalogue);
-    let refusal = layout.refusal;
-    let columns = layout.columns;
-    let tags = layout.tags;
-    if refusal != 0 {
-        return Answer::Refused(refusal);
-    }
+    let layout = layout::lay_out(catalogue)?;
+    let tags = &layout.tags[..layout.columns];
     if TypedText::LIMIT < text.len() {
-        return Answer::Refused(Refusal::TEXT_MISSPELLED);
+        return Err(Refusal::TextMisspelled);
     }
     if text.len() <= ShortText::LIMIT {
         let mut short = [0u8; ShortText::ROOM];
-        return type_text(&tags[..columns], text, &mut short, output);
+        return type_text(tags, text, &mut short, output);
     }
     let mut own = [0u8; TypedText::ROOM];
-    type_text(&tags[..columns], text, &mut own, output)
+    type_text(tags, text, &mut own, output)
 }

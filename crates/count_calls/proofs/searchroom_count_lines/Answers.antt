@@ -8,6 +8,5 @@ count_lines-requires c = (omega arith, omega arith, counted_small c.args.table.n
 
 pub returns : goal.returns
 returns c =
-    let f = c in
-    let a = f.args in
-    front_lines a.table.now a.lines a.size f.front-whole.ensures c.lesser.ensures c.lesser-2.ensures c.count_lines.ensures.0
+    let a = c.args in
+    front_lines a.table.now a.lines a.size c.front-whole.ensures (omega arith) (omega arith) c.count_lines.ensures.0

@@ -8,18 +8,13 @@ returns-then-tally-ne-SIZE c = (tally_size_wrong _ _ _ _ _ _ _ _ c.if-tally-ne-S
 
 pub returns-then-before-looked : goal.returns-then-before-looked
 returns-then-before-looked c =
-    let a = c in
-    (counter_passed _ _ _ _ _ _ _ _ _ _ c.if-tally-ne-SIZE.false a.eight_bytes-before.ensures c.count_whole_lines-looked.ensures.0 c.if-before-looked.true, omega arith)
-
-pub copy_lines-requires-2 : goal.copy_lines-requires-2
-copy_lines-requires-2 c = (omega arith, omega arith, c.requires.has_room.0.1)
+    (counter_passed _ _ _ _ _ _ _ _ _ _ c.if-tally-ne-SIZE.false c.eight_bytes-before.ensures c.count_whole_lines-looked.ensures.0 c.if-before-looked.true, omega arith)
 
 pub returns : goal.returns
 returns c =
-    let a = c in
-    let found = a.count_whole_lines-found.ensures in
-    let looked = a.count_whole_lines-looked.ensures in (
-      counter_taken _ _ _ _ _ _ _ _ _ _ a.if-tally-ne-SIZE.false a.eight_bytes-before.ensures looked.0 (omega arith) (omega arith) _ _ _ _ found.0
+    let found = c.count_whole_lines-found.ensures in
+    let looked = c.count_whole_lines-looked.ensures in (
+      counter_taken _ _ _ _ _ _ _ _ _ _ c.if-tally-ne-SIZE.false c.eight_bytes-before.ensures looked.0 (omega arith) (omega arith) _ _ _ _ found.0
           c.copy_lines.ensures c.copy_lines-2.ensures c.put_eight_bytes.ensures,
       omega (arith, found.1, looked.1),
     )

@@ -13,35 +13,27 @@ count_whole_lines-looked-requires c =
     (size_short M c.bytes_for.ensures, omega arith, omega arith, marks_whole M c.bytes_for.ensures)
 
 pub overflow_mul-size : goal.overflow_mul-size
-overflow_mul-size c =
-    let a = c in
-    omega (arith, looks_few a.args.n c.count_whole_lines-looked.result a.requires.2.few c.count_whole_lines-looked.ensures.1)
+overflow_mul-size c = omega (arith, looks_few c.args.n c.count_whole_lines-looked.result c.requires.2.few c.count_whole_lines-looked.ensures.1)
 
 pub returns-then-output-size : goal.returns-then-output-size
 returns-then-output-size c =
-    let a = c in
-    record { fits = omega arith; leaves = log_short c.bytes_for.ensures c.count_whole_lines-looked.ensures.0 a.args.output.now c.if-output-size.true }
+    record { fits = omega arith; leaves = log_short c.bytes_for.ensures c.count_whole_lines-looked.ensures.0 c.args.output.now c.if-output-size.true }
 
 pub slice_bounds-put_rows-end : goal.slice_bounds-put_rows-end
 slice_bounds-put_rows-end c =
-    let a = c in
-    let s = a.requires.2.size in
-    first_length a.args.marks.now (omega arith)
+    let s = c.requires.2.size in
+    first_length c.args.marks.now (omega arith)
 
 pub put_rows-requires : goal.put_rows-requires
 put_rows-requires c =
-    let a = c in
-    let b = c in
-    rw (part_rest a.args.marks.now half) (log_room b.bytes_for.ensures b.count_whole_lines-looked.ensures.0 a.args.output.now c.if-output-size.false a.requires)
+    rw (part_rest c.args.marks.now half) (log_room c.bytes_for.ensures c.count_whole_lines-looked.ensures.0 c.args.output.now c.if-output-size.false c.requires)
 
 pub returns : goal.returns
 returns c =
-    let a = c in
-    let b = c in
-    let n = c.count_whole_lines-looked in
-    let few = looks_few a.args.n n.result a.requires.2.few n.ensures.1 in
+    let looked = c.count_whole_lines-looked in
+    let few = looks_few c.args.n looked.result c.requires.2.few looked.ensures.1 in
     record {
       fits = omega arith;
-      leaves = log_written b.bytes_for.ensures n.ensures.0 a.args.output.now c.if-output-size.false
-          (rw (part_rest a.args.marks.now half) at c.put_rows.ensures);
+      leaves = log_written c.bytes_for.ensures looked.ensures.0 c.args.output.now c.if-output-size.false
+          (rw (part_rest c.args.marks.now half) at c.put_rows.ensures);
     }

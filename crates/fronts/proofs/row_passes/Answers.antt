@@ -7,44 +7,40 @@ use Rattle.std.proofs.Common.{ap, arith, sym, ◌∙◌}
 use Rattle.fronts.proofs.row_passes.Goals as goal
 
 pub text_at-text-requires : goal.text_at-text-requires
-text_at-text-requires c = c.requires.1
+text_at-text-requires c = c.requires.0
 
 pub returns-then-not-size_fits : goal.returns-then-not-size_fits
 returns-then-not-size_fits c =
     let p = c.requires in
-    let t = text_value _ _ _ p.1 _ c.text_at-text.ensures in
-    other_size _ _ _ p.2 (sym c.size_fits.ensures ∙ c.if-not-size_fits.true) ∙ ap (text_test _ _) t
+    let t = text_value _ _ _ p.0 _ c.text_at-text.ensures in
+    other_size _ _ _ p.1 (sym c.size_fits.ensures ∙ c.if-not-size_fits.true) ∙ ap (text_test _ _) t
 
 pub overflow_mul-row : goal.overflow_mul-row
-overflow_mul-row c = let h = has_text _ _ _ c.requires.1 in omega arith
+overflow_mul-row c = let h = has_text _ _ _ c.requires.0 in omega arith
 
 pub overflow_add-start : goal.overflow_add-start
-overflow_add-start c = let h = has_text _ _ _ c.requires.1 in omega arith
+overflow_add-start c = let h = has_text _ _ _ c.requires.0 in omega arith
 
 pub is_sure-requires : goal.is_sure-requires
-is_sure-requires c = let h = has_text _ _ _ c.requires.1 in omega arith
+is_sure-requires c = let h = has_text _ _ _ c.requires.0 in omega arith
 
 pub rest_matches-requires : goal.rest_matches-requires
 rest_matches-requires c =
     let p = c.requires in
     let a = c.args in
-    let bytes = c.shared_slice_known-2-1 in
     let text = c.text_at-text in
-    let h = has_text _ _ _ p.1 in
-    let l = long_enough a.kind a.operand.now text.result.now p.2 (sym c.size_fits.ensures ∙ c.if-not-size_fits.false) in
-    (p.0, l, sure_begins a.operand.now a.b.now a.k _ (text_value _ _ _ p.1 _ text.ensures) h.0 h.1 (λ i. omega (arith, bytes.given i)) p.3 (sym c.is_sure.ensures ∙ c.if-is_sure.true) l)
+    let h = has_text _ _ _ p.0 in
+    let l = long_enough a.kind a.operand.now text.result.now p.1 (sym c.size_fits.ensures ∙ c.if-not-size_fits.false) in
+    (l, sure_begins a.operand.now a.b.now a.k _ (text_value _ _ _ p.0 _ text.ensures) h.0 h.1 (λ i. omega (arith, c.type_inv.b i)) p.2 (sym c.is_sure.ensures ∙ c.if-is_sure.true) l)
 
 pub returns-then-is_sure : goal.returns-then-is_sure
 returns-then-is_sure c =
     let p = c.requires in
-    let t = text_value _ _ _ p.1 _ c.text_at-text.ensures in
-    front_test _ _ _ p.2 (sym c.size_fits.ensures ∙ c.if-not-size_fits.false) _ c.rest_matches.ensures ∙ ap (text_test _ _) t
-
-pub begins_with-requires : goal.begins_with-requires
-begins_with-requires c = c.requires.0
+    let t = text_value _ _ _ p.0 _ c.text_at-text.ensures in
+    front_test _ _ _ p.1 (sym c.size_fits.ensures ∙ c.if-not-size_fits.false) _ c.rest_matches.ensures ∙ ap (text_test _ _) t
 
 pub returns : goal.returns
 returns c =
     let p = c.requires in
-    let t = text_value _ _ _ p.1 _ c.text_at-text.ensures in
-    front_test _ _ _ p.2 (sym c.size_fits.ensures ∙ c.if-not-size_fits.false) _ c.begins_with.ensures ∙ ap (text_test _ _) t
+    let t = text_value _ _ _ p.0 _ c.text_at-text.ensures in
+    front_test _ _ _ p.1 (sym c.size_fits.ensures ∙ c.if-not-size_fits.false) _ c.begins_with.ensures ∙ ap (text_test _ _) t

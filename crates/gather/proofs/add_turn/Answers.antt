@@ -7,18 +7,15 @@ use Rattle.gather.proofs.add_turn.Goals as goal
 
 pub returns-then-word-below : goal.returns-then-word-below
 returns-then-word-below c =
-    let t = c in
-    let f = t in
-    all_of f.args.i f.if-word-below.true f.below.ensures t.add_to_all.ensures
+    all_of c.args.i c.if-word-below.true c.below.ensures c.add_to_all.ensures
 
 pub loop-left-init : goal.loop-left-init
 loop-left-init c = let a = c.args in change_start (λ s. set_with s a.i) a.word a.gathered.now
 
 pub loop-left-preserved : goal.loop-left-preserved
 loop-left-preserved c =
-    let w = c.widen-d in
     let l = c.loop-left in
-    change_next l.invariant w.result w.ensures.0 c.first.ensures c.rest-left.ensures (omega arith) c.with.ensures
+    change_next l.invariant c.from-d.result c.from-d.ensures c.first.ensures c.rest-left.ensures (omega arith) c.with.ensures
 
 pub shape_of-gathered : goal.shape_of-gathered
 shape_of-gathered c = c.loop-left.invariant.changed.size

@@ -1,13 +1,25 @@
--- `lay_out` meets its contract: by the first field, refused or laid out from the columns on.
-use Rattle.layout.proofs.Laid.{laid_from, laid_refused}
-use Rattle.std.proofs.Common.{arith}
+-- `lay_out` meets its contract: refused by the first field, a column or the mark, or else laid out.
+use Rattle.layout.proofs.Laid.{laid_all, laid_columns_refused, laid_first_refused, laid_mark_refused}
+use Rattle.std.proofs.lemmas.Result.{err_from_is_err_and}
 use Rattle.layout.proofs.lay_out.Goals as goal
 
-pub lay_out_from-requires : goal.lay_out_from-requires
-lay_out_from-requires c = let o = rw c.in-Counts.is at c.read_first.ensures.1 in omega (arith, o)
+pub returns-in_err-counts : goal.returns-in_err-counts
+returns-in_err-counts c =
+    let p = err_from_is_err_and c.from_residual.result c.from_residual.ensures.1 in
+    rw (p.1, p.2) (laid_first_refused _ _ c.in_err-counts.ensures.0)
 
-pub returns-in-Refused : goal.returns-in-Refused
-returns-in-Refused c = laid_refused _ _ _ _ c.read_first.ensures.0 c.in-Refused.is (rw c.in-Refused.is at c.read_first.ensures.1) c.refuse.ensures.0 c.refuse.ensures.1 c.refuse.ensures.2
+pub returns-in_err-laid : goal.returns-in_err-laid
+returns-in_err-laid c =
+    let p = err_from_is_err_and c.from_residual-in_err-laid.result c.from_residual-in_err-laid.ensures.1 in
+    rw (p.1, p.2) (laid_columns_refused _ _ c.in_ok-counts.ensures.0 _ c.in_err-laid.ensures)
 
-pub returns-in-Counts : goal.returns-in-Counts
-returns-in-Counts c = laid_from _ _ _ _ _ _ c.read_first.ensures.0 c.in-Counts.is c.lay_out_from.ensures
+pub returns-in_err-read_mark : goal.returns-in_err-read_mark
+returns-in_err-read_mark c =
+    let p = err_from_is_err_and c.from_residual-in_err-read_mark.result c.from_residual-in_err-read_mark.ensures.1 in
+    rw (p.1, p.2) (laid_mark_refused _ _ c.in_ok-counts.ensures.0 _ c.in_ok-laid.ensures _ c.in_err-read_mark.ensures.0)
+
+pub returns : goal.returns
+returns c =
+    let first = c.in_ok-counts.ensures in
+    let mark = c.in_ok-read_mark.ensures in
+    rw c.unwrap_or-mark.ensures (laid_all _ _ first.0 _ c.in_ok-laid.ensures _ mark.0 mark.1 first.1.0 first.1.1)

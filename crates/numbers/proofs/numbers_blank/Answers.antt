@@ -7,17 +7,11 @@ use Rattle.sets.specs.Set.{below_set}
 use Rattle.std.proofs.Common.{arith, ◌+◌, ◌≡◌}
 use Rattle.numbers.proofs.numbers_blank.Goals as goal
 
-pub below-full-requires : goal.below-full-requires
-below-full-requires c = omega arith
-
-pub all_blank-requires : goal.all_blank-requires
-all_blank-requires c = let e : c.args.due ≡ below_set 64 = omega arith in rw e at c.requires
+pub all_where-requires : goal.all_where-requires
+all_where-requires c = let e : c.args.due ≡ below_set 64 = omega arith in rw e at c.requires
 
 pub returns-then-due-full : goal.returns-then-due-full
-returns-then-due-full c = let e : c.args.due ≡ below_set 64 = omega arith in rw e c.all_blank.ensures
-
-pub due_within-requires : goal.due_within-requires
-due_within-requires c = (c.requires, omega arith)
+returns-then-due-full c = let e : c.args.due ≡ below_set 64 = omega arith in rw e (c.all_where.ensures _ (λ d p m r. r))
 
 pub returns : goal.returns
 returns c =

@@ -1,5 +1,6 @@
 -- `type_text` meets its contract: misspelled, or what the question gives.
 use Rattle.std.proofs.Common.{arith, length-take-le, sym}
+use Rattle.answers.specs.Answer.{answer_of}
 use Rattle.typed.proofs.Typing.{question_few, text_misspelled_lem, text_read}
 use Rattle.typed.proofs.type_text.Goals as goal
 
@@ -7,21 +8,20 @@ pub read_text-requires : goal.read_text-requires
 read_text-requires c = c.requires.0
 
 pub slice_bounds-give_question-end : goal.slice_bounds-give_question-end
-slice_bounds-give_question-end c = (rw c.in-Read.is at c.read_text.ensures).front.inside
+slice_bounds-give_question-end c = c.in-Some.ensures.front.inside
 
-pub slice_bounds-give_question-end-in-Read : goal.slice_bounds-give_question-end-in-Read
-slice_bounds-give_question-end-in-Read c = sym (length-take-le _ _ (rw c.in-Read.is at c.read_text.ensures).front.inside)
+pub slice_bounds-give_question-end-in-Some : goal.slice_bounds-give_question-end-in-Some
+slice_bounds-give_question-end-in-Some c = sym (length-take-le _ _ c.in-Some.ensures.front.inside)
 
 pub give_question-requires : goal.give_question-requires
-give_question-requires c = question_few (rw c.in-Read.is at c.read_text.ensures) (omega (arith, c.read_text.auto, c.requires))
+give_question-requires c = question_few c.in-Some.ensures (omega (arith, c.read_text.auto, c.requires))
 
-pub returns-in-Misspelled : goal.returns-in-Misspelled
-returns-in-Misspelled c =
+pub returns-in-None : goal.returns-in-None
+returns-in-None c =
     let a = c.args in
-    text_misspelled_lem a.tags.now a.text.now a.output.now (rw c.in-Misspelled.is at c.read_text.ensures)
+    text_misspelled_lem a.tags.now a.text.now a.output.now c.in-None.ensures
 
-pub returns-in-Read : goal.returns-in-Read
-returns-in-Read c =
+pub returns-in-Some : goal.returns-in-Some
+returns-in-Some c =
     let a = c.args in
-    let give-question = c.give_question in
-    text_read a.tags.now a.text.now a.output.now give-question.result _ (rw c.in-Read.is at c.read_text.ensures) give-question.ensures
+    text_read a.tags.now a.text.now a.output.now (answer_of c.give_question.result) _ c.in-Some.ensures c.give_question.ensures

@@ -1,4 +1,4 @@
--- `half_at` meets its contract: the sum of the four bytes at their weights is the half.
+-- `half_at` meets its contract: std's number of four bytes is the half.
 use Rattle.std.proofs.Common.{arith}
 use Rattle.words.proofs.WordLaws.{word_four}
 use Rattle.words.proofs.half_at.Goals as goal

@@ -1,28 +1,15 @@
--- `put_word` meets its contract: its eight stores are those of `word_put`.
+-- `put_word` meets its contract: the eight bytes stand in their place, as in `word_put`.
 use Rattle.bitmaps.proofs.Words.{word_put}
-use Rattle.std.proofs.Common.{arith, length-set}
+use Rattle.std.proofs.Common.{arith, ◌≡◌}
+use Rattle.std.specs.Int.{w64, to_le_bytes}
 use Rattle.bitmaps.proofs.word.put_word.Goals as goal
 
-pub bounds-table-at-2 : goal.bounds-table-at-2
-bounds-table-at-2 c = simp length-set (omega arith)
-
-pub bounds-table-at-3 : goal.bounds-table-at-3
-bounds-table-at-3 c = simp length-set (omega arith)
-
-pub bounds-table-at-4 : goal.bounds-table-at-4
-bounds-table-at-4 c = simp length-set (omega arith)
-
-pub bounds-table-at-5 : goal.bounds-table-at-5
-bounds-table-at-5 c = simp length-set (omega arith)
-
-pub bounds-table-at-6 : goal.bounds-table-at-6
-bounds-table-at-6 c = simp length-set (omega arith)
-
-pub bounds-table-at-7 : goal.bounds-table-at-7
-bounds-table-at-7 c = simp length-set (omega arith)
-
-pub bounds-table-at-8 : goal.bounds-table-at-8
-bounds-table-at-8 c = simp length-set (omega arith)
+-- written out, so that a word one place further is refused for it
+pub slice_bounds-copy_from_slice-end : goal.slice_bounds-copy_from_slice-end
+slice_bounds-copy_from_slice-end c = omega arith
 
 pub returns : goal.returns
-returns c = word_put c.args.table.now c.args.at c.args.x c.requires
+returns c =
+    let a = c.args in
+    let word : c.copy_from_slice.new.self ≡ to_le_bytes w64 a.x = cc in
+    rw word (word_put a.table.now a.at a.x _ (omega arith) c.requires)

@@ -5,18 +5,15 @@ use Rattle.blocks.proofs.group.pass_group.Goals as goal
 
 pub returns-then-settled-eq0 : goal.returns-then-settled-eq0
 returns-then-settled-eq0 c =
-    let i = c in
-    let a = i.args in
-    let s = i.settled_rows-settled in
+    let a = c.args in
+    let s = c.settled_rows-settled in
     unchanged_passed (record { settling = a.settling; first = a.a; count = a.e - a.a }) a.active a.met s.result a.live.now s.ensures
-    c.still_active.result i.if-settled-eq0.true c.still_active.ensures
+    c.still_active.result c.if-settled-eq0.true c.still_active.ensures
 
 pub returns : goal.returns
 returns c =
-    let b = c in
-    let k = b in
-    let a = k.args in
-    let s = k.settled_rows-settled in
-    let t = b.take_out-left in
+    let a = c.args in
+    let s = c.settled_rows-settled in
+    let t = c.take_out-left in
     group_passed (record { settling = a.settling; first = a.a; count = a.e - a.a }) a.active a.met s.result a.live.now s.ensures
     t.result c.minus.result t.new.live t.ensures c.minus.ensures

@@ -1,24 +1,17 @@
--- `take_out` meets its contract. Invariant: the words before c are worked.
+-- `take_out` meets its contract: the next word loses its rows, and at the end the words stand where they stood.
 use Rattle.blocks.proofs.Groups.{none_out, out_end, out_next}
-use Rattle.std.proofs.Common.{arith}
-use Rattle.std.specs.Prelude.{refl}
+use Rattle.std.proofs.Common.{arith, ◌≡◌, ◌-◌}
 use Rattle.blocks.proofs.group.take_out.Goals as goal
 
-pub loop-c-init : goal.loop-c-init
-loop-c-init c = let a = c.args in (omega arith, omega arith, none_out a.a a.a a.gone a.live.now refl)
+pub loop-rows-init : goal.loop-rows-init
+loop-rows-init c = none_out _ _
 
-pub loop-c-preserved : goal.loop-c-preserved
-loop-c-preserved c =
-    let a = c.args in
-    let l = c.loop-c in
-    let s = l.invariant.2.size in
-    (omega arith, omega arith, out_next a.a l.c a.gone l.left c.minus-rest.result a.live.now l.live l.invariant.0 (omega arith) c.minus-rest.ensures l.invariant.2)
-
-pub shape_of-live : goal.shape_of-live
-shape_of-live c = c.loop-c.invariant.2.size
+pub loop-rows-preserved : goal.loop-rows-preserved
+loop-rows-preserved c = let l = c.loop-rows in out_next l.rows-index c.args.gone l.left c.minus.result _ l.rows-items (omega arith) c.minus.ensures l.invariant
 
 pub returns : goal.returns
 returns c =
     let a = c.args in
-    let l = c.loop-c in
-    out_end a.a l.c a.e a.gone l.left a.live.now l.live (omega arith) l.invariant.2
+    let s = c.loop-rows.invariant.size in
+    let all : c.loop-rows.rows-index ≡ a.e - a.a = omega arith in
+    out_end a.a (a.e - a.a) a.gone c.loop-rows.left a.live.now c.loop-rows.rows-items (omega arith) (rw all at c.loop-rows.invariant)

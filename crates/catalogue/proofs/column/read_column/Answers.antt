@@ -1,55 +1,55 @@
 -- `read_column` meets its contract: each return is the case of `column_of` that its tests choose.
 use Rattle.catalogue.specs.Decode.{column_of}
-use Rattle.catalogue.specs.Format.{text_tag}
+use Rattle.catalogue.specs.Format.{number_tag, text_tag}
 use Rattle.fields.proofs.Tests.{tests}
-use Rattle.std.proofs.Common.{arith, sym, ◌∙◌}
+use Rattle.std.proofs.Common.{arith, refl, sym}
+use Rattle.std.proofs.lemmas.Result.{err_from_is_err_and}
+use Rattle.std.specs.Prelude.{◌≡◌}
 use borrow.Author.Tests.{ne_eqb}
+use Rattle.catalogue.specs.declared.refusal.Refusal.TheVariants as refusal
 use Rattle.catalogue.proofs.column.read_column.Goals as goal
+use Rattle.catalogue.proofs.column.read_column.Goals.{else-tag-eq-NUMBER_TAG-via-then-tag-eq-NUMBER_TAG+else-size-rows, else-tag-eq-NUMBER_TAG-via-else-tag-eq-NUMBER_TAG, then-tag-ne-TEXT_TAG-via-then-tag-ne-TEXT_TAG, then-tag-ne-TEXT_TAG-via-else-tag-ne-TEXT_TAG+then-size-rows-2}
 
-pub overflow_sub-end : goal.overflow_sub-end
-overflow_sub-end c = let o = rw c.in-Field.is at c.read_header.ensures.1 in omega (arith, o)
-
-pub returns-then-end-start : goal.returns-then-end-start
+pub returns-in_err-tag : goal.returns-in_err-tag
 unfolding column_of
-returns-then-end-start c = let o = rw c.in-Field.is at c.read_header.ensures.1 in (search (tests, ← c.read_header.ensures.0, c.in-Field.is), omega (arith, o))
+returns-in_err-tag c =
+    let read = rw c.in_err-tag.ensures.ok_part at c.read_header.ensures in
+    let cut : c.in_err-tag.field-0.0 ≡ refusal.FieldCut = grind arith in
+    let p = err_from_is_err_and c.from_residual.result c.from_residual.ensures.1 in
+    rw (p.1, p.2, ← read.0, cut) (refl, tt)
 
-pub returns-then-tag-eq-NUMBER_TAG : goal.returns-then-tag-eq-NUMBER_TAG
+pub returns-then-size-rows : goal.returns-then-size-rows
 unfolding column_of
-returns-then-tag-eq-NUMBER_TAG c =
-    let k = c in
-    let other = ne_eqb k.in-Field.tag text_tag (λ e. omega arith) in
-    (search (tests, ← k.read_header.ensures.0, k.in-Field.is, other), omega arith)
+returns-then-size-rows c =
+    let read = rw c.in_ok-tag.ensures.ok_part at c.read_header.ensures in
+    (search (tests, ← read.0), omega (arith, read.1))
 
-pub overflow_sub-end-then-tag-eq-TEXT_TAG : goal.overflow_sub-end-then-tag-eq-TEXT_TAG
-overflow_sub-end-then-tag-eq-TEXT_TAG c = let o = rw c.in-Field.is at c.read_header.ensures.1 in omega (arith, o)
-
-pub slots_are_valid-requires : goal.slots_are_valid-requires
-slots_are_valid-requires c =
-    let r = c in
-    let o = rw c.in-Field.is at r.read_header.ensures.1 in
-    (r.requires.0, omega (arith, o))
-
-pub returns-then-slots_are_valid : goal.returns-then-slots_are_valid
+pub returns-then-tag-ne-TEXT_TAG : goal.returns-then-tag-ne-TEXT_TAG
 unfolding column_of
-returns-then-slots_are_valid c =
-    let read = c.read_header.ensures in
-    let field = c.in-Field.is in
-    let o = rw field at read.1 in
-    let g = sym c.slots_are_valid.ensures ∙ c.if-slots_are_valid.true in
-    (search (tests, ← read.0, field, g), (omega (arith, o), omega (arith, o), g))
+returns-then-tag-ne-TEXT_TAG c =
+    let read = rw c.in_ok-tag.ensures.ok_part at c.read_header.ensures in (
+      elim c.else-tag-eq-NUMBER_TAG.branch [
+        | else-tag-eq-NUMBER_TAG-via-then-tag-eq-NUMBER_TAG+else-size-rows w ↦
+            let other = ne_eqb c.in_ok-tag.field-0.tag text_tag (λ e. omega arith) in search (tests, ← read.0, other)
+        | else-tag-eq-NUMBER_TAG-via-else-tag-eq-NUMBER_TAG w ↦
+            elim c.then-tag-ne-TEXT_TAG.branch [
+              | then-tag-ne-TEXT_TAG-via-then-tag-ne-TEXT_TAG v ↦ search (tests, ← read.0)
+              | then-tag-ne-TEXT_TAG-via-else-tag-ne-TEXT_TAG+then-size-rows-2 v ↦ search (tests, ← read.0)
+            ]
+      ],
+      tt,
+    )
 
-pub returns-then-end-start-2 : goal.returns-then-end-start-2
+pub returns-then-not-slots_are_valid : goal.returns-then-not-slots_are_valid
 unfolding column_of
-returns-then-end-start-2 c = let g = sym c.slots_are_valid.ensures ∙ c.if-slots_are_valid.false in (search (tests, ← c.read_header.ensures.0, c.in-Field.is, g), omega arith)
+returns-then-not-slots_are_valid c =
+    let read = rw c.in_ok-tag.ensures.ok_part at c.read_header.ensures in
+    let other = ne_eqb c.in_ok-tag.field-0.tag number_tag (λ e. omega arith) in
+    (search (tests, ← read.0, other, ← c.if-not-slots_are_valid.ensures), tt)
 
-pub returns-then-tag-eq-TEXT_TAG : goal.returns-then-tag-eq-TEXT_TAG
+pub returns : goal.returns
 unfolding column_of
-returns-then-tag-eq-TEXT_TAG c = (search (tests, ← c.read_header.ensures.0, c.in-Field.is), omega arith)
-
-pub returns-in-Cut : goal.returns-in-Cut
-unfolding column_of
-returns-in-Cut c = (search (tests, ← c.read_header.ensures.0, c.in-Cut.is), omega arith)
-
-pub returns-else-tag-eq-TEXT_TAG : goal.returns-else-tag-eq-TEXT_TAG
-unfolding column_of
-returns-else-tag-eq-TEXT_TAG c = (search (tests, ← c.read_header.ensures.0, c.in-Field.is), omega arith)
+returns c =
+    let read = rw c.in_ok-tag.ensures.ok_part at c.read_header.ensures in
+    let other = ne_eqb c.in_ok-tag.field-0.tag number_tag (λ e. omega arith) in
+    (search (tests, ← read.0, other, ← c.if-not-slots_are_valid.ensures), (omega (arith, read.1), omega (arith, read.1), sym c.if-not-slots_are_valid.ensures))

@@ -4,23 +4,8 @@ use Rattle.std.proofs.Common.{arith}
 use Rattle.std.specs.Prelude.{refl}
 use Rattle.catalogue.proofs.column.text_at.Goals as goal
 
-pub overflow_mul-at : goal.overflow_mul-at
-overflow_mul-at c = omega (arith, has_text _ _ _ c.requires)
-
-pub overflow_add-at : goal.overflow_add-at
-overflow_add-at c = omega (arith, has_text _ _ _ c.requires)
-
-pub bounds-b-at : goal.bounds-b-at
-bounds-b-at c = omega (arith, has_text _ _ _ c.requires)
-
-pub overflow_add-from : goal.overflow_add-from
-overflow_add-from c = omega (arith, has_text _ _ _ c.requires, c.widen-size.ensures)
-
-pub overflow_add-to : goal.overflow_add-to
-overflow_add-to c = omega (arith, has_text _ _ _ c.requires, c.widen-size.ensures)
-
 pub slice_bounds-result-end : goal.slice_bounds-result-end
-slice_bounds-result-end c = omega (arith, has_text _ _ _ c.requires, c.widen-size.ensures)
+slice_bounds-result-end c = omega (arith, has_text _ _ _ c.requires)
 
 pub returns : goal.returns
-returns c = text_is _ _ _ _ _ refl c.widen-size.ensures.0
+returns c = text_is _ _ _ _ _ refl c.from-size.ensures

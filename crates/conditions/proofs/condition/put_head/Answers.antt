@@ -7,18 +7,11 @@ use Rattle.conditions.proofs.condition.put_head.Goals as goal
 
 pub put-requires : goal.put-requires
 unfolding bytes_of
-put-requires c =
-    let put-header = c.put_header-payload in
-    let pre = c.requires in
-    omega (arith, pre, put-header.ensures.place, put-header.auto.out)
+put-requires c = omega (arith, c.requires, c.put_header-payload.ensures.place, c.put_header-payload.auto.out)
 
 pub returns : goal.returns
 unfolding bytes_of
 returns c =
-    let put = c.put in
-    let put-header = c.put_header-payload in
-    let b = c in
-    let pre = b.requires in
-    let header = put-header in
     let a = c.args in
-    wrote_same (head_written a.size a.column a.kind) (wrote_then (omega (arith, pre, header.ensures.place)) header.ensures put.ensures)
+    let header = c.put_header-payload.ensures in
+    wrote_same (head_written a.size a.column a.kind) (wrote_then (omega (arith, c.requires, header.place)) header c.put.ensures)

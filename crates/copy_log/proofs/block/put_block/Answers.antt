@@ -1,50 +1,22 @@
--- `put_block` meets its contract. Invariant: the fields of the rows passed are written.
+-- `put_block` meets its contract: both tables are gathered, then the fields of one row more are written.
 use Rattle.bitmaps.proofs.TableLaws.{zeros}
 use Rattle.bitmaps.specs.Word.{block_rows}
-use Rattle.copy_log.proofs.BlockLoop.{block_next, block_start, due_turns, row_room}
-use Rattle.std.proofs.Common.{arith}
-use Rattle.std.specs.Prelude.{refl, ◌≡◌}
+use Rattle.copy_log.proofs.BlockLoop.{block_next, block_start, row_room}
+use Rattle.std.proofs.Common.{arith, refl}
 use Rattle.copy_log.proofs.block.put_block.Goals as goal
 
-pub gather-requires : goal.gather-requires
-gather-requires c =
-    let p = c.requires.has_lines in
-    record { has_lines = (p.0, p.2); gathered_len = (refl, zeros block_rows) }
+pub gather-requires-clause-gathered_len : goal.gather-requires-clause-gathered_len
+gather-requires-clause-gathered_len c = (refl, zeros block_rows)
 
-pub gather-requires-2 : goal.gather-requires-2
-gather-requires-2 c =
-    let p = c.requires.has_lines in
-    record { has_lines = (p.1, p.2); gathered_len = (refl, zeros block_rows) }
+pub gather-requires-2-clause-gathered_len : goal.gather-requires-2-clause-gathered_len
+gather-requires-2-clause-gathered_len c = (refl, zeros block_rows)
 
 pub loop-d-init : goal.loop-d-init
-loop-d-init c =
-    let a = c.args in
-    (omega arith, block_start a.turns.now a.probed.now a.met.now a.blanks.now a.base a.at a.out.now)
+loop-d-init c = block_start _ _ _ _ _ _ _
 
-pub put_row-end-requires : goal.put_row-end-requires
-put_row-end-requires c =
-    let l = c in
-    let h = l in
-    let g = h in
-    let s = g in
-    let i = l.loop-d.invariant.1 in
-    record { has_turns = due_turns i g.gather.ensures h.gather-2.ensures (omega arith); blank_in_bounds = row_room i g.gather.ensures h.gather-2.ensures (omega arith) (omega arith) s.requires.count_in_bounds }
+pub put_row-end-requires-clause-blank_in_bounds : goal.put_row-end-requires-clause-blank_in_bounds
+put_row-end-requires-clause-blank_in_bounds c = row_room c.loop-d.invariant c.gather.ensures c.gather-2.ensures (omega arith) (omega arith) c.requires.count_in_bounds
 
 pub loop-d-preserved : goal.loop-d-preserved
 loop-d-preserved c =
-    let p = c in
-    let l = p in
-    let h = l in
-    let g = h in
-    let s = g in
-    (omega arith, block_next l.loop-d.invariant.1 g.gather.ensures h.gather-2.ensures (omega arith) (omega arith) s.requires.count_in_bounds (omega arith) p.put_row-end.ensures)
-
-pub shape_of-out : goal.shape_of-out
-shape_of-out c = c.loop-d.invariant.1.size
-
-pub returns : goal.returns
-returns c =
-    let l = c in
-    let a = l.args in
-    let e : l.loop-d.d ≡ a.count = omega arith in
-    rw e at l.loop-d.invariant.1.wrote
+    block_next c.loop-d.invariant c.gather.ensures c.gather-2.ensures (omega arith) (omega arith) c.requires.count_in_bounds (omega arith) c.put_row-end.ensures

@@ -1,10 +1,6 @@
 -- `put_block` meets its contract. Invariant: the fields of the rows passed are written.
 use Rattle.copy_log.proofs.BlockLoop.{BlockLoop}
-use Rattle.std.specs.Prelude.{◌-◌, ◌≤◌}
 use Rattle.copy_log.proofs.block.put_block.Given as goal
 
 abbrev pub invariant-loop-d : goal.invariant-loop-d
-invariant-loop-d l = (l.d ≤ l.count) × BlockLoop l.turns l.probed l.met l.blanks l.base l.at l.initial.out l.d l.end l.out
-
-abbrev pub decreases-loop-d : goal.decreases-loop-d
-decreases-loop-d l = l.count - l.d
+invariant-loop-d l = BlockLoop l.turns l.probed l.met l.blanks l.base l.at l.initial.out l.d l.end l.out

@@ -1,28 +1,21 @@
 -- `count_ones` meets its contract. Invariant: the sum and the ones of what is left are the ones of the table.
 use Rattle.bitmaps.specs.Bitmap.{ones_in}
 use Rattle.counts.proofs.WordOnes.{word_next}
-use Rattle.fields.proofs.Parts.{part_rest}
-use Rattle.std.proofs.Common.{ap, arith, length-drop}
+use Rattle.std.proofs.Common.{ap, arith, ◌∙◌, ◌≡◌, ◌/◌, length, List, [], ℕ, get_or}
 use Rattle.std.specs.Int.Count.{ones}
-use Rattle.std.specs.Prelude.{length}
-use borrow.Author.Rules.{rules}
+use Rattle.words.specs.Words.{word_at}
 use Rattle.counts.proofs.ones.count_ones.Goals as goal
 
-pub loop-i-preserved : goal.loop-i-preserved
-loop-i-preserved c =
-    let l = c.loop-i in
-    let k = c.shared_slice_known-1.given in
+pub loop-word-preserved : goal.loop-word-preserved
+loop-word-preserved c =
     let t = c.args.table.now in
-    (search rules, search rules, omega (arith, ap ones c.word_at.ensures, word_next t (λ j. (k j).fits) l.i (omega arith)))
-
-pub overflow_add-result : goal.overflow_add-result
-overflow_add-result c =
-    let t = c.args.table.now in
-    let i = c.loop-i.i in
-    omega (arith, ap length (part_rest t i), length-drop i t)
+    let i = c.loop-word.word-index in
+    let e = ap ones c.word_at.ensures ∙ ap (λ (words : List (List ℕ)). ones (word_at (get_or words i []) 0 8)) c.as_chunks.ensures.front in
+    (omega arith, omega arith, omega (arith, e, word_next t (λ j. (c.type_inv.table j).fits) (length t / 8) i (omega arith) (omega arith)))
 
 pub returns : goal.returns
 returns c =
     let t = c.args.table.now in
-    let i = c.loop-i.i in
-    (omega (arith, ap ones_in (part_rest t i)), omega (arith, ap length (part_rest t i), length-drop i t))
+    let e : c.loop-word.word-index ≡ length t / 8 = omega arith in
+    let h = rw e at c.loop-word.invariant.2 in
+    (omega (arith, h, ap ones_in c.as_chunks.ensures.back), omega arith)

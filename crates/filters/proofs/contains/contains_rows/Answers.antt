@@ -6,24 +6,20 @@ use Rattle.std.proofs.Common.{ap, arith, sym, ◌∙◌}
 use Rattle.filters.proofs.contains.contains_rows.Goals as goal
 
 pub windows_rows-tight-requires : goal.windows_rows-tight-requires
-windows_rows-tight-requires c = let k = c.pair_of-k.ensures in (c.requires.1, rw k.pair_is (near_gap k.reach))
+windows_rows-tight-requires c = let k = c.pair_of-k.ensures in (c.requires.0, rw k.pair_is (near_gap k.reach))
 
 pub returns-then-k : goal.returns-then-k
 returns-then-k c =
-    let w = c in
-    let k = w.pair_of-k.ensures in
-    let s = w in
-    let a = s.args in
-    let h = s.requires in
-    pair_or_non_ascii_sifts a.b.now (λ i. omega (arith, s.shared_slice_known-2-1.given i)) _ _ a.operand.now _ h.1 h.2 _ _ k.reach _ _
-    (rw k.pair_is at w.windows_rows-tight.ensures) c.non_ascii_rows.ensures
+    let k = c.pair_of-k.ensures in
+    let a = c.args in
+    let h = c.requires in
+    pair_or_non_ascii_sifts a.b.now (λ i. omega (arith, c.type_inv.b i)) _ _ a.operand.now _ h.0 h.1 _ _ k.reach _ _
+    (rw k.pair_is at c.windows_rows-tight.ensures) c.non_ascii_rows.ensures
 
 pub returns : goal.returns
 returns c =
-    let w = c in
-    let k = w.pair_of-k.ensures in
-    let s = w in
-    let a = s.args in
-    let h = s.requires in
-    pair_sifts a.b.now (λ i. omega (arith, s.shared_slice_known-2-1.given i)) _ _ a.operand.now _ h.1 h.2 _ _ k.reach _
-    (sym (ap (λ (p : Pair). p.loose) k.pair_is) ∙ c.if-k.false) (rw k.pair_is at w.windows_rows-tight.ensures)
+    let k = c.pair_of-k.ensures in
+    let a = c.args in
+    let h = c.requires in
+    pair_sifts a.b.now (λ i. omega (arith, c.type_inv.b i)) _ _ a.operand.now _ h.0 h.1 _ _ k.reach _
+    (sym (ap (λ (p : Pair). p.loose) k.pair_is) ∙ c.if-k.false) (rw k.pair_is at c.windows_rows-tight.ensures)

@@ -2,11 +2,7 @@
 use Rattle.std.proofs.Common.{arith}
 use Rattle.filters.proofs.pair.second_place.Goals as goal
 
-pub returns-then-not-folds_to_loose : goal.returns-then-not-folds_to_loose
-returns-then-not-folds_to_loose c =
-    let l = c in
-    let r = l.last_place-last.ensures in
-    record { after = omega arith; inside = omega (arith, r.inside, l.loop-j.invariant); near = omega (arith, r.near, l.loop-j.invariant) }
-
-pub returns : goal.returns
-returns c = c.last_place-last.ensures
+pub returns-then-not-is_loose : goal.returns-then-not-is_loose
+returns-then-not-is_loose c =
+    let r = c.last_place-last.ensures in
+    record { after = omega arith; inside = omega (arith, r.inside); near = omega (arith, r.near) }

@@ -5,18 +5,16 @@ use Rattle.filters.proofs.sift.sift.Goals as goal
 
 pub returns-then-kind-eq-CONTAINS : goal.returns-then-kind-eq-CONTAINS
 returns-then-kind-eq-CONTAINS c =
-    let s = c in
-    let a = s.args in
-    let h = s.requires in
-    contains_sifts a.b.now (λ i. omega (arith, s.shared_slice_known-2-1.given i)) _ _ a.operand.now _ h.1 h.4 _ _ c.if-kind-eq-CONTAINS.true c.contains_rows.ensures
+    let a = c.args in
+    let h = c.requires in
+    contains_sifts a.b.now (λ i. omega (arith, c.type_inv.b i)) _ _ a.operand.now _ h.0 h.3 _ _ c.if-kind-eq-CONTAINS.true c.contains_rows.ensures
 
 pub front_rows-requires : goal.front_rows-requires
-front_rows-requires c = c.requires.1
+front_rows-requires c = c.requires.0
 
 pub returns : goal.returns
 returns c =
     let other = c.if-kind-eq-CONTAINS.false in
-    let s = c in
-    let a = s.args in
-    let h = s.requires in
-    front_sifts a.b.now (λ i. omega (arith, s.shared_slice_known-2-1.given i)) _ _ a.operand.now _ h.1 h.4 _ _ _ c.head_of-k.ensures h.2 (omega arith) c.front_rows.ensures
+    let a = c.args in
+    let h = c.requires in
+    front_sifts a.b.now (λ i. omega (arith, c.type_inv.b i)) _ _ a.operand.now _ h.0 h.3 _ _ _ c.head_of-k.ensures h.1 (omega arith) c.front_rows.ensures

@@ -6,16 +6,16 @@ use Rattle.std.specs.Prelude.{◌≡◌}
 use Rattle.filters.proofs.windows.slot_passes.Goals as goal
 
 pub loop-i-init : goal.loop-i-init
-loop-i-init c = (omega arith, tried_none _, tried_none _)
+loop-i-init c = (tried_none _, tried_none _)
 
 pub loop-i-preserved : goal.loop-i-preserved
 loop-i-preserved c =
-    let l = c.loop-i in
-    (omega arith, tried_next _ l.invariant.1 c.pair_at-front.ensures, tried_next _ l.invariant.2 c.pair_at-back.ensures)
+    let l = c.loop-i.invariant in
+    (tried_next _ l.0 c.pair_at-front.ensures, tried_next _ l.1 c.pair_at-back.ensures)
 
 pub returns : goal.returns
 returns c =
     let a = c.args in
     let l = c.loop-i in
-    let e : l.i ≡ 16 = omega (arith, l.invariant.0) in
-    windows_tried a.b.now a.p a.k (rw e at l.invariant.1) (rw e at l.invariant.2)
+    let e : l.i ≡ 16 = omega arith in
+    windows_tried a.b.now a.p a.k (rw e at l.invariant.0) (rw e at l.invariant.1)

@@ -3,7 +3,4 @@ use Rattle.fronts.proofs.SureLaws.{Asking}
 use Rattle.fronts.proofs.sure.sure_of.Given as goal
 
 abbrev pub invariant-loop-i : goal.invariant-loop-i
-invariant-loop-i l = Asking l.operand l.initial.i l.i l.asked l.value
-
-abbrev pub decreases-loop-i : goal.decreases-loop-i
-decreases-loop-i l = l.i
+invariant-loop-i l = Asking l.operand l.size l.i l.asked l.value

@@ -1,20 +1,8 @@
--- `front_rows` meets its contract: where every row is due, `due` is the whole block.
-use Rattle.sets.specs.Set.{below_set}
-use Rattle.std.proofs.Common.{arith}
-use Rattle.std.specs.Prelude.{◌≡◌}
+-- `front_rows` meets its contract: each due row's head is tested.
 use Rattle.heads.proofs.front.front_rows.Goals as goal
 
-pub below-requires : goal.below-requires
-below-requires c = omega arith
-
-pub all_front-requires : goal.all_front-requires
-all_front-requires c = let e : c.args.due ≡ below_set 64 = omega arith in rw e at c.requires
-
-pub returns-then-due-below : goal.returns-then-due-below
-returns-then-due-below c = let e : c.args.due ≡ below_set 64 = omega arith in rw e c.all_front.ensures
-
-pub due_front-requires : goal.due_front-requires
-due_front-requires c = c.requires
+pub met_where-requires : goal.met_where-requires
+met_where-requires c = c.requires
 
 pub returns : goal.returns
-returns c = c.due_front.ensures
+returns c = c.met_where.ensures _ (λ d p m e. e)

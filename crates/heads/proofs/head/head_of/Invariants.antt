@@ -4,6 +4,3 @@ use Rattle.heads.proofs.head.head_of.Given as goal
 
 abbrev pub invariant-loop-j : goal.invariant-loop-j
 invariant-loop-j l = Heading l.kind l.operand l.j l.left_open l.value
-
-abbrev pub decreases-loop-j : goal.decreases-loop-j
-decreases-loop-j l = l.j

@@ -1,10 +1,7 @@
 -- `read_number` meets its contract. Invariant: what the digits from here on give, the whole gives.
-use Rattle.std.specs.Prelude.{drop, length, ◌-◌, ◌<◌, ◌^◌, ◌≡◌, ◌≤◌}
+use Rattle.std.specs.Prelude.{drop, ◌≡◌, ◌≤◌}
 use Rattle.syntax.specs.Conditions.{more_digits, number_ahead}
 use Rattle.lexer.proofs.number.read_number.Given as goal
 
 abbrev pub invariant-loop-next : goal.invariant-loop-next
-invariant-loop-next l = (l.at < l.next) × (l.next ≤ length l.text) × (l.number ≤ l.limit) × (l.limit < 2 ^ 32) × (number_ahead l.limit (drop l.at l.text) ≡ more_digits l.limit l.number (drop l.next l.text))
-
-abbrev pub decreases-loop-next : goal.decreases-loop-next
-decreases-loop-next l = length l.text - l.next
+invariant-loop-next l = (l.number ≤ l.limit) × (number_ahead l.limit (drop l.at l.text) ≡ more_digits l.limit l.number (drop l.next l.text))

@@ -1,30 +1,27 @@
 -- `read_byte` meets its contract: each path is a law of what stands between quotes.
-use Rattle.lexer.proofs.QuotedBytes.{byte_end, byte_escape, byte_itself, byte_wrong}
-use Rattle.std.proofs.Common.{sym, ◌∙◌}
+use Rattle.lexer.proofs.QuotedBytes.{byte_end, byte_escape, byte_itself, byte_none, byte_wrong}
+use Rattle.std.proofs.Common.{arith, sym}
 use Rattle.lexer.proofs.quoted.read_byte.Goals as goal
 
-pub returns-then-x-eq-END : goal.returns-then-x-eq-END
-returns-then-x-eq-END c = byte_end c.args.text.now c.args.at c.requires c.if-x-eq-END.true
+pub returns-in_err-x : goal.returns-in_err-x
+returns-in_err-x c = rw c.from_residual.ensures (byte_none c.args.text.now c.args.at c.in_err-x.ensures.lookup.3)
 
-pub returns-then-x-eq-ESCAPE : goal.returns-then-x-eq-ESCAPE
-returns-then-x-eq-ESCAPE c =
-    let read-escape = c.read_escape in
-    let a = c.args in
-    let pre = c.requires in
-    byte_escape a.text.now a.at (pre) c.if-x-eq-ESCAPE.true read-escape.result read-escape.ensures
+pub returns-in-34 : goal.returns-in-34
+returns-in-34 c =
+    let found = c.in_ok-x.ensures.lookup in
+    byte_end c.args.text.now c.args.at found.3.0 (found.4 (omega arith) 0) c.in-34.is
 
-pub returns-then-not-is_plain : goal.returns-then-not-is_plain
-returns-then-not-is_plain c =
-    let if2 = c.if-x-eq-ESCAPE in
-    let if1 = c.if-x-eq-END in
-    let a = c.args in
-    let pre = c.requires in
-    byte_wrong a.text.now a.at (pre) if1.false if2.false (sym c.is_plain.ensures ∙ c.if-not-is_plain.true)
+pub returns-in-92 : goal.returns-in-92
+returns-in-92 c =
+    let found = c.in_ok-x.ensures.lookup in
+    byte_escape c.args.text.now c.args.at found.3.0 (found.4 (omega arith) 0) c.in-92.is c.read_escape.result c.read_escape.ensures
 
-pub returns : goal.returns
-returns c =
-    let if2 = c.if-x-eq-ESCAPE in
-    let if1 = c.if-x-eq-END in
-    let a = c.args in
-    let pre = c.requires in
-    byte_itself a.text.now a.at (pre) if1.false if2.false (sym c.is_plain.ensures ∙ c.if-not-is_plain.false)
+pub returns-in_default : goal.returns-in_default
+returns-in_default c =
+    let found = c.in_ok-x.ensures.lookup in
+    byte_itself c.args.text.now c.args.at found.3.0 (found.4 (omega arith) 0) (omega arith) (omega arith) (sym c.if-is_plain.ensures)
+
+pub returns-in_default-2 : goal.returns-in_default-2
+returns-in_default-2 c =
+    let found = c.in_ok-x.ensures.lookup in
+    byte_wrong c.args.text.now c.args.at found.3.0 (found.4 (omega arith) 0) (omega arith) (omega arith) (sym c.if-is_plain.ensures)

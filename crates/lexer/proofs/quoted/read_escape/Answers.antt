@@ -1,49 +1,41 @@
 -- `read_escape` meets its contract: each path is a law of what stands behind a backslash.
-use Rattle.lexer.proofs.QuotedBytes.{escape_byte, escape_cut, escape_high, escape_low, escape_plain}
-use Rattle.std.proofs.Common.{arith, sym, ◌∙◌}
-use Rattle.std.specs.Prelude.{◌*◌, ◌+◌}
+use Rattle.lexer.proofs.QuotedBytes.{escape_byte, escape_cut, escape_high, escape_low, escape_none, escape_plain}
+use Rattle.std.proofs.Common.{arith, sym}
 use Rattle.lexer.proofs.quoted.read_escape.Goals as goal
 
-pub returns-then-text-at-lt3 : goal.returns-then-text-at-lt3
-returns-then-text-at-lt3 c = escape_cut c.args.text.now c.args.at (omega arith) c.if-text-at-lt3.true
+pub returns-in_err-get : goal.returns-in_err-get
+returns-in_err-get c = rw c.from_residual.ensures (escape_none c.args.text.now c.args.at c.in_err-get.ensures.lookup.3)
 
-pub returns-then-high-eq16 : goal.returns-then-high-eq16
-returns-then-high-eq16 c =
-    let a = c.args in
-    escape_high a.text.now a.at (omega arith) (sym c.hex_value-high.ensures.0 ∙ c.if-high-eq16.true)
+pub returns-in_err-high : goal.returns-in_err-high
+returns-in_err-high c =
+    let first = c.in_ok-get.ensures.lookup in
+    rw c.from_residual-in_err-high.ensures (escape_high c.args.text.now c.args.at first.3.0 (first.4 (omega arith) 0) c.in_err-high.ensures)
 
-pub returns-then-low-eq16 : goal.returns-then-low-eq16
-returns-then-low-eq16 c =
-    let if2 = c.if-high-eq16 in
-    let hex-value = c.hex_value-high in
-    let b = c in
-    let a = b.args in
-    escape_low a.text.now a.at (omega arith) (omega (arith, hex-value.ensures, if2.false)) (sym c.hex_value-low.ensures.0 ∙ c.if-low-eq16.true)
+pub returns-in_err-get-2 : goal.returns-in_err-get-2
+returns-in_err-get-2 c =
+    let first = c.in_ok-get.ensures.lookup in
+    rw c.from_residual-in_err-get-2.ensures (escape_cut c.args.text.now c.args.at first.3.0 (first.4 (omega arith) 0) c.in_err-get-2.ensures.lookup.3)
 
-pub overflow_mul-x : goal.overflow_mul-x
-overflow_mul-x c = omega (arith, c.hex_value-high.ensures, c.if-high-eq16.false)
-
-pub overflow_add-x : goal.overflow_add-x
-overflow_add-x c = omega (arith, c.hex_value-high.ensures, c.if-high-eq16.false, c.hex_value-low.ensures, c.if-low-eq16.false)
+pub returns-in_err-low : goal.returns-in_err-low
+returns-in_err-low c =
+    let first = c.in_ok-get.ensures.lookup in
+    let high = c.in_ok-high.ensures in
+    let second = c.in_ok-get-2.ensures.lookup in
+    rw c.from_residual-in_err-low.ensures
+    (escape_low c.args.text.now c.args.at first.3.0 (first.4 (omega arith) 0) high.0 high.1 second.3.0 (second.4 (omega arith) 0) c.in_err-low.ensures)
 
 pub returns-then-is_plain : goal.returns-then-is_plain
 returns-then-is_plain c =
-    let if3 = c.if-low-eq16 in
-    let hex-value2 = c.hex_value-low in
-    let if2 = c.if-high-eq16 in
-    let hex-value = c.hex_value-high in
-    let b = c in
-    let a = b.args in
-    escape_plain a.text.now a.at (omega arith) (omega (arith, hex-value.ensures, if2.false)) (omega (arith, hex-value2.ensures, if3.false))
-    (hex-value.result * 16 + hex-value2.result) (omega (arith, hex-value.ensures, hex-value2.ensures)) (sym c.is_plain.ensures ∙ c.if-is_plain.true)
+    let first = c.in_ok-get.ensures.lookup in
+    let high = c.in_ok-high.ensures in
+    let second = c.in_ok-get-2.ensures.lookup in
+    let low = c.in_ok-low.ensures in
+    escape_plain c.args.text.now c.args.at first.3.0 (first.4 (omega arith) 0) high.0 high.1 second.3.0 (second.4 (omega arith) 0) low.0 low.1 (sym c.if-is_plain.ensures)
 
 pub returns : goal.returns
 returns c =
-    let if3 = c.if-low-eq16 in
-    let hex-value2 = c.hex_value-low in
-    let if2 = c.if-high-eq16 in
-    let hex-value = c.hex_value-high in
-    let b = c in
-    let a = b.args in
-    escape_byte a.text.now a.at (omega arith) (omega (arith, hex-value.ensures, if2.false)) (omega (arith, hex-value2.ensures, if3.false))
-    (hex-value.result * 16 + hex-value2.result) (omega (arith, hex-value.ensures, hex-value2.ensures)) (sym c.is_plain.ensures ∙ c.if-is_plain.false)
+    let first = c.in_ok-get.ensures.lookup in
+    let high = c.in_ok-high.ensures in
+    let second = c.in_ok-get-2.ensures.lookup in
+    let low = c.in_ok-low.ensures in
+    escape_byte c.args.text.now c.args.at first.3.0 (first.4 (omega arith) 0) high.0 high.1 second.3.0 (second.4 (omega arith) 0) low.0 low.1 (sym c.if-is_plain.ensures)

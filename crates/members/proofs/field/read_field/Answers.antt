@@ -1,33 +1,36 @@
 -- `read_field` meets its contract: each return by the law of its path.
-use Rattle.members.proofs.Paths.{field_conjunction, field_cut_lem, field_disjunction, field_predicate, field_unknown}
+use Rattle.members.proofs.Paths.{field_cut_lem, field_group, field_is_sound, field_predicate, field_unknown}
 use Rattle.query.specs.Format.{depth_of}
 use Rattle.std.proofs.Common.{arith}
+use mathlib.Core.Logic.{inl, inr}
 use Rattle.members.proofs.field.read_field.Goals as goal
 
-pub predicate_field-requires : goal.predicate_field-requires
-predicate_field-requires c = let o = rw c.in-Field.is at c.read_header.ensures.1 in (o.1, omega (arith, o), c.requires.2)
-
-pub returns-then-tag-eq-TAG : goal.returns-then-tag-eq-TAG
-returns-then-tag-eq-TAG c =
+pub returns-in_default-clause-exact : goal.returns-in_default-clause-exact
+returns-in_default-clause-exact c =
     let a = c.args in
-    field_predicate a.tags.now a.q.now a.offsets.now a.at a.end (depth_of a.allowed) a.n _ c.read_header.ensures.0 _ _ _ c.in-Field.is _ c.if-tag-eq-TAG.true c.predicate_field.ensures
+    field_cut_lem a.tags.now a.q.now a.offsets.now a.at a.end (depth_of a.allowed) a.n _ c.read_header.ensures.0 c.in_default.is
 
-pub returns-then-tag-eq-CONJUNCTION_TAG : goal.returns-then-tag-eq-CONJUNCTION_TAG
-returns-then-tag-eq-CONJUNCTION_TAG c =
+pub returns-in-80-clause-exact : goal.returns-in-80-clause-exact
+returns-in-80-clause-exact c =
     let a = c.args in
-    field_conjunction a.tags.now a.q.now a.offsets.now a.at a.end (depth_of a.allowed) a.n _ c.read_header.ensures.0 _ _ _ c.in-Field.is c.if-tag-eq-TAG.false _ c.if-tag-eq-CONJUNCTION_TAG.true c.group_field.ensures
+    field_predicate a.tags.now a.q.now a.offsets.now a.at a.end (depth_of a.allowed) a.n _ c.read_header.ensures.0 _ c.in-Some.is _ c.in-80.is c.predicate_field.ensures
 
-pub returns-then-tag-eq-DISJUNCTION_TAG : goal.returns-then-tag-eq-DISJUNCTION_TAG
-returns-then-tag-eq-DISJUNCTION_TAG c =
+pub returns-in-80-clause-sound : goal.returns-in-80-clause-sound
+returns-in-80-clause-sound c =
     let a = c.args in
-    field_disjunction a.tags.now a.q.now a.offsets.now a.at a.end (depth_of a.allowed) a.n _ c.read_header.ensures.0 _ _ _ c.in-Field.is c.if-tag-eq-TAG.false c.if-tag-eq-CONJUNCTION_TAG.false _ c.if-tag-eq-DISJUNCTION_TAG.true c.group_field-then-tag-eq-DISJUNCTION_TAG.ensures
+    field_is_sound a.tags.now a.q.now a.offsets.now a.at a.end (depth_of a.allowed) a.n _ (returns-in-80-clause-exact c)
 
-pub returns-in-Cut : goal.returns-in-Cut
-returns-in-Cut c =
+pub returns-in-65-clause-exact : goal.returns-in-65-clause-exact
+returns-in-65-clause-exact c =
     let a = c.args in
-    field_cut_lem a.tags.now a.q.now a.offsets.now a.at a.end (depth_of a.allowed) a.n _ c.read_header.ensures.0 c.in-Cut.is
+    field_group a.tags.now a.q.now a.offsets.now a.at a.end (depth_of a.allowed) a.n _ c.read_header.ensures.0 _ c.in-Some.is (λ e. elim c.in-65.is [ inl f ↦ omega arith | inr f ↦ omega arith ]) _ c.in-65.is c.group_field.ensures
 
-pub returns-else-tag-eq-DISJUNCTION_TAG : goal.returns-else-tag-eq-DISJUNCTION_TAG
-returns-else-tag-eq-DISJUNCTION_TAG c =
+pub returns-in-65-clause-sound : goal.returns-in-65-clause-sound
+returns-in-65-clause-sound c =
     let a = c.args in
-    field_unknown a.tags.now a.q.now a.offsets.now a.at a.end (depth_of a.allowed) a.n _ c.read_header.ensures.0 _ _ _ c.in-Field.is c.if-tag-eq-TAG.false c.if-tag-eq-CONJUNCTION_TAG.false c.if-tag-eq-DISJUNCTION_TAG.false
+    field_is_sound a.tags.now a.q.now a.offsets.now a.at a.end (depth_of a.allowed) a.n _ (returns-in-65-clause-exact c)
+
+pub returns-in_default-tag-clause-exact : goal.returns-in_default-tag-clause-exact
+returns-in_default-tag-clause-exact c =
+    let a = c.args in
+    field_unknown a.tags.now a.q.now a.offsets.now a.at a.end (depth_of a.allowed) a.n _ c.read_header.ensures.0 _ c.in-Some.is (λ e. grind arith) (λ e. grind arith) (λ e. grind arith)

@@ -5,4 +5,4 @@ use Rattle.members.proofs.repeated.head.Goals as goal
 
 pub returns : goal.returns
 unfolding word_at
-returns c = omega (arith, c.widen.ensures.0, c.widen-2.ensures.0)
+returns c = omega (arith, c.from.ensures, c.from-2.ensures)

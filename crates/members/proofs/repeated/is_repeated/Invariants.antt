@@ -3,8 +3,8 @@ use Rattle.members.proofs.Repeats.{Unlike}
 use Rattle.std.specs.Prelude.{◌≤◌}
 use Rattle.members.proofs.repeated.is_repeated.Given as goal
 
-abbrev pub invariant-loop-left : goal.invariant-loop-left
-invariant-loop-left l = (l.left ≤ l.n) × Unlike l.payload l.q l.offsets l.left l.n
+abbrev pub invariant-loop-c : goal.invariant-loop-c
+invariant-loop-c l = (l.left ≤ l.n) × Unlike l.payload l.q l.offsets l.left l.n
 
-abbrev pub decreases-loop-left : goal.decreases-loop-left
-decreases-loop-left l = l.left
+abbrev pub decreases-loop-c : goal.decreases-loop-c
+decreases-loop-c l = l.left

@@ -6,34 +6,15 @@ pub open_groups-opened-requires : goal.open_groups-opened-requires
 open_groups-opened-requires c = let p = c.requires in (p.0, (p.1.0, c.args.tags.now, p.1.1))
 
 pub read_condition-requires : goal.read_condition-requires
-read_condition-requires c =
-    let open-groups = c.open_groups-opened in
-    let b = c in
-    let pre = b.requires in
-    member_room (pre) open-groups.ensures open-groups.auto.out
+read_condition-requires c = member_room c.requires c.open_groups-opened.ensures c.open_groups-opened.auto.out
 
-pub close_groups-closed-requires : goal.close_groups-closed-requires
-close_groups-closed-requires c =
-    let read-condition = c.read_condition in
-    let b = c in
-    let open-groups = b.open_groups-opened in
-    let pre = b.requires in
-    member_can_close (pre) open-groups.ensures open-groups.auto.out (rw c.in-Read.is at read-condition.ensures) read-condition.auto.out
+pub returns-in_err-condition : goal.returns-in_err-condition
+returns-in_err-condition c =
+    rw c.from_residual.ensures (member_wrong c.requires c.open_groups-opened.ensures c.open_groups-opened.auto.out c.in_err-condition.ensures)
 
-pub returns-in-Wrong : goal.returns-in-Wrong
-returns-in-Wrong c =
-    let read-condition = c.read_condition in
-    let b = c in
-    let open-groups = b.open_groups-opened in
-    let pre = b.requires in
-    member_wrong (pre) open-groups.ensures open-groups.auto.out (rw c.in-Wrong.is at read-condition.ensures)
+pub close_groups-requires : goal.close_groups-requires
+close_groups-requires c =
+    member_can_close c.requires c.open_groups-opened.ensures c.open_groups-opened.auto.out c.in_ok-condition.ensures c.read_condition.auto.out
 
-pub returns-in-Read : goal.returns-in-Read
-returns-in-Read c =
-    let close-groups = c.close_groups-closed in
-    let b = c in
-    let read-condition = b.read_condition in
-    let open-groups = b.open_groups-opened in
-    let b2 = b in
-    let pre = b2.requires in
-    member_read (pre) open-groups.ensures open-groups.auto.out (rw c.in-Read.is at read-condition.ensures) close-groups.ensures
+pub returns : goal.returns
+returns c = member_read c.requires c.open_groups-opened.ensures c.open_groups-opened.auto.out c.in_ok-condition.ensures c.close_groups.ensures

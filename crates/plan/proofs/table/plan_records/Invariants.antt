@@ -1,11 +1,8 @@
 -- The first c predicates are planned.
-use Rattle.std.proofs.Common.{◌-◌, ◌≡◌, ◌≤◌, length}
+use Rattle.std.proofs.Common.{◌≡◌, length}
 use Rattle.records.specs.Table.{record_in}
 use Rattle.plan.specs.Plan.{plan_size, Planned}
 use Rattle.plan.proofs.table.plan_records.Given as goal
 
 abbrev pub invariant-loop-c : goal.invariant-loop-c
-invariant-loop-c l = record { within : l.c ≤ l.n; sized : length l.plan ≡ plan_size; planned : Planned l.tags l.starts (record_in l.table) l.plan l.c }
-
-abbrev pub decreases-loop-c : goal.decreases-loop-c
-decreases-loop-c l = l.n - l.c
+invariant-loop-c l = record { sized : length l.plan ≡ plan_size; planned : Planned l.tags l.starts (record_in l.table) l.plan l.c }

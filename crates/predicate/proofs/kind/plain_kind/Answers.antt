@@ -7,6 +7,6 @@ pub returns-then-kind-lt-OPPOSITE_FROM : goal.returns-then-kind-lt-OPPOSITE_FROM
 unfolding plain_kind
 returns-then-kind-lt-OPPOSITE_FROM c = search tests
 
-pub returns : goal.returns
+pub returns-else-kind-lt-OPPOSITE_FROM : goal.returns-else-kind-lt-OPPOSITE_FROM
 unfolding plain_kind
-returns c = search tests
+returns-else-kind-lt-OPPOSITE_FROM c = search tests

@@ -4,10 +4,10 @@ use Rattle.std.proofs.Common.{sym, ◌∙◌}
 use Rattle.predicate.proofs.row.outcome_at.Goals as goal
 
 pub plain_at-outcome-requires : goal.plain_at-outcome-requires
-plain_at-outcome-requires c = (c.requires.0, c.requires.1, λ e. c.requires.2 (sym c.plain_kind-plain.ensures ∙ e))
+plain_at-outcome-requires c = (c.requires.0, λ e. c.requires.1 (sym c.plain_kind-plain.ensures ∙ e))
 
 pub returns-then-kind-lt-OPPOSITE_FROM : goal.returns-then-kind-lt-OPPOSITE_FROM
 returns-then-kind-lt-OPPOSITE_FROM c = outcome_plain _ _ _ _ _ _ _ c.plain_kind-plain.ensures _ c.plain_at-outcome.ensures c.if-kind-lt-OPPOSITE_FROM.true
 
-pub returns : goal.returns
-returns c = outcome_opposite _ _ _ _ _ _ _ c.plain_kind-plain.ensures _ c.plain_at-outcome.ensures c.if-kind-lt-OPPOSITE_FROM.false _ c.opposite_of.ensures
+pub returns-else-kind-lt-OPPOSITE_FROM : goal.returns-else-kind-lt-OPPOSITE_FROM
+returns-else-kind-lt-OPPOSITE_FROM c = outcome_opposite _ _ _ _ _ _ _ c.plain_kind-plain.ensures _ c.plain_at-outcome.ensures c.if-kind-lt-OPPOSITE_FROM.false _ c.opposite.ensures

@@ -3,29 +3,23 @@ use Rattle.predicate.proofs.OutcomeLaws.{number_blank_lem, number_row, number_te
 use Rattle.predicate.proofs.row.plain_at.Goals as goal
 
 pub number_at-n-requires : goal.number_at-n-requires
-number_at-n-requires c = number_row _ _ _ _ c.if-tag-eq-NUMBER_TAG.true c.requires.1
+number_at-n-requires c = number_row _ _ _ _ c.if-tag-eq-NUMBER_TAG.true c.requires.0
 
 pub returns-then-answers_blank : goal.returns-then-answers_blank
 returns-then-answers_blank c =
-    let a = c in
-    number_blank_lem _ _ _ _ _ _ a.if-tag-eq-NUMBER_TAG.true _ a.number_at-n.ensures a.answers_blank.ensures c.if-answers_blank.true
+    number_blank_lem _ _ _ _ _ _ c.if-tag-eq-NUMBER_TAG.true _ c.number_at-n.ensures c.answers_blank.ensures c.if-answers_blank.true
 
 pub returns-then-tag-eq-NUMBER_TAG : goal.returns-then-tag-eq-NUMBER_TAG
 returns-then-tag-eq-NUMBER_TAG c =
-    let b = c in
-    let a = b in
-    number_tested _ _ _ _ _ _ a.if-tag-eq-NUMBER_TAG.true _ a.number_at-n.ensures a.answers_blank.ensures b.if-answers_blank.false c.yes_if.ensures c.number_test.ensures
+    number_tested _ _ _ _ _ _ c.if-tag-eq-NUMBER_TAG.true _ c.number_at-n.ensures c.answers_blank.ensures c.if-answers_blank.false c.from.ensures c.number_test.ensures
 
 pub text_at-text-requires : goal.text_at-text-requires
-text_at-text-requires c = text_row _ _ _ _ c.if-tag-eq-NUMBER_TAG.false c.requires.1
+text_at-text-requires c = text_row _ _ _ _ c.if-tag-eq-NUMBER_TAG.false c.requires.0
 
 pub returns-then-answers_blank-2 : goal.returns-then-answers_blank-2
 returns-then-answers_blank-2 c =
-    let a = c in
-    text_blank_lem _ _ _ _ _ _ a.if-tag-eq-NUMBER_TAG.false _ a.text_at-text.ensures a.answers_blank-2.ensures c.if-answers_blank-2.true
+    text_blank_lem _ _ _ _ _ _ c.if-tag-eq-NUMBER_TAG.false _ c.text_at-text.ensures (rw c.is_empty.ensures at c.answers_blank-2.ensures) c.if-answers_blank-2.true
 
 pub returns : goal.returns
 returns c =
-    let b = c in
-    let a = b in
-    text_tested _ _ _ _ _ _ a.if-tag-eq-NUMBER_TAG.false _ a.text_at-text.ensures a.answers_blank-2.ensures b.if-answers_blank-2.false c.yes_if-2.ensures c.text_test.ensures
+    text_tested _ _ _ _ _ _ c.if-tag-eq-NUMBER_TAG.false _ c.text_at-text.ensures (rw c.is_empty.ensures at c.answers_blank-2.ensures) c.if-answers_blank-2.false c.from-2.ensures c.text_test.ensures

@@ -1,24 +1,29 @@
 -- `text_test` meets its contract: each return is the case of `text_test` that its tests choose.
+use Rattle.std.proofs.Common.{◌≡◌, arith}
 use Rattle.fields.proofs.Tests.{tests}
 use Rattle.predicate.specs.Meaning.{text_test}
 use Rattle.predicate.proofs.text.text_test.Goals as goal
 
-pub returns-then-kind-eq-EQUALS : goal.returns-then-kind-eq-EQUALS
+pub returns-in-2 : goal.returns-in-2
 unfolding text_test
-returns-then-kind-eq-EQUALS c = search (tests, c.equals.ensures)
+returns-in-2 c = search (tests, c.in-2.is, c.equals.ensures)
 
-pub returns-then-kind-eq-BEGINS : goal.returns-then-kind-eq-BEGINS
+pub returns-in-3 : goal.returns-in-3
 unfolding text_test
-returns-then-kind-eq-BEGINS c = search (tests, c.begins_with.ensures)
+returns-in-3 c = search (tests, c.in-3.is, c.begins_with.ensures)
 
-pub returns-then-kind-eq-CONTAINS : goal.returns-then-kind-eq-CONTAINS
+pub returns-in-4 : goal.returns-in-4
 unfolding text_test
-returns-then-kind-eq-CONTAINS c = search (tests, c.contains.ensures)
+returns-in-4 c = search (tests, c.in-4.is, c.contains.ensures)
 
-pub returns-then-kind-eq-TEXT_BLANK : goal.returns-then-kind-eq-TEXT_BLANK
+pub returns-in-5 : goal.returns-in-5
 unfolding text_test
-returns-then-kind-eq-TEXT_BLANK c = search tests
+returns-in-5 c = search (tests, c.in-5.is, c.is_empty.ensures)
 
-pub returns : goal.returns
+pub returns-in_default : goal.returns-in_default
 unfolding text_test
-returns c = search tests
+returns-in_default c =
+    let e : c.args.kind ≡ 2 → ⊥ = λ x. omega arith in
+    let b : c.args.kind ≡ 3 → ⊥ = λ x. omega arith in
+    let o : c.args.kind ≡ 4 → ⊥ = λ x. omega arith in
+    let t : c.args.kind ≡ 5 → ⊥ = λ x. omega arith in search (tests, e, b, o, t)

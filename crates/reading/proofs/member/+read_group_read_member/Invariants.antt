@@ -10,9 +10,9 @@ decreases-read_group l = 2 * (l.end - l.at) + 1
 abbrev pub decreases-read_member : goal.decreases-read_member
 decreases-read_member l = 2 * (l.end - l.at)
 
-abbrev pub invariant-read_group-loop-p : goal.invariant-read_group-loop-p
-invariant-read_group-loop-p l =
-    InGroup l.tags l.q l.at l.end l.allowed l.n l.p l.m (tables l.initial.offsets l.initial.ancestors) (tables l.offsets l.ancestors)
+abbrev pub invariant-read_group-loop-read : goal.invariant-read_group-loop-read
+invariant-read_group-loop-read l =
+    InGroup l.tags l.q l.at l.end l.allowed l.n l.read.at l.read.n (tables l.initial.offsets l.initial.ancestors) (tables l.offsets l.ancestors)
 
-abbrev pub decreases-read_group-loop-p : goal.decreases-read_group-loop-p
-decreases-read_group-loop-p l = l.end - l.p
+abbrev pub decreases-read_group-loop-read : goal.decreases-read_group-loop-read
+decreases-read_group-loop-read l = l.end - l.read.at

@@ -2,25 +2,27 @@
 use Rattle.reading.proofs.WholeQuery.{whole_accepted, whole_left, whole_refused}
 use Rattle.reading.specs.Tables.{tables}
 use Rattle.std.proofs.Common.{arith}
+use Rattle.std.proofs.lemmas.Result.{err_from_is_err_and}
 use Rattle.reading.proofs.whole.read_query.Goals as goal
 
-pub returns-then-at-q : goal.returns-then-at-q
-returns-then-at-q c =
+pub returns-in_err-read : goal.returns-in_err-read
+returns-in_err-read c =
     let a = c.args in
     let m = c.read_member in
-    whole_left a.tags.now a.q.now (tables a.offsets.now a.ancestors.now) (tables m.new.offsets m.new.ancestors) _ _ (rw c.in-Next.is at m.ensures) c.if-at-q.true
+    let p = err_from_is_err_and c.from_residual.result c.from_residual.ensures.1 in
+    rw (p.1, p.2) (whole_refused a.tags.now a.q.now (tables a.offsets.now a.ancestors.now) (tables m.new.offsets m.new.ancestors) _ c.in_err-read.ensures)
 
-pub returns-in-Refused : goal.returns-in-Refused
-returns-in-Refused c =
+pub returns-then-read-q : goal.returns-then-read-q
+returns-then-read-q c =
     let a = c.args in
     let m = c.read_member in
-    whole_refused a.tags.now a.q.now (tables a.offsets.now a.ancestors.now) (tables m.new.offsets m.new.ancestors) _ (rw c.in-Refused.is at m.ensures)
+    whole_left a.tags.now a.q.now (tables a.offsets.now a.ancestors.now) (tables m.new.offsets m.new.ancestors) _ _ c.in_ok-read.ensures c.if-read-q.true
 
-pub returns-else-at-q : goal.returns-else-at-q
-returns-else-at-q c =
+pub returns : goal.returns
+returns c =
     let a = c.args in
     let m = c.read_member in
     let p = c.requires in
     let k = m.auto in
-    whole_accepted a.tags.now a.q.now (tables a.offsets.now a.ancestors.now) (tables m.new.offsets m.new.ancestors) _ _ (rw c.in-Next.is at m.ensures) c.if-at-q.false
+    whole_accepted a.tags.now a.q.now (tables a.offsets.now a.ancestors.now) (tables m.new.offsets m.new.ancestors) _ _ c.in_ok-read.ensures c.if-read-q.false
     (record { offsets = omega arith; ancestors = omega arith })

@@ -1,5 +1,5 @@
 -- `work_rows` meets its contract. Invariant: of the rows before base the tables hold what they are to hold, and nothing of the others.
-use Rattle.rows.proofs.RowsLoop.{block_in, block_no_marks, block_ready, block_room, blocking_end, blocking_next, blocking_start, rows_left}
+use Rattle.rows.proofs.RowsLoop.{block_in, block_no_marks, block_ready, block_room, blocking_end, blocking_next, blocking_start}
 use Rattle.std.proofs.Common.{arith, sym, ◌∙◌}
 use borrow.Author.Rules.{rules}
 use Rattle.rows.proofs.all.work_rows.Goals as goal
@@ -15,10 +15,9 @@ loop-base-init c = let p = c.requires.has_no_bits in blocking_start c.withdrawn_
 
 pub present_rows-part-requires : goal.present_rows-part-requires
 present_rows-part-requires c =
-    let l = c in
-    let p = l.requires.rows_ready in
+    let p = c.requires.rows_ready in
     let t = c.loop-base-test.true in
-    (l.loop-base.invariant.withdrawn.size, t, (block_in l.loop-base.invariant t p.2 p.3).block)
+    (c.loop-base.invariant.withdrawn.size, t, (block_in c.loop-base.invariant t p.2 p.3).block)
 
 pub work_block-found-requires : goal.work_block-found-requires
 work_block-found-requires c =
@@ -26,28 +25,16 @@ work_block-found-requires c =
     let t = c.loop-base-test.true in
     let p = c.requires.rows_ready in
     let e = c.present_rows-part.ensures in
-    (c.fold_table-fold.ensures, rw e (block_ready l t p), rw e (block_no_marks l t p))
+    (rw e (block_ready l t p), rw e (block_no_marks l t p))
 
 pub put_word-requires : goal.put_word-requires
 put_word-requires c = block_room c.loop-base.invariant c.loop-base-test.true c.requires.rows_ready
 
-pub overflow_add-base : goal.overflow_add-base
-overflow_add-base c =
-    let p = c.requires.rows_ready in
-    let s = p.2.short in
-    let r = p.3.rows in
-    search rules
-
-pub loop-base-smaller : goal.loop-base-smaller
-loop-base-smaller c = rows_left c.loop-base-test.true
-
 pub loop-base-preserved : goal.loop-base-preserved
 loop-base-preserved c =
     let w = c.work_block-found in
-    let n = c in
-    let l = n in
-    blocking_next l.loop-base.invariant l.loop-base-test.true w.result c.put_word.new.table w.new.marks w.auto.marks
-    (rw n.present_rows-part.ensures at w.ensures) c.put_word.ensures
+    blocking_next c.loop-base.invariant c.loop-base-test.true w.result c.put_word.new.table w.new.marks w.auto.marks
+    (rw c.present_rows-part.ensures at w.ensures) c.put_word.ensures
 
 pub shape_of-selected : goal.shape_of-selected
 shape_of-selected c = c.loop-base.invariant.selected_size ∙ sym (search rules)
@@ -57,3 +44,11 @@ shape_of-marks c = c.loop-base.invariant.sized
 
 pub returns : goal.returns
 returns c = blocking_end c.loop-base-test.false c.loop-base.invariant
+
+-- behind the last block
+pub returns-2 : goal.returns-2
+returns-2 c =
+    let w = c.work_block-found in
+    blocking_end (omega arith)
+    (blocking_next c.loop-base.invariant c.loop-base-test.true w.result c.put_word.new.table w.new.marks w.auto.marks
+    (rw c.present_rows-part.ensures at w.ensures) c.put_word.ensures)

@@ -10,7 +10,7 @@ pub loop-left-preserved : goal.loop-left-preserved
 loop-left-preserved c =
     let l = c.loop-left in
     let f = c.first.ensures in
-    change_next l.invariant c.widen-c.result c.widen-c.ensures.0 f c.rest-left.ensures (omega arith) refl
+    change_next l.invariant c.from-c.result c.from-c.ensures f c.rest-left.ensures (omega arith) refl
 
 pub shape_of-live : goal.shape_of-live
 shape_of-live c = c.loop-left.invariant.changed.size

@@ -16,8 +16,7 @@ rest-requires c = omega (arith, c.if-due-eq0.false)
 
 pub fronts_that_pass-requires : goal.fronts_that_pass-requires
 fronts_that_pass-requires c =
-    let p = c.requires in
-    (p.0, p.1, sym c.of_fronts.ensures ∙ c.if-of_fronts.true)
+    (c.requires, sym c.of_fronts.ensures ∙ c.if-of_fronts.true)
 
 pub returns-then-rest-ne0 : goal.returns-then-rest-ne0
 returns-then-rest-ne0 c = c.fronts_that_pass.ensures

@@ -6,9 +6,6 @@ use Rattle.slots.proofs.limits.limit_table.Goals as goal
 pub loop-k-init : goal.loop-k-init
 loop-k-init c = filling_none
 
-pub bounds-table-k : goal.bounds-table-k
-bounds-table-k c = let s = c.loop-k.invariant.size in omega arith
-
 pub loop-k-preserved : goal.loop-k-preserved
 loop-k-preserved c = filling_next c.loop-k.invariant (omega arith)
 

@@ -1,10 +1,6 @@
 -- `limit_table` meets its contract. The invariant: the free entries below k are written.
 use Rattle.slots.proofs.Table.{Filling}
-use Rattle.std.specs.Prelude.{◌-◌}
 use Rattle.slots.proofs.limits.limit_table.Given as goal
 
 abbrev pub invariant-loop-k : goal.invariant-loop-k
 invariant-loop-k l = Filling l.k l.table
-
-abbrev pub decreases-loop-k : goal.decreases-loop-k
-decreases-loop-k l = 256 - l.k

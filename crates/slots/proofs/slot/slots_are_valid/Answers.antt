@@ -11,21 +11,18 @@ loop-left-init c = (omega arith, refl)
 
 pub loop-left-preserved : goal.loop-left-preserved
 loop-left-preserved c =
-    let w = c in
-    let k = w in
-    let l = k in
-    let a = l in
-    let known = l in
-    let first = w.word_at in
+    let a = c.args in
+    let l = c.loop-left in
+    let first = c.word_at in
     let second = c.word_at-in-loop-left-2 in
     let third = c.word_at-in-loop-left-4 in
     let first-limits = c.word_at-in-loop-left in
     let second-limits = c.word_at-in-loop-left-3 in
     let third-limits = c.word_at-in-loop-left-5 in
-    let seen = slot_seen a.args.limits.now a.args.b.now a.requires.0 (λ i. (known.shared_slice_known-1.given i).fits) (λ i. (known.shared_slice_known-2-1.given i).fits) l.loop-left.p k.widen-k.result
-    k.widen-k.ensures.0 first.ensures second.ensures third.ensures first-limits.ensures second-limits.ensures third-limits.ensures in (
+    let seen = slot_seen a.limits.now a.b.now c.requires.0 (λ i. (c.type_inv.limits i).fits) (λ i. (c.type_inv.b i).fits) l.p c.from-k.result
+    c.from-k.ensures first.ensures second.ensures third.ensures first-limits.ensures second-limits.ensures third-limits.ensures in (
       omega arith,
-      slots_next a.args.b.now a.args.at a.args.n l.loop-left.p l.loop-left.left l.loop-left.x l.loop-left.y l.loop-left.z l.loop-left.invariant.1
+      slots_next a.b.now a.at a.n l.p l.left l.x l.y l.z l.invariant.1
           (bit_and first.result first-limits.result) (bit_and second.result second-limits.result) (bit_and third.result third-limits.result) (omega arith) seen,
     )
 

@@ -1,0 +1,6 @@
+-- `last_with_head` meets its contract: none of the predicates from the place on has the head.
+use Rattle.members.specs.Heads.{OtherHeads}
+use Rattle.members.proofs.repeated.last_with_head.Given as goal
+
+abbrev pub invariant-loop-c : goal.invariant-loop-c
+invariant-loop-c l = OtherHeads l.h l.q l.offsets l.c l.n
