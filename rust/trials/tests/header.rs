@@ -24,29 +24,29 @@ const SAME: [(&str, &str); 31] = [
     ("READERS", "Reader::LIMIT"),
     ("COPY_FIELD_BYTES", "ProbeField::SIZE"),
     ("MAX_TYPED", "TypedText::LIMIT"),
-    ("CATALOGUE_FIELD", "Refusal::FIELD_CUT"),
-    ("CATALOGUE_HEADER", "Refusal::NOT_CATALOGUE"),
-    ("CATALOGUE_LIMITS", "Refusal::COUNTS_OUT_OF_RANGE"),
-    ("COLUMN_FORM", "Refusal::NOT_COLUMN"),
-    ("TEXT_SLOT", "Refusal::BAD_SLOT"),
-    ("CATALOGUE_LEFT_OVER", "Refusal::BYTES_LEFT_OVER"),
-    ("QUESTION_FIELD", "Refusal::MEMBER_CUT"),
-    ("UNKNOWN_TAG", "Refusal::UNKNOWN_TAG"),
-    ("EMPTY_GROUP", "Refusal::EMPTY_GROUP"),
-    ("TOO_DEEP", "Refusal::TOO_DEEP"),
-    ("BAD_CONDITION", "Refusal::INVALID_PAYLOAD"),
-    ("TOO_MANY_CONDITIONS", "Refusal::TOO_MANY_PREDICATES"),
-    ("REPEATED_CONDITION", "Refusal::REPEATED_PAYLOAD"),
-    ("QUESTION_LEFT_OVER", "Refusal::BYTES_AFTER_QUERY"),
-    ("BAD_ORDER", "Refusal::NOT_ORDER"),
-    ("SHORT_TABLE", "Refusal::TABLE_TOO_SHORT"),
-    ("BAD_TALLY", "Refusal::TALLY_REFUSED"),
-    ("NO_SUCH_PLACE", "Refusal::NO_SUCH_ROW_OR_PREDICATE"),
-    ("SHORT_OUTPUT", "Refusal::OUTPUT_TOO_SHORT"),
-    ("MISSPELLED", "Refusal::TEXT_MISSPELLED"),
-    ("SHORT_TYPED_OUTPUT", "Refusal::TYPED_OUTPUT_TOO_SHORT"),
-    ("BAD_MARK", "Refusal::BAD_MARK"),
-    ("NO_SUCH_READER", "Refusal::NO_SUCH_READER"),
+    ("CATALOGUE_FIELD", "Refusal::FieldCut"),
+    ("CATALOGUE_HEADER", "Refusal::NotCatalogue"),
+    ("CATALOGUE_LIMITS", "Refusal::CountsOutOfRange"),
+    ("COLUMN_FORM", "Refusal::NotColumn"),
+    ("TEXT_SLOT", "Refusal::BadSlot"),
+    ("CATALOGUE_LEFT_OVER", "Refusal::BytesLeftOver"),
+    ("QUESTION_FIELD", "Refusal::MemberCut"),
+    ("UNKNOWN_TAG", "Refusal::UnknownTag"),
+    ("EMPTY_GROUP", "Refusal::EmptyGroup"),
+    ("TOO_DEEP", "Refusal::TooDeep"),
+    ("BAD_CONDITION", "Refusal::InvalidPayload"),
+    ("TOO_MANY_CONDITIONS", "Refusal::TooManyPredicates"),
+    ("REPEATED_CONDITION", "Refusal::RepeatedPayload"),
+    ("QUESTION_LEFT_OVER", "Refusal::BytesAfterQuery"),
+    ("BAD_ORDER", "Refusal::NotOrder"),
+    ("SHORT_TABLE", "Refusal::TableTooShort"),
+    ("BAD_TALLY", "Refusal::TallyRefused"),
+    ("NO_SUCH_PLACE", "Refusal::NoSuchRowOrPredicate"),
+    ("SHORT_OUTPUT", "Refusal::OutputTooShort"),
+    ("MISSPELLED", "Refusal::TextMisspelled"),
+    ("SHORT_TYPED_OUTPUT", "Refusal::TypedOutputTooShort"),
+    ("BAD_MARK", "Refusal::BadMark"),
+    ("NO_SUCH_READER", "Refusal::NoSuchReader"),
 ];
 
 /// Refusal 19 is the program's, and no call of the library gives it.
@@ -71,10 +71,20 @@ fn constant(line: &str) -> Option<(&str, u64)> {
     Some((name, value.parse().ok()?))
 }
 
-/// The crates' constants, each with the name of its type, as `Row::LIMIT`.
+/// The name and number of a refusal, if this line of a crate gives one, as `Refusal::BadMark => 23,`.
+fn refusal(line: &str) -> Option<(&str, u64)> {
+    let (name, number) = line.trim_start().strip_suffix(',')?.split_once(" => ")?;
+    name.strip_prefix("Refusal::")?;
+    Some((name, number.parse().ok()?))
+}
+
+/// The crates' constants, each with the name of its type, as `Row::LIMIT`, and the numbers of their refusals.
 fn crate_constants() -> Constants {
     let crates = Path::new(env!("CARGO_MANIFEST_DIR")).join("../../crates");
     let mut found = Constants::new();
+    let mut add = |name: String, value| {
+        assert_eq!(*found.entry(name.clone()).or_insert(value), value, "{name} has two values");
+    };
     for folder in fs::read_dir(crates).unwrap() {
         for file in fs::read_dir(folder.unwrap().path().join("src")).unwrap() {
             let mut owner = String::new();
@@ -82,8 +92,9 @@ fn crate_constants() -> Constants {
                 if let Some(of) = line.strip_prefix("impl ") {
                     owner = of.trim_end_matches(" {").to_string();
                 } else if let Some((name, value)) = constant(line) {
-                    let name = format!("{owner}::{name}");
-                    assert_eq!(*found.entry(name.clone()).or_insert(value), value, "{name} has two values");
+                    add(format!("{owner}::{name}"), value);
+                } else if let Some((name, number)) = refusal(line) {
+                    add(name.to_string(), number);
                 }
             }
         }
