@@ -52,6 +52,6 @@ pub fn put_header(out: &mut [u8], at: usize, tag: u8, size: usize) -> usize
     requires { at + header_size ≤ length out.old }
     ensures { Wrote at (header_of tag size) out.old result out.new }
 {
-    let header = [tag, (size / 256 % 256) as u8, (size % 256) as u8];
-    crate::output::put(out, at, &header)
+    let length = ((size % 0x1_0000) as u16).to_be_bytes();
+    crate::output::put(out, at, &[tag, length[0], length[1]])
 }

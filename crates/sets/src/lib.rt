@@ -7,6 +7,9 @@ ghost use Rattle.sets.specs.Set.{has, one_set, below_set, set_minus, set_with};
 ghost use Rattle.sets.specs.Kept.{FirstIs, RestIs, MayAsk, KeptWhere};
 ghost use Rattle.sets.specs.Gathered.{bit_of, HalfWhere};
 
+// `d < 64` stands in `has`, `single` and `with`: no type for such a number, which would take the clause's place, is plainer, since
+// each caller has a byte at hand that it would have to put into one first.
+
 // Is d in the set.
 pub fn has(x: u64, d: u8) -> bool
     requires { d < 64 }
@@ -46,7 +49,7 @@ pub fn with(x: u64, d: u8) -> u64
     x | single(d)
 }
 
-// The lowest number of the set.
+// The lowest number of the set; below 64, so that it fits a byte.
 pub fn first(x: u64) -> u8
     requires { 0 < x }
     ensures { FirstIs x result }
@@ -77,6 +80,9 @@ pub fn kept(test: bool, x: u64) -> u64
 {
     if test { x } else { 0 }
 }
+
+// `MayAsk` stands in `kept_where`, `all_where` and `met_where`: it is what their callers promise of the closure, which no type of
+// theirs could hold, and for every number of a set at once.
 
 // The numbers of a set at which a test passes, lowest first: no branch on what the test answers.
 pub fn kept_where<F: Fn(u8) -> bool>(x: u64, test: F) -> u64
