@@ -1,5 +1,5 @@
 -- The number of four bytes from the number of the same bytes with the least significant first, and where a block's numbers lie.
-use Rattle.std.proofs.Common.{◌≡◌, ℕ, ◌+◌, ◌*◌, ◌/◌, ◌%◌, ◌^◌, ◌<◌, true, eqb, List, get_or, sym, refl, ap, ◌∙◌, ap₂, arith, eq-eqb, eqb-true}
+use Rattle.std.proofs.Common.{◌≡◌, ℕ, ◌+◌, ◌*◌, ◌/◌, ◌%◌, ◌^◌, ◌<◌, true, eqb, List, sym, refl, ap, ◌∙◌, ap₂, arith, eq-eqb, eqb-true}
 use native.Mathlib.Nat.{mod-add-mod, add-mod-mod}
 use lib.Bits.{bit_and, and_mask, and_mod, and_shr}
 use Rattle.bools.specs.Bools.{iff_eq}
