@@ -7,8 +7,8 @@ ghost use Rattle.ancestors.specs.Ancestors.{ancestor_size, ancestors_size, ances
 
 use query::format::{Group, Predicate};
 
-// The table is bytes, three for an ancestor: as values of `Ancestor`, of 24 bytes, it would take 12 KB of a call's stack, not 1.6,
-// and `propagate_rows`, whose contract has it as bytes (`HasAncestors`), would ask for another.
+// The table is bytes, three for an ancestor: as values of `Ancestor`, of 24 bytes, it would take 12 KB of a call's stack,
+// not 1.6, and `propagate_rows`, whose contract has it as bytes (`HasAncestors`), would ask for another.
 #[derive(Drop)]
 pub struct Ancestors;
 

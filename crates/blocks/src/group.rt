@@ -42,8 +42,8 @@ fn settled_rows(settling: bool, active: u64, met: u64) -> u64
     }
 }
 
-// Outward through a group; the rows at which the propagation goes on: the active ones at which nothing of the group is live any
-// more, as where the outcome settles it. Where it settles the group at no row, no word changes.
+// Outward through a group; the rows at which the propagation goes on: the active ones at which nothing of the group is
+// live any more, as where the outcome settles it. Where it settles the group at no row, no word changes.
 pub fn pass_group(live: &mut [u64], group: Ancestor, active: u64, met: u64) -> u64
     requires { group.first + group.count ≤ length live.old }
     ensures { Passed (ancestor_of group) met active result live.old live.new }

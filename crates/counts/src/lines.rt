@@ -60,8 +60,8 @@ fn count_seven_lines(lines: Lines, first: usize) -> u64
     sum + count_each_line(lines, first, 7, words * Word::SIZE)
 }
 
-// The number of ones in lines: in what copy_lines copies of them. That the table is shorter than 2^61 bytes is no part of `Lines`:
-// `copy_lines` does not ask it.
+// The number of ones in lines: in what copy_lines copies of them. That the table is shorter than 2^61 bytes is no part of
+// `Lines`: `copy_lines` does not ask it.
 pub fn count_lines(lines: Lines) -> u64
     requires { length lines.table.now < 2 ^ 61 }
     ensures {
@@ -78,11 +78,10 @@ pub fn count_lines(lines: Lines) -> u64
     sum + count_each_line(lines, c, lines.n - c, 0)
 }
 
-fn whole_words(size: usize) -> usize
-    requires { size ≤ line_size }
-    ensures { result ≡ whole_words size }
+fn whole_words(lines: Lines) -> usize
+    ensures { result ≡ whole_words lines.entry.size }
 {
-    (size + 7) / Word::SIZE * Word::SIZE
+    (lines.size + 7) / Word::SIZE * Word::SIZE
 }
 
 // The same where all bits behind those bytes are zeros: counted to the end of a word, so that no byte is counted by itself.
@@ -96,7 +95,7 @@ pub fn count_whole_lines(lines: Lines) -> u64
     let whole = Lines {
         table: lines.table,
         n: lines.n,
-        size: whole_words(lines.size),
+        size: whole_words(lines),
     };
     count_lines(whole)
 }

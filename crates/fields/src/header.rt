@@ -3,8 +3,8 @@ ghost use Rattle.std.specs.Prelude.{◌≡◌, ◌+◌, ◌≤◌, length};
 ghost use Rattle.fields.specs.Header.{header_size, field_end, header_at, Inside, header_of};
 ghost use Rattle.fields.specs.Output.{Wrote};
 
-// A field, told by its header: the payload is the bytes from start up to end. The tag is any byte: catalogue, question and output
-// have tags of their own, and each reader refuses the others by a number of its own.
+// A field, told by its header: the payload is the bytes from start up to end. The tag is any byte: catalogue, question and
+// output have tags of their own, and each reader refuses the others by a number of its own.
 #[derive(Clone, Copy)]
 pub struct Field {
     pub tag: u8,
@@ -20,7 +20,8 @@ impl Header {
     pub const SIZE: usize = 3;
 }
 
-// The field expected at a place inside an enclosing end; none where it is cut: fewer than three bytes are left, or the length passes the end.
+// The field expected at a place inside an enclosing end; none where it is cut: fewer than three bytes are left, or the
+// length passes the end.
 pub fn read_header(b: &[u8], at: usize, end: usize) -> Option<Field>
     requires { (at ≤ end) × (end ≤ length b.now) }
     ensures { (result ≡ header_at b.now at end) × Inside at end result }
