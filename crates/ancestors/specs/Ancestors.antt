@@ -3,6 +3,7 @@ use Rattle.std.specs.Prelude.{ℕ, zero, suc, ◌+◌, ◌-◌, ◌*◌, ◌≤�
 use Rattle.strategy.specs.Propagation.{Ancestor}
 use Rattle.query.specs.Format.{predicate_limit, depth_limit}
 use Rattle.query.specs.Decode.{settling_of}
+use Rattle.ancestors.specs.declared.Ancestor as read
 
 -- an ancestor is three bytes: its first predicate, the end of its predicates, its tag
 abbrev pub ancestor_size : ℕ
@@ -30,6 +31,10 @@ ancestor_over first end tag = record { settling = settling_of tag; first = first
 -- the ancestor that the three bytes from place i on are
 abbrev pub ancestor_at : (table : List ℕ) → (i : ℕ) → Ancestor
 ancestor_at A i = ancestor_over (get_or A i 0) (get_or A (i + 1) 0) (get_or A (i + 2) 0)
+
+-- an ancestor as the engine reads it
+abbrev pub ancestor_of : read.Ancestor → Ancestor
+ancestor_of a = record { settling = a.settling; first = a.first; count = a.count }
 
 unfoldable pub ancestors_from : (table : List ℕ) → (i n : ℕ) → List Ancestor
 ancestors_from A i zero = []

@@ -2,12 +2,13 @@
 // of each the first predicate, the end of its predicates and its tag.
 #![tactic(auto)]
 
-ghost use Rattle.std.specs.Prelude.{◌+◌, ◌*◌, ◌<◌, ◌≡◌};
-ghost use Rattle.ancestors.specs.Ancestors.{ancestor_size, ancestors_size, Closable, Closed};
+ghost use Rattle.std.specs.Prelude.{◌+◌, ◌*◌, ◌≤◌, ◌<◌, ◌≡◌, length, get_or};
+ghost use Rattle.ancestors.specs.Ancestors.{ancestor_size, ancestors_size, ancestor_of, ancestor_at, Closable, Closed};
 
 use query::format::{Group, Predicate};
 
-// Kept as bytes, with no struct for an ancestor: `read_member` and `propagate_rows`, which are public, are lent it as `&mut [u8]` and `&[u8]`.
+// The table is bytes, three for an ancestor: as values of `Ancestor`, of 24 bytes, it would take 12 KB of a call's stack,
+// not 1.6, and `propagate_rows`, whose contract has it as bytes (`HasAncestors`), would ask for another.
 #[derive(Drop)]
 pub struct Ancestors;
 
@@ -36,11 +37,38 @@ impl Ancestors {
     }
 }
 
+// A group around a predicate: of how many predicates, from which one on, and whether a yes of one settles it.
+#[derive(Clone, Copy, PartialEq, Eq, Debug)]
+pub struct Ancestor {
+    pub settling: bool,
+    pub first: usize,
+    pub count: usize,
+}
+
+impl Ancestor {
+    // The ancestor at place i of the table.
+    pub fn at(table: &[u8], i: usize) -> Ancestor
+        requires inside { i + 2 < length table.now }
+        requires ordered { get_or table.now i 0 ≤ get_or table.now (i + 1) 0 }
+        ensures { ancestor_of result ≡ ancestor_at table.now i }
+    {
+        let first = usize::from(table[i + Ancestors::FIRST]);
+        let end = usize::from(table[i + Ancestors::END]);
+        let tag = table[i + Ancestors::TAG];
+        Ancestor {
+            settling: tag == Group::DISJUNCTION_TAG,
+            first,
+            count: end - first,
+        }
+    }
+}
+
 // Closes the group of the predicates from a up to m: one ancestor more for each of them.
 pub fn close_group(ancestors: &mut [u8], a: usize, m: usize, tag: u8)
     requires { Closable a m ancestors.old }
     ensures { Closed a m m tag ancestors.old ancestors.new }
 {
+    // Both fit a byte: a group ends at predicate 64 (`Predicate::LIMIT`) at the latest.
     let first = a as u8;
     let end = m as u8;
     for c in a..m {

@@ -3,7 +3,7 @@ ghost use Rattle.std.specs.Prelude.{◌≡◌};
 ghost use Rattle.answers.specs.declared.refusal.Refusal.TheVariants.{Catalogue, Question};
 ghost use Rattle.answers.specs.Refusal.{refusal_number};
 
-#[derive(Clone, Copy)]
+#[derive(Clone, Copy, PartialEq, Eq, Debug)]
 pub enum Refusal {
     Catalogue(catalogue::refusal::Refusal),
     Question(query::refusal::Refusal),
@@ -18,7 +18,7 @@ pub enum Refusal {
 }
 
 impl Refusal {
-    // The paper's number.
+    // The number that document 01 gives it, or order 1, 4, 6 or 7.
     pub fn number(self) -> u8
         ensures { result ≡ refusal_number self }
     {

@@ -11,14 +11,23 @@ impl Line {
     pub const SIZE: usize = 256;
 }
 
-// The first bytes of each of the first n lines, to the front of a table, which keeps its further bytes.
-pub fn copy_lines(from: &[u8], to: &mut [u8], n: usize, size: usize)
-    requires { (size ≤ line_size) × (n * line_size ≤ length from.now) × (n * size ≤ length to.old) }
-    ensures { to.new ≡ put_front (lines_of size from.now n) to.old }
+// The first bytes of each of the first n lines of a run's own table.
+#[derive(Clone, Copy)]
+pub struct Lines<'a> {
+    pub table: &'a [u8],
+    pub n: usize,
+    pub size: usize,
+    pub ghost inside: { (size ≤ line_size) × (n * line_size ≤ length table.now) },
+}
+
+// The first bytes of lines, to the front of a table, which keeps its further bytes.
+pub fn copy_lines(from: Lines, to: &mut [u8])
+    requires { from.n * from.size ≤ length to.old }
+    ensures { to.new ≡ put_front (lines_of from.entry.size from.entry.table.now from.entry.n) to.old }
 {
     let mut at = 0;
-    for c in 0..n {
+    for c in 0..from.n {
         let line = c * Line::SIZE;
-        at = fields::output::put(to, at, &from[line..line + size]);
+        at = fields::output::put(to, at, &from.table[line..line + from.size]);
     }
 }

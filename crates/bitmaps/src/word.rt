@@ -12,6 +12,8 @@ impl Word {
 }
 
 // Puts the bits of x into a table from a byte on: document 01's row rule for 64 rows, the least significant byte first.
+// The whole table is lent, with the place: `WordPut` says of its other bits that they stay, which each caller would else
+// prove.
 pub fn put_word(table: &mut [u8], at: usize, x: u64)
     requires { at + word_size ≤ length table.old }
     ensures { WordPut table.old at x table.new }
@@ -19,7 +21,7 @@ pub fn put_word(table: &mut [u8], at: usize, x: u64)
     table[at..at + Word::SIZE].copy_from_slice(&x.to_le_bytes());
 }
 
-// The rows of a block at which so many rows are left.
+// The rows of a block at which so many rows are left: 64 at most, so that their number fits a byte.
 pub fn rows_of(left: usize) -> u64
     ensures { result ≡ rows_set left }
 {

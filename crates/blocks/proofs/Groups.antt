@@ -90,7 +90,10 @@ module _ (c gone left x : ℕ) (L N : List ℕ) (h : c < length N) (e : x ≡ se
     meeting = λ d. has_or left x d ∙ sym (meeting_next d);
   }
 
--- a word of the part of n words from a on
+-- the part of n words from a on: its length, and a word of it
+pub part_length : (a n : ℕ) (L : List ℕ) → a + n ≤ length L → length (take n (drop a L)) ≡ n
+part_length a n L h = simp (length-take, length-drop) (omega arith)
+
 part_word : (a n k : ℕ) (L : List ℕ) → k < n → get_or (take n (drop a L)) k 0 ≡ get_or L (a + k) 0
 part_word a n k L l = grind (arith, common_steps)
 
@@ -100,7 +103,7 @@ module _ (a n gone left : ℕ) (L N : List ℕ) (fits : a + n ≤ length L) (T :
   whole = put_mid a n L N
 
   part_size : length N ≡ n
-  part_size = T.size ∙ simp (length-take, length-drop) (omega arith)
+  part_size = T.size ∙ part_length a n L fits
 
   within : (k : ℕ) → k < n → get_or whole (a + k) 0 ≡ get_or N k 0
   within k l = let s = part_size in grind (arith, common_steps)
@@ -132,14 +135,14 @@ module _ (a n gone left : ℕ) (L N : List ℕ) (fits : a + n ≤ length L) (T :
 
 -- THE SAME WHERE NO ROW IS TAKEN OUT
 
-pub none_yet : (a active : ℕ) (L : List ℕ) → StillActiveIs a 0 active active L
-none_yet a active L d = sym (ap (λ (b : Bool). cond b false (has active d)) (meets_no a 0 (row_live L d) (λ k r. absurd (omega arith))))
+pub none_yet : (active : ℕ) (L : List ℕ) → StillActiveIs 0 0 active active L
+none_yet active L d = sym (ap (λ (b : Bool). cond b false (has active d)) (meets_no 0 0 (row_live L d) (λ k r. absurd (omega arith))))
 
--- one word more, read from the part of all of them
-pub none_next : (a n all active left next : ℕ) (L : List ℕ) → n < all → next ≡ set_minus left (get_or (take all (drop a L)) n 0) → StillActiveIs a n active left L → StillActiveIs a (n + 1) active next L
-none_next a n all active left next L l e T d =
-    ap (λ (z : ℕ). has z d) (e ∙ ap (set_minus left) (part_word a all n L l)) ∙ minus_has left (get_or L (a + n) 0) d ∙ ap (cond (row_live L d (a + n)) false) (T d)
-    ∙ both_out (meets a n (row_live L d)) (row_live L d (a + n)) (has active d) ∙ ap (λ (b : Bool). cond b false (has active d)) (sym (meets_more a n (row_live L d)))
+-- one word more
+pub none_next : (n active left next : ℕ) (L : List ℕ) → next ≡ set_minus left (get_or L n 0) → StillActiveIs 0 n active left L → StillActiveIs 0 (n + 1) active next L
+none_next n active left next L e T d =
+    ap (λ (z : ℕ). has z d) e ∙ minus_has left (get_or L n 0) d ∙ ap (cond (row_live L d n) false) (T d)
+    ∙ both_out (meets 0 n (row_live L d)) (row_live L d n) (has active d) ∙ ap (λ (b : Bool). cond b false (has active d)) (sym (rw zero-add at (meets_more 0 n (row_live L d))))
   where
     both_out : (p q r : Bool) → cond q false (cond p false r) ≡ cond (p || q) false r
     both_out true true r = refl
@@ -163,6 +166,13 @@ none_early a n all active left L h z T d = has_none d ∙ sym (go (meets a n (ro
     go false y =
         let f : has active d ≡ false = sym (T d ∙ ap (λ (b : Bool). cond b false (has active d)) y) ∙ ap (λ (x : ℕ). has x d) z ∙ has_none d in
         ap (cond (meets a all (row_live L d)) false) f ∙ neither (meets a all (row_live L d))
+
+-- and among all words, from a on
+pub none_end : (a n active left : ℕ) (L : List ℕ) → StillActiveIs 0 n active left (take n (drop a L)) → StillActiveIs a n active left L
+none_end a n active left L T d =
+    T d
+    ∙ ap (λ (b : Bool). cond b false (has active d))
+    (meets_same 0 a n (row_live (take n (drop a L)) d) (row_live L d) (λ k l. rw zero-add (ap (λ (x : ℕ). has x d) (part_word a n k L l))))
 
 -- THE ROWS THAT A GROUP SETTLES
 

@@ -3,18 +3,15 @@ ghost use Rattle.std.specs.Prelude.{length};
 ghost use Rattle.ancestors.specs.Ancestors.{ancestor_at, ancestors_of};
 ghost use Rattle.blocks.specs.Block.{HasAncestor, HasAncestors, Passed, Propagated};
 
-use ancestors::Ancestors;
-use query::format::Group;
+use ancestors::{Ancestor, Ancestors};
 
 // Outward through the ancestor at place i of the table; the rows at which the propagation goes on.
 fn pass_ancestor(ancestors: &[u8], i: usize, live: &mut [u64], active: u64, met: u64) -> u64
     requires { HasAncestor ancestors.now i (length live.old) }
     ensures { Passed (ancestor_at ancestors.now i) met active result live.old live.new }
 {
-    let first = usize::from(ancestors[i + Ancestors::FIRST]);
-    let end = usize::from(ancestors[i + Ancestors::END]);
-    let settling = ancestors[i + Ancestors::TAG] == Group::DISJUNCTION_TAG;
-    crate::group::pass_group(live, first, end, settling, active, met)
+    let group = Ancestor::at(ancestors, i);
+    crate::group::pass_group(live, group, active, met)
 }
 
 // Through the groups around predicate c, after its probe at the due rows with the outcome yes at those of met; the rows at

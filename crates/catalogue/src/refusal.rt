@@ -2,7 +2,7 @@
 ghost use Rattle.std.specs.Prelude.{◌≡◌};
 ghost use Rattle.catalogue.specs.Refusal.{refusal_number};
 
-#[derive(Clone, Copy)]
+#[derive(Clone, Copy, PartialEq, Eq, Debug)]
 pub enum Refusal {
     FieldCut,
     NotCatalogue,
@@ -14,7 +14,7 @@ pub enum Refusal {
 }
 
 impl Refusal {
-    // The paper's number.
+    // The number that document 01 gives it, or order 6.
     pub fn number(self) -> u8
         ensures { result ≡ refusal_number self }
     {

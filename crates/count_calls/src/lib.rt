@@ -5,7 +5,7 @@ ghost use Rattle.std.specs.Prelude.{◌≡◌};
 ghost use Rattle.bitmaps.specs.Bitmap.{ones_in};
 ghost use Rattle.count_calls.specs.Counted.{counted, counted_lines};
 
-use bitmaps::copy::Line;
+use bitmaps::copy::{Line, Lines};
 
 // The longest table.
 #[derive(Drop)]
@@ -40,9 +40,9 @@ pub fn searchroom_count_lines(table: &[u8], lines: usize, size: usize) -> u64
     ensures { result ≡ ones_in (counted_lines table.now lines size) }
 {
     let whole = front(table);
-    counts::lines::count_lines(
-        whole,
-        lines.min(whole.len() / Line::SIZE),
-        size.min(Line::SIZE),
-    )
+    counts::lines::count_lines(Lines {
+        table: whole,
+        n: lines.min(whole.len() / Line::SIZE),
+        size: size.min(Line::SIZE),
+    })
 }

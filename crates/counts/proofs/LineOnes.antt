@@ -1,11 +1,11 @@
 -- The ones of lines: of lines cut in two, of lines behind others, and of the words at one place of seven lines.
-use Prim.Native.Nat.{ℕ, ◌+◌, ◌-◌, ◌*◌, ◌^◌, ◌≤◌, ◌<◌}
+use Prim.Native.Nat.{ℕ, ◌+◌, ◌-◌, ◌*◌, ◌≤◌, ◌<◌}
 use native.Mathlib.Nat.{add-zero, add_comm, suc-mul, mul-le-mul_left, add-mul}
 use native.Mathlib.Numerals.{add-one}
 use native.Mathlib.Omega.{arith}
 use mathlib.Core.Path.{◌≡◌, refl, sym, ap, ap₂, ◌∙◌}
 use mathlib.Core.List.{List}
-use lib.ListN.{length, take, drop, length-take, length-drop}
+use lib.ListN.{length, take, drop, length-take}
 use lib.Seq.{take-add, drop-drop}
 use lib.Count.{ones}
 use Rattle.fields.specs.Numbers.{Bytes}
@@ -92,19 +92,16 @@ pub none_passed : (table : List ℕ) (size : ℕ) → LinesPassed table size 0 0
 unfolding lines_of joined ones_in
 none_passed table size = (refl, omega arith)
 
--- line c alone, handed on as a part
-module _ (size : ℕ) (from : List ℕ) (c line next : ℕ) (l : line ≡ c * line_size) (e : next ≡ line + size) where
-  pub count_line : (sum x : ℕ) → sum ≡ ones_in (lines_of size from c) → x ≡ ones_in (take (next - line) (drop line from)) → sum + x ≡ ones_in (lines_of size from (c + 1))
+-- of the lines from place p on line c alone, handed on as a part
+module _ (table : List ℕ) (size p c start end : ℕ) (l : start ≡ p + c * line_size) (e : end ≡ start + size) where
+  pub count_line : (sum x : ℕ) → sum ≡ ones_in (lines_of size (drop p table) c) → x ≡ ones_in (take (end - start) (drop start table)) → sum + x ≡ ones_in (lines_of size (drop p table) (c + 1))
   unfolding lines_of joined
   count_line sum x s k =
-      let z : next - line ≡ size = omega arith in
-      rw (s, k, z, l, add-one c) (sym (ones_append (lines_of size from c) (take size (drop (c * line_size) from))))
+      let z : end - start ≡ size = omega arith in
+      rw (s, k, z, l, ← drop-drop (c * line_size) p table, add-one c) (sym (ones_append (lines_of size (drop p table) c) (take size (drop (c * line_size) (drop p table)))))
 
-  pub part_short : length (take (next - line) (drop line from)) ≤ size
+  pub part_short : length (take (end - start) (drop start table)) ≤ size
   part_short = simp length-take (omega arith)
-
-  pub part_small : length from < 2 ^ 61 → length (take (next - line) (drop line from)) < 2 ^ 61
-  part_small h = simp (length-take, length-drop) (omega arith)
 
 pub lines_next : (c size : ℕ) → (c + 1) * size ≡ c * size + size
 lines_next c size = rw (add-one c) (suc-mul c size)

@@ -3,11 +3,13 @@ use Rattle.std.proofs.Common.{ℕ, zero, suc, ◌+◌, ◌*◌, ◌≤◌, ◌<�
 use Rattle.std.proofs.Math.ListN.{take-append-drop, drop_of_length-le}
 use Rattle.std.proofs.Math.Seq.{length-take-le}
 use Rattle.std.proofs.lemmas.Nat.{ones_cat, ones-le}
+use Rattle.std.specs.Int.{w64, from_le_bytes}
 use Rattle.std.specs.Int.Count.{ones}
 use Rattle.std.specs.Simd.{first_chunks}
 use Rattle.fields.proofs.ByteLaws.{bytes_take, bytes_drop}
 use Rattle.fields.specs.Numbers.{Bytes}
 use Rattle.words.specs.Words.{word_at}
+use Rattle.words.proofs.WordLaws.{word_eight}
 use Rattle.bitmaps.specs.Bitmap.{ones_in}
 use Rattle.bitmaps.proofs.OnesLaws.{ones_append}
 use Rattle.bitmaps.specs.Word.{word_size}
@@ -42,6 +44,10 @@ chunk_at k (suc n) t zero l = rw (zero-mul k)
 chunk_at k (suc n) t (suc i) l =
     let z : suc i * k ≡ k + i * k = omega (arith, suc-mul i k) in
     rw z (chunk_at k n (drop k t) i (omega arith) ∙ ap (take k) (drop-drop (i * k) k t))
+
+-- eight bytes as std reads them
+pub word_read : {x : ℕ} (b : List ℕ) → x ≡ from_le_bytes w64 b → x ≡ word_at b 0 word_size
+word_read b e = omega (arith, e, word_eight b 0)
 
 -- one word more
 pub word_next : (t : List ℕ) → Bytes t → (n i : ℕ) → i < n → n * word_size ≤ length t

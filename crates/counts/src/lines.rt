@@ -1,5 +1,5 @@
 // The ones of the lines of a run's own tables, of which a run has up to 64.
-ghost use Rattle.std.specs.Prelude.{◌≡◌, ◌+◌, ◌*◌, ◌^◌, ◌≤◌, ◌<◌, length, drop};
+ghost use Rattle.std.specs.Prelude.{◌≡◌, ◌+◌, ◌-◌, ◌*◌, ◌^◌, ◌≤◌, ◌<◌, length, drop};
 ghost use Rattle.bitmaps.specs.Bitmap.{ones_in};
 ghost use Rattle.bitmaps.specs.Table.{line_size, lines_of};
 ghost use Rattle.bitmaps.specs.Word.{word_size};
@@ -7,7 +7,7 @@ ghost use Rattle.counts.specs.Whole.{whole_words, NoneBehind};
 
 use crate::adder::ones_of_seven;
 use crate::ones::count_ones;
-use bitmaps::copy::Line;
+use bitmaps::copy::{Line, Lines};
 use bitmaps::word::Word;
 use words::word_at;
 
@@ -27,58 +27,75 @@ fn ones_across(table: &[u8], at: usize) -> u64
     )
 }
 
-// The number of ones in the first bytes of each of n lines, line by line; of the last line there may be no more.
-fn count_each_line(table: &[u8], n: usize, size: usize) -> u64
-    requires { (size ≤ line_size) × (n * line_size + size ≤ length table.now + line_size) × (length table.now < 2 ^ 61) }
-    ensures { (result ≡ ones_in (lines_of size table.now n)) × (result ≤ 8 * (n * size)) }
+// The number of ones in the bytes from i on of each of n lines, line by line.
+fn count_each_line(lines: Lines, first: usize, n: usize, i: usize) -> u64
+    requires { (n ≤ 7) × (first + n ≤ lines.n) × (i ≤ lines.size) }
+    ensures {
+        (result ≡ ones_in (lines_of (lines.entry.size - i) (drop (first * line_size + i) lines.entry.table.now) n))
+        × (result ≤ 8 * (n * (lines.entry.size - i)))
+    }
 {
     let mut sum = 0;
     for c in 0..n {
-        let line = c * Line::SIZE;
-        sum += count_ones(&table[line..line + size]);
+        let line = (first + c) * Line::SIZE;
+        sum += count_ones(&lines.table[line + i..line + lines.size]);
     }
     sum
 }
 
-// The number of ones in the first bytes of each of seven lines, side by side where eight bytes remain.
-fn count_seven_lines(table: &[u8], line: usize, size: usize) -> u64
-    requires { (size ≤ line_size) × (line + 7 * line_size ≤ length table.now) × (length table.now < 2 ^ 61) }
-    ensures { (result ≡ ones_in (lines_of size (drop line table.now) 7)) × (result ≤ 8 * (7 * size)) }
-{
-    let mut sum = 0;
-    let words = size / Word::SIZE;
-    for w in 0..words {
-        sum += ones_across(table, line + w * Word::SIZE);
+// The number of ones in seven lines, side by side where eight bytes remain.
+fn count_seven_lines(lines: Lines, first: usize) -> u64
+    requires { first + 7 ≤ lines.n }
+    ensures {
+        (result ≡ ones_in (lines_of lines.entry.size (drop (first * line_size) lines.entry.table.now) 7))
+        × (result ≤ 8 * (7 * lines.entry.size))
     }
-    let i = words * Word::SIZE;
-    sum + count_each_line(&table[line + i..], 7, size - i)
+{
+    let line = first * Line::SIZE;
+    let mut sum = 0;
+    let words = lines.size / Word::SIZE;
+    for w in 0..words {
+        sum += ones_across(lines.table, line + w * Word::SIZE);
+    }
+    sum + count_each_line(lines, first, 7, words * Word::SIZE)
 }
 
-// The number of ones in the first bytes of each of the first n lines: those that copy_lines copies.
-pub fn count_lines(table: &[u8], n: usize, size: usize) -> u64
-    requires { (size ≤ line_size) × (n * line_size ≤ length table.now) × (length table.now < 2 ^ 61) }
-    ensures { (result ≡ ones_in (lines_of size table.now n)) × (result ≤ 8 * (n * size)) }
+// The number of ones in lines: in what copy_lines copies of them. That the table is shorter than 2^61 bytes is no part of
+// `Lines`: `copy_lines` does not ask it.
+pub fn count_lines(lines: Lines) -> u64
+    requires { length lines.table.now < 2 ^ 61 }
+    ensures {
+        (result ≡ ones_in (lines_of lines.entry.size lines.entry.table.now lines.entry.n))
+        × (result ≤ 8 * (lines.entry.n * lines.entry.size))
+    }
 {
     let mut sum = 0;
-    let sevens = n / 7;
+    let sevens = lines.n / 7;
     for s in 0..sevens {
-        sum += count_seven_lines(table, s * 7 * Line::SIZE, size);
+        sum += count_seven_lines(lines, s * 7);
     }
     let c = sevens * 7;
-    sum + count_each_line(&table[c * Line::SIZE..], n - c, size)
+    sum + count_each_line(lines, c, lines.n - c, 0)
 }
 
-fn whole_words(size: usize) -> usize
-    requires { size ≤ line_size }
-    ensures { result ≡ whole_words size }
+fn whole_words(lines: Lines) -> usize
+    ensures { result ≡ whole_words lines.entry.size }
 {
-    (size + 7) / Word::SIZE * Word::SIZE
+    (lines.size + 7) / Word::SIZE * Word::SIZE
 }
 
 // The same where all bits behind those bytes are zeros: counted to the end of a word, so that no byte is counted by itself.
-pub fn count_whole_lines(table: &[u8], n: usize, size: usize) -> u64
-    requires { (size ≤ line_size) × (n * line_size ≤ length table.now) × (length table.now < 2 ^ 61) × NoneBehind size n table.now }
-    ensures { (result ≡ ones_in (lines_of size table.now n)) × (result ≤ 8 * (n * line_size)) }
+pub fn count_whole_lines(lines: Lines) -> u64
+    requires { (length lines.table.now < 2 ^ 61) × NoneBehind lines.size lines.n lines.table.now }
+    ensures {
+        (result ≡ ones_in (lines_of lines.entry.size lines.entry.table.now lines.entry.n))
+        × (result ≤ 8 * (lines.entry.n * line_size))
+    }
 {
-    count_lines(table, n, whole_words(size))
+    let whole = Lines {
+        table: lines.table,
+        n: lines.n,
+        size: whole_words(lines),
+    };
+    count_lines(whole)
 }

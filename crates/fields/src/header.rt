@@ -3,7 +3,8 @@ ghost use Rattle.std.specs.Prelude.{◌≡◌, ◌+◌, ◌≤◌, length};
 ghost use Rattle.fields.specs.Header.{header_size, field_end, header_at, Inside, header_of};
 ghost use Rattle.fields.specs.Output.{Wrote};
 
-// A field, told by its header: the payload is the bytes from start up to end.
+// A field, told by its header: the payload is the bytes from start up to end. The tag is any byte: catalogue, question and
+// output have tags of their own, and each reader refuses the others by a number of its own.
 #[derive(Clone, Copy)]
 pub struct Field {
     pub tag: u8,
@@ -19,7 +20,8 @@ impl Header {
     pub const SIZE: usize = 3;
 }
 
-// The field expected at a place inside an enclosing end; none where it is cut: fewer than three bytes are left, or the length passes the end.
+// The field expected at a place inside an enclosing end; none where it is cut: fewer than three bytes are left, or the
+// length passes the end.
 pub fn read_header(b: &[u8], at: usize, end: usize) -> Option<Field>
     requires { (at ≤ end) × (end ≤ length b.now) }
     ensures { (result ≡ header_at b.now at end) × Inside at end result }
@@ -52,6 +54,6 @@ pub fn put_header(out: &mut [u8], at: usize, tag: u8, size: usize) -> usize
     requires { at + header_size ≤ length out.old }
     ensures { Wrote at (header_of tag size) out.old result out.new }
 {
-    let header = [tag, (size / 256 % 256) as u8, (size % 256) as u8];
-    crate::output::put(out, at, &header)
+    let length = ((size % 0x1_0000) as u16).to_be_bytes();
+    crate::output::put(out, at, &[tag, length[0], length[1]])
 }

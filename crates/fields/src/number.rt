@@ -1,4 +1,5 @@
-// Unsigned numbers in bytes, the most significant byte first.
+// Unsigned numbers in bytes, the most significant byte first. The place stands beside the bytes, as in `number_at` and
+// `Wrote`: a reader goes from place to place of one slice, and a writer is told that the other bytes stay.
 ghost use Rattle.std.specs.Prelude.{◌≡◌, ◌+◌, ◌≤◌, ◌<◌, length};
 ghost use Rattle.fields.specs.Numbers.{number_at, bytes_of};
 ghost use Rattle.fields.specs.Output.{Wrote};

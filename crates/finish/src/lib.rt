@@ -13,6 +13,7 @@ ghost use Rattle.finish.specs.Finish.{finished, HasRoom};
 use answers::refusal::Refusal;
 use answers::tally::Tally;
 use answers::word::Answer;
+use bitmaps::copy::Lines;
 use fields::counter::Counter;
 
 // Ends a run whose own tables are these, with lines of this size: refusal 17, or the results, the lent tables and its reader's counter.
@@ -36,15 +37,25 @@ pub fn finish(
     if tally.len() != Tally::SIZE {
         return Err(Refusal::TallyRefused);
     }
-    let found = counts::lines::count_whole_lines(selected, 1, size);
-    let looked = counts::lines::count_whole_lines(probed, n, size);
+    let selected_lines = Lines {
+        table: selected,
+        n: 1,
+        size,
+    };
+    let probed_lines = Lines {
+        table: probed,
+        n,
+        size,
+    };
+    let found = counts::lines::count_whole_lines(selected_lines);
+    let looked = counts::lines::count_whole_lines(probed_lines);
     let at = reader * Counter::SIZE;
     let before = fields::counter::eight_bytes(tally, at);
     if Counter::LIMIT - before < looked {
         return Err(Refusal::TallyRefused);
     }
-    bitmaps::copy::copy_lines(selected, listed, 1, size);
-    bitmaps::copy::copy_lines(probed, looks, n, size);
+    bitmaps::copy::copy_lines(selected_lines, listed);
+    bitmaps::copy::copy_lines(probed_lines, looks);
     fields::counter::put_eight_bytes(tally, at, before + looked);
     Ok(Answer {
         first: found,

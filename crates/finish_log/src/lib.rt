@@ -6,6 +6,7 @@ ghost use Rattle.finish_log.specs.Finish.{HasMarks, LogFinished};
 
 use answers::refusal::Refusal;
 use answers::word::Answer;
+use bitmaps::copy::Lines;
 use copy_log::field::ProbeField;
 use marks::MarkTable;
 
@@ -23,7 +24,12 @@ pub fn finish_log(
     ensures { LogFinished catalogue.now plan.now order.now marks.now n rows
         output.old (answer_of result) output.new }
 {
-    let looked = counts::lines::count_whole_lines(marks, n, bitmaps::size::bytes_for(rows));
+    let lines = Lines {
+        table: marks,
+        n,
+        size: bitmaps::size::bytes_for(rows),
+    };
+    let looked = counts::lines::count_whole_lines(lines);
     let size = ProbeField::SIZE as u64 * looked;
     if (output.len() as u64) < size {
         return Err(Refusal::OutputTooShort);

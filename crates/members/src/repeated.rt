@@ -40,7 +40,7 @@ fn head(b: &[u8], at: usize) -> usize
     requires { at + payload_head ≤ length b.now }
     ensures { result ≡ head_at b.now at }
 {
-    usize::from(b[at]) + 256 * usize::from(b[at + 1])
+    usize::from(u16::from_le_bytes([b[at], b[at + 1]]))
 }
 
 // Of the first n predicates, the last that has this head.

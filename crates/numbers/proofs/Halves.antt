@@ -1,9 +1,10 @@
 -- The number of four bytes from the number of the same bytes with the least significant first, and where a block's numbers lie.
-use Rattle.std.proofs.Common.{◌≡◌, ℕ, ◌+◌, ◌*◌, ◌/◌, ◌%◌, ◌^◌, ◌<◌, true, eqb, List, get_or, sym, refl, ap, ◌∙◌, ap₂, arith, eq-eqb, eqb-true}
+use Rattle.std.proofs.Common.{◌≡◌, ℕ, ◌+◌, ◌*◌, ◌/◌, ◌%◌, ◌^◌, ◌<◌, true, eqb, List, sym, refl, ap, ◌∙◌, ap₂, arith, eq-eqb, eqb-true}
 use native.Mathlib.Nat.{mod-add-mod, add-mod-mod}
 use lib.Bits.{bit_and, and_mask, and_mod, and_shr}
 use Rattle.bools.specs.Bools.{iff_eq}
 use Rattle.fields.specs.Numbers.{number_at, Bytes}
+use Rattle.fields.proofs.Laws.{number_four}
 use Rattle.words.specs.Words.{word_at}
 use Rattle.words.proofs.WordLaws.{word_four}
 use Rattle.catalogue.specs.Format.{blank_number}
@@ -15,10 +16,6 @@ pairs x =
     let h : bit_and x 16711935 / 2 ^ 16 ≡ x / 2 ^ 16 % 2 ^ 8 = and_shr x 16711935 16 ∙ and_mask (x / 2 ^ 16) 8 in
     let l : bit_and x 16711935 % 2 ^ 16 ≡ x % 2 ^ 16 % 2 ^ 8 = and_mod x 16711935 16 ∙ and_mask (x % 2 ^ 16) 8 in
     omega arith
-
-number_four : (b : List ℕ) (p : ℕ) → number_at b p 4 ≡ 16777216 * get_or b p 0 + 65536 * get_or b (p + 1) 0 + 256 * get_or b (p + 2) 0 + get_or b (p + 3) 0
-unfolding number_at
-number_four b p = let z : p + 0 ≡ p = omega arith in rw z (omega arith)
 
 low_byte : (a t x : ℕ) → a < 256 → x ≡ a + 256 * t → x % 256 ≡ a
 low_byte a t x l e = omega arith
@@ -53,7 +50,7 @@ in_order b p bytes s low {x} {y} {r} ex ey es er =
     sums : (a0 a1 a2 a3 u v y : ℕ) → u ≡ a0 + 65536 * a2 → v ≡ a1 + 65536 * a3 → y ≡ u * 256 + v → y ≡ a1 + 256 * a0 + 65536 * (a3 + 256 * a2)
     sums a0 a1 a2 a3 u v y e f g = omega arith
 
-    go : (a0 a1 a2 a3 : ℕ) → a0 < 256 → a1 < 256 → a2 < 256 → a3 < 256 → x ≡ a0 + 256 * a1 + 65536 * a2 + 16777216 * a3 → (r + low) % 2 ^ 32 ≡ 16777216 * a0 + 65536 * a1 + 256 * a2 + a3
+    go : (a0 a1 a2 a3 : ℕ) → a0 < 256 → a1 < 256 → a2 < 256 → a3 < 256 → x ≡ a0 + 256 * a1 + 65536 * a2 + 16777216 * a3 → (r + low) % 2 ^ 32 ≡ a0 * 16777216 + a1 * 65536 + a2 * 256 + a3
     go a0 a1 a2 a3 l0 l1 l2 l3 e =
         let d : x / 256 ≡ a1 + 256 * a2 + 65536 * (a3 + 256 * 0) = above_byte a0 (a1 + 256 * a2 + 65536 * (a3 + 256 * 0)) x l0 (e ∙ omega arith) in
         swapped (a1 + 256 * a0) (a3 + 256 * a2) y s low r (omega (arith, l0, l1)) (omega (arith, l2, l3))

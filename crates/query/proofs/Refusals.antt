@@ -16,25 +16,13 @@ use Rattle.strategy.specs.Tree.{Tree, Forest}
 use Rattle.query.specs.declared.member.MemberField.{MemberField}
 use Rattle.query.specs.declared.member.MemberField.TheVariants as field
 use Rattle.query.specs.declared.refusal.Refusal.{Refusal}
-use Rattle.query.specs.declared.refusal.Refusal.TheVariants as refusal
 use Rattle.query.specs.Format.{bytes_after_query}
 use Rattle.query.specs.Query.{Query}
-use Rattle.query.specs.Refusal.{refusal_number}
+use Rattle.query.specs.Refusal.{refusal_number_range}
 use Rattle.query.specs.Sound.{IsRefusal, SoundField}
 use Rattle.query.specs.Decode.{member_field, Read, as_group, field_then, member_before, member_then, unless_end, member, members, whole_query, decode_tagged, decode_query}
 use Rattle.query.proofs.Fields.{field_sound}
 use Rattle.query.proofs.Readings.{SoundTree, member_sound}
-
--- the number of each is one of those
-pub refusal_number_range : (e : Refusal) → IsRefusal (refusal_number e)
-refusal_number_range refusal.MemberCut = (omega arith, omega arith)
-refusal_number_range refusal.UnknownTag = (omega arith, omega arith)
-refusal_number_range refusal.EmptyGroup = (omega arith, omega arith)
-refusal_number_range refusal.TooDeep = (omega arith, omega arith)
-refusal_number_range refusal.InvalidPayload = (omega arith, omega arith)
-refusal_number_range refusal.TooManyPredicates = (omega arith, omega arith)
-refusal_number_range refusal.RepeatedPayload = (omega arith, omega arith)
-refusal_number_range refusal.BytesAfterQuery = (omega arith, omega arith)
 
 abbrev Stopping : {A : Type 0} → Read A → Type 0
 Stopping (refused e) = IsRefusal e

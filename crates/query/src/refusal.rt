@@ -2,7 +2,7 @@
 ghost use Rattle.std.specs.Prelude.{◌≡◌};
 ghost use Rattle.query.specs.Refusal.{refusal_number};
 
-#[derive(Clone, Copy)]
+#[derive(Clone, Copy, PartialEq, Eq, Debug)]
 pub enum Refusal {
     MemberCut,
     UnknownTag,
@@ -15,7 +15,7 @@ pub enum Refusal {
 }
 
 impl Refusal {
-    // The paper's number.
+    // The number that document 01 gives it.
     pub fn number(self) -> u8
         ensures { result ≡ refusal_number self }
     {

@@ -25,7 +25,7 @@ use Rattle.reading.specs.MemberRead.{progress, Reported, MemberRead}
 use Rattle.reading.specs.QueryRead.{Recorded, QueryRead}
 use Rattle.query.proofs.Readings.{Fits, Each, SoundTree, member_sound}
 use Rattle.query.proofs.Accepted.{each_at}
-use Rattle.query.proofs.Refusals.{refusal_number_range}
+use Rattle.query.specs.Refusal.{refusal_number_range}
 use Rattle.records.proofs.Records.{predicates_length, predicates_at_lem}
 
 -- a valid payload's kind is at most 133

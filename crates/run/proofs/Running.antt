@@ -15,11 +15,11 @@ use Rattle.task.specs.Input.{decode_input}
 use Rattle.input.specs.Beginning.{HasInput}
 use Rattle.input.proofs.InHand.{input_short}
 use Rattle.answers.specs.declared.refusal.Refusal.{Refusal}
-use Rattle.answers.specs.Refusal.{refusal_number}
+use Rattle.answers.specs.Refusal.{refusal_number, refusal_numbered}
 use Rattle.answers.specs.Answer.{Refused}
 use Rattle.answers.specs.Word.{FitsWord}
 use Rattle.answers.specs.Checks.{checked, refusal_by}
-use Rattle.answers.proofs.Refusals.{refusal_numbered, refused_fits}
+use Rattle.answers.proofs.Refusals.{refused_fits}
 use Rattle.answers.proofs.Checks.{checked_holds, checked_fails, checked_further}
 use Rattle.demands.specs.Run.{Lent, lent, Ran, refuse, task_of, selection, probe_bitmaps, request_checks, tally_checks, look_count, accept, run_on, run_of}
 use Rattle.request.proofs.Request.{request_kept}

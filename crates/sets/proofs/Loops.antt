@@ -1,9 +1,9 @@
 -- Loops through the numbers below 64 counted by hand, and what their steps gather: from the last number down, from the first up, and the number at hand
 -- of a set. The loops of src/ state what they gather by an equation; these laws say of any such loop that it gathers the same.
-use Rattle.std.proofs.Common.{ℕ, suc, ◌+◌, ◌-◌, ◌*◌, ◌^◌, ◌≤◌, ◌<◌, ◌≡◌, Bool, true, refl, sym, ap, ap₂, ◌∙◌, zero-add, mul-add, mul_comm, pow_mono, arith}
+use Rattle.std.proofs.Common.{ℕ, suc, ◌+◌, ◌-◌, ◌*◌, ◌^◌, ◌≤◌, ◌<◌, ◌≡◌, Bool, refl, sym, ap, ap₂, ◌∙◌, zero-add, mul-add, mul_comm, pow_mono, arith}
 use Rattle.std.specs.Int.Bits.{bit_or, or_shifted_r}
-use Rattle.sets.specs.Set.{has, below_set}
-use Rattle.sets.specs.Kept.{KeptBy, FirstIs, Sorting}
+use Rattle.sets.specs.Set.{below_set}
+use Rattle.sets.specs.Kept.{KeptBy}
 use Rattle.sets.specs.Gathered.{bit_of, gathered, gathered_same, gathered_lt, gathered_cat, gathered_kept}
 
 -- a loop down through the 64 numbers: those from k on are gathered
@@ -77,15 +77,11 @@ module _ {P : ℕ → Bool} {k met : ℕ} (R : Rising P k met) where
   rising_end l = let i = R.inside in let e : k ≡ 32 = omega arith in R.gathered_is ∙ ap (gathered P) e
 
 -- a block from its halves: what T tests stands from `start` on, `size` bytes for each row
-pub halves_kept_from : (T : ℕ → Bool) (size start base : ℕ) {x y : ℕ} → x ≡ gathered (λ d. T (start + size * base + size * d)) 32 → y ≡ gathered (λ d. T (start + size * base + size * 32 + size * d)) 32
+pub halves_kept : (T : ℕ → Bool) (size start base : ℕ) {x y : ℕ} → x ≡ gathered (λ d. T (start + size * base + size * d)) 32 → y ≡ gathered (λ d. T (start + size * base + size * 32 + size * d)) 32
     → KeptBy (λ d. T (start + size * (base + d))) (below_set 64) (x + 4294967296 * y)
-halves_kept_from T size start base {x} {y} e f =
+halves_kept T size start base {x} {y} e f =
     let s = e ∙ gathered_same _ (λ d. T (start + size * (base + d))) 32 (λ d. ap T (omega (arith, mul-add size base d))) in
     let t = f ∙ gathered_same _ (λ d. T (start + size * (base + (32 + d)))) 32 (λ d. ap T (omega (arith, mul-add size base (32 + d), mul-add size 32 d))) in
     let z : x + 4294967296 * y ≡ gathered (λ d. T (start + size * (base + d))) 64 =
     ap₂ (λ (p q : ℕ). p + 4294967296 * q) s t ∙ sym (gathered_cat (λ d. T (start + size * (base + d))) 32 32) in
     rw z (gathered_kept (λ d. T (start + size * (base + d))) 64)
-
--- the number at hand is t, at whatever width w the code has it
-pub sort_among : {P : ℕ → Bool} {x left met t w : ℕ} → Sorting P x left met → FirstIs left t → w ≡ t → has x w ≡ true
-sort_among S F w-is = rw w-is (S.within _ F.among)

@@ -102,7 +102,7 @@ abbrev pub HalfWhere : (answers : ℕ → Bool → Type 0) → (from r : ℕ) �
 HalfWhere answers from r = (P : ℕ → Bool) → ((d : ℕ) (p : Bool) → d < 32 → answers (from + d) p → p ≡ P (from + d)) → r ≡ gathered (λ d. P (from + d)) 32
 
 -- all 64 from the halves
-pub halves_kept : (P : ℕ → Bool) {x y : ℕ} → x ≡ gathered (λ d. P (0 + d)) 32 → y ≡ gathered (λ d. P (32 + d)) 32 → KeptBy P (below_set 64) (x + 4294967296 * y)
-halves_kept P e f =
+pub halves_joined : (P : ℕ → Bool) {x y : ℕ} → x ≡ gathered (λ d. P (0 + d)) 32 → y ≡ gathered (λ d. P (32 + d)) 32 → KeptBy P (below_set 64) (x + 4294967296 * y)
+halves_joined P e f =
     let first = e ∙ gathered_same (λ d. P (0 + d)) P 32 (λ d. ap P (zero-add d)) in
     rw (ap₂ (λ (p q : ℕ). p + 4294967296 * q) first f ∙ sym (gathered_cat P 32 32)) (gathered_kept P 64)

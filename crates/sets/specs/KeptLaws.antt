@@ -126,8 +126,8 @@ module _ {left t next : ℕ} (F : FirstIs left t) (R : RestIs left next) where
 
   -- the number at hand is t, p the test's answer, and `more` what is met
   module _ {P : ℕ → Bool} {x met : ℕ} (S : Sorting P x left met) where
-    pub sort_next : {p : Bool} {more : ℕ} → p ≡ P t → more ≡ cond p (bit_xor left next) 0 → Sorting P x next (bit_or met more)
-    sort_next {p} {more} e m = record {
+    pub sort_next_at : {p : Bool} {more : ℕ} → p ≡ P t → more ≡ cond p (bit_xor left next) 0 → Sorting P x next (bit_or met more)
+    sort_next_at {p} {more} e m = record {
       small = let l = R.less in let s = S.small in omega arith;
       within = λ d y. S.within d (rest_within d y);
       sorted = λ d. ap₂ (λ (k l : Bool). k || (l && P d)) (has_or met more d ∙ ap (λ (b : Bool). has met d || b) (met_has d)) (rest_has d) ∙ go d (same? d t) ∙ S.sorted d;
@@ -155,6 +155,16 @@ module _ {left t next : ℕ} (F : FirstIs left t) (R : RestIs left next) where
         go : (d : ℕ) → (d ≡ t) ⊎ (d ≡ t → ⊥) → ((has met d || (p && eqb d t)) || (cond (eqb d t) false (has left d) && P d)) ≡ (has met d || (has left d && P d))
         go d (inl q) = rw (q, eqb_self t, F.among, e) (here (has met t) (P t))
         go d (inr ne) = rw (eqb_ne d t ne) (elsewhere (has met d) (has left d) p (P d))
+
+-- the number at hand is t, at whatever width w the code has it
+module _ {P : ℕ → Bool} {x left met t w : ℕ} (S : Sorting P x left met) (F : FirstIs left t) (w-is : w ≡ t) where
+  pub sort_among : has x w ≡ true
+  sort_among = rw w-is (S.within t F.among)
+
+  -- `next` is the rest, p the test's answer, and `more` what is met
+  module _ {next : ℕ} (R : RestIs left next) where
+    pub sort_next : {p : Bool} {more : ℕ} → p ≡ P w → more ≡ cond p (bit_xor left next) 0 → Sorting P x next (bit_or met more)
+    sort_next e m = sort_next_at F R S (e ∙ ap P w-is) m
 
 -- a filter first, and the test where it passes
 pub sift_kept : {P : ℕ → Bool} {x y : ℕ} (r : ℕ) → Sifted P x y → KeptBy P y r → KeptBy P x r

@@ -1,11 +1,15 @@
 // A set of numbers below 64, held as the bits of a u64.
-// A loop over the numbers of a set x takes first(x) and goes on with rest(x).
+// A loop over the numbers of a set x takes first(x) and goes on with rest(x): std has no iterator over the bits of a
+// number.
 #![tactic(auto)]
 
 ghost use Rattle.std.specs.Prelude.{ℕ, ◌≡◌, cond, ◌+◌, ◌*◌, ◌^◌, ◌≤◌, ◌<◌};
 ghost use Rattle.sets.specs.Set.{has, one_set, below_set, set_minus, set_with};
 ghost use Rattle.sets.specs.Kept.{FirstIs, RestIs, MayAsk, KeptWhere};
 ghost use Rattle.sets.specs.Gathered.{bit_of, HalfWhere};
+
+// `d < 64` stands in `has`, `single` and `with`: with a type for such numbers each of their callers, which have a byte at
+// hand, would have to build a value of it first.
 
 // Is d in the set.
 pub fn has(x: u64, d: u8) -> bool
@@ -46,7 +50,7 @@ pub fn with(x: u64, d: u8) -> u64
     x | single(d)
 }
 
-// The lowest number of the set.
+// The lowest number of the set; below 64, so that it fits a byte.
 pub fn first(x: u64) -> u8
     requires { 0 < x }
     ensures { FirstIs x result }
@@ -70,13 +74,16 @@ pub fn bit_at(test: bool, d: u8) -> u32
     if test { 1u32 << d } else { 0 }
 }
 
-// The set x where a test passes, else none. A loop over a set hands on the bit that the set loses, left ^ rest(left): a bit shifted to
-// its place would wait for first(left).
+// The set x where a test passes, else none. A loop over a set hands on the bit that the set loses, left ^ rest(left): a
+// bit shifted to its place would wait for first(left).
 pub fn kept(test: bool, x: u64) -> u64
     ensures { result ≡ cond test x 0 }
 {
     if test { x } else { 0 }
 }
+
+// `MayAsk` stands in `kept_where`, `all_where` and `met_where`: it is of the closure and of x together, and the type of a
+// closure is its caller's, so that no field could hold it.
 
 // The numbers of a set at which a test passes, lowest first: no branch on what the test answers.
 pub fn kept_where<F: Fn(u8) -> bool>(x: u64, test: F) -> u64

@@ -4,6 +4,8 @@
 ghost use Rattle.std.specs.Prelude.{◌≡◌, ◌+◌, ◌^◌, ◌≤◌, ◌<◌, length};
 ghost use Rattle.words.specs.Words.{word_at};
 
+// The place stands beside the bytes, as in `word_at` of specs/: callers read one table at many places.
+
 // The four bytes at a place.
 pub fn half_at(b: &[u8], at: usize) -> u64
     requires { at + 4 ≤ length b.now }

@@ -4,7 +4,7 @@ use Rattle.std.proofs.Common.{arith}
 use Rattle.count_calls.proofs.searchroom_count_lines.Goals as goal
 
 pub count_lines-requires : goal.count_lines-requires
-count_lines-requires c = (omega arith, omega arith, counted_small c.args.table.now c.front-whole.ensures)
+count_lines-requires c = counted_small c.args.table.now c.front-whole.ensures
 
 pub returns : goal.returns
 returns c =

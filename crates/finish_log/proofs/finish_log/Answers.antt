@@ -5,12 +5,15 @@ use Rattle.finish_log.proofs.Halves.{first_length, half}
 use Rattle.std.proofs.Common.{arith}
 use Rattle.finish_log.proofs.finish_log.Goals as goal
 
-pub count_whole_lines-looked-requires : goal.count_whole_lines-looked-requires
-count_whole_lines-looked-requires c =
+pub invariant_of-lines : goal.invariant_of-lines
+invariant_of-lines c =
     let M = c.requires.2 in
     let few = M.few in
     let s = M.size in
-    (size_short M c.bytes_for.ensures, omega arith, omega arith, marks_whole M c.bytes_for.ensures)
+    record { inside = (size_short M c.bytes_for.ensures, omega arith) }
+
+pub count_whole_lines-looked-requires : goal.count_whole_lines-looked-requires
+count_whole_lines-looked-requires c = let M = c.requires.2 in let s = M.size in (omega arith, marks_whole M c.bytes_for.ensures)
 
 pub overflow_mul-size : goal.overflow_mul-size
 overflow_mul-size c = omega (arith, looks_few c.args.n c.count_whole_lines-looked.result c.requires.2.few c.count_whole_lines-looked.ensures.1)

@@ -14,18 +14,19 @@ pub put-at-requires : goal.put-at-requires
 put-at-requires c =
     let a = c.args in
     let l = c.loop-c in
-    omega (arith, part_length a.from.now (l.c * line_size) a.size (omega arith), line_fits a.size a.n l.c (omega arith))
+    omega (arith, part_length a.from.table.now (l.c * line_size) a.from.size (omega arith), line_fits a.from.size a.from.n l.c (omega arith))
 
 pub loop-c-preserved : goal.loop-c-preserved
 loop-c-preserved c =
     let a = c.args in
     let l = c.loop-c in
-    let r = c.requires in
-    let w = line_behind a.size a.n l.c a.from.now a.to.now r.0 r.1 r.2 (omega arith) refl l.invariant.place l.invariant.wrote c.put-at.ensures in
-    record { place = place_behind a.size a.n l.c a.from.now a.to.now r.0 r.1 r.2 (omega arith) w; wrote = w }
+    let f = a.from in
+    let w = line_behind f.size f.n l.c f.table.now a.to.now f.inside.0 f.inside.1 c.requires (omega arith) refl l.invariant.place l.invariant.wrote c.put-at.ensures in
+    record { place = place_behind f.size f.n l.c f.table.now a.to.now f.inside.0 f.inside.1 c.requires (omega arith) w; wrote = w }
 
 pub returns : goal.returns
 returns c =
     let l = c.loop-c in
-    let e : l.c ≡ c.args.n = omega arith in
-    rw (← e) (l.invariant.wrote.bytes ∙ put_front_lem (lines_of c.args.size c.args.from.now l.c) c.args.to.now)
+    let f = c.args.from in
+    let e : l.c ≡ f.n = omega arith in
+    rw (← e) (l.invariant.wrote.bytes ∙ put_front_lem (lines_of f.size f.table.now l.c) c.args.to.now)

@@ -5,4 +5,4 @@ use Rattle.std.specs.Prelude.{◌*◌, ◌≡◌}
 use Rattle.bitmaps.proofs.copy.copy_lines.Given as goal
 
 abbrev pub invariant-loop-c : goal.invariant-loop-c
-invariant-loop-c l = record { place : l.at ≡ l.c * l.size; wrote : Wrote 0 (lines_of l.size l.from l.c) l.initial.to l.at l.to }
+invariant-loop-c l = record { place : l.at ≡ l.c * l.from.size; wrote : Wrote 0 (lines_of l.from.size l.from.table.now l.c) l.initial.to l.at l.to }

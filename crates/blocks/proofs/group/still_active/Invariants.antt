@@ -3,4 +3,4 @@ use Rattle.blocks.specs.Block.{StillActiveIs}
 use Rattle.blocks.proofs.group.still_active.Given as goal
 
 abbrev pub invariant-loop-rows : goal.invariant-loop-rows
-invariant-loop-rows l = StillActiveIs l.a l.rows-index l.active l.left l.live
+invariant-loop-rows l = StillActiveIs 0 l.rows-index l.active l.left l.words

@@ -1,56 +1,51 @@
 -- `count_lines` meets its contract. Invariant: the sum is the ones of the lines passed.
 use Rattle.bitmaps.specs.Bitmap.{ones_in}
-use Rattle.bitmaps.specs.Table.{line_size, lines_of}
+use Rattle.bitmaps.specs.Table.{lines_of}
 use Rattle.counts.proofs.LineOnes.{lines_counted, lines_small, none_passed}
-use Rattle.fields.proofs.Parts.{part_rest}
-use Rattle.std.proofs.Common.{ap, arith, refl, length-drop, mul-le-mul_right, ◌∙◌}
-use Rattle.std.specs.Prelude.{List, length, ℕ, ◌*◌, ◌+◌, ◌-◌, ◌/◌, ◌≡◌, ◌≤◌}
+use Rattle.std.proofs.Common.{ap, arith, refl, add-zero, mul-le-mul_right, ◌∙◌}
+use Rattle.std.specs.Prelude.{ℕ, ◌*◌, ◌+◌, ◌-◌, ◌/◌, ◌≡◌, ◌≤◌}
 use native.Mathlib.Nat.{add-mul}
 use Rattle.counts.proofs.lines.count_lines.Goals as goal
 
 pub loop-s-init : goal.loop-s-init
-loop-s-init c = none_passed c.args.table.now c.args.size
+loop-s-init c = let f = c.args.lines in none_passed f.table.now f.size
 
 pub overflow_add-sum : goal.overflow_add-sum
 overflow_add-sum c =
-    let a = c.args in
+    let f = c.args.lines in
     let m = c.loop-s.s * 7 in
-    let l : m + 7 ≤ a.n = omega arith in
-    omega (arith, add-mul m 7 a.size, mul-le-mul_right a.size l, lines_small a.size a.n c.requires.0)
+    let l : m + 7 ≤ f.n = omega arith in
+    omega (arith, add-mul m 7 f.size, mul-le-mul_right f.size l, lines_small f.size f.n f.inside.0, f.inside.1)
 
 pub loop-s-preserved : goal.loop-s-preserved
 loop-s-preserved c =
-    let a = c.args in
+    let f = c.args.lines in
     let l = c.loop-s in
     let m = l.s * 7 in
     let z : (l.s + 1) * 7 ≡ m + 7 = omega arith in
-    rw z (lines_counted a.table.now a.size m 7 refl l.invariant.0 c.count_seven_lines-sum.ensures.0, omega (arith, add-mul m 7 a.size))
-
-pub count_each_line-requires : goal.count_each_line-requires
-count_each_line-requires c =
-    let t = c.args.table.now in
-    let line = c.args.n / 7 * 7 * line_size in
-    let p = ap length (part_rest t line) in
-    (omega arith, omega (arith, p, length-drop line t), omega (arith, p, length-drop line t))
+    rw z (lines_counted f.table.now f.size m 7 refl l.invariant.0 c.count_seven_lines-sum.ensures.0, omega (arith, add-mul m 7 f.size))
 
 pub overflow_add-result : goal.overflow_add-result
 overflow_add-result c =
-    let a = c.args in
-    let m = a.n / 7 * 7 in
-    let z : m + (a.n - m) ≡ a.n = omega arith in
-    let e : c.loop-s.s ≡ a.n / 7 = omega arith in
+    let f = c.args.lines in
+    let m = f.n / 7 * 7 in
+    let z : m + (f.n - m) ≡ f.n = omega arith in
+    let e : c.loop-s.s ≡ f.n / 7 = omega arith in
     let h = rw e at c.loop-s.invariant.1 in
-    omega (arith, h, add-mul m (a.n - m) a.size, ap (λ (k : ℕ). k * a.size) z, lines_small a.size a.n c.requires.0)
+    let y : f.size - 0 ≡ f.size = omega arith in
+    let each = rw y at c.count_each_line.ensures.1 in
+    omega (arith, h, each, add-mul m (f.n - m) f.size, ap (λ (k : ℕ). k * f.size) z, lines_small f.size f.n f.inside.0, f.inside.1)
 
 pub returns : goal.returns
 returns c =
-    let a = c.args in
-    let m = a.n / 7 * 7 in
-    let z : m + (a.n - m) ≡ a.n = omega arith in
-    let e : c.loop-s.s ≡ a.n / 7 = omega arith in
+    let f = c.args.lines in
+    let m = f.n / 7 * 7 in
+    let z : m + (f.n - m) ≡ f.n = omega arith in
+    let e : c.loop-s.s ≡ f.n / 7 = omega arith in
     let h = rw e at c.loop-s.invariant.0 in
     let k = rw e at c.loop-s.invariant.1 in
-    let p = ap (λ (u : List ℕ). ones_in (lines_of a.size u (a.n - m))) (part_rest a.table.now (m * line_size)) in (
-      lines_counted a.table.now a.size m (a.n - m) refl h (c.count_each_line.ensures.0 ∙ p) ∙ ap (λ (j : ℕ). ones_in (lines_of a.size a.table.now j)) z,
-      omega (arith, k, add-mul m (a.n - m) a.size, ap (λ (j : ℕ). j * a.size) z),
+    let y : f.size - 0 ≡ f.size = omega arith in
+    let each = rw (y, add-zero) at c.count_each_line.ensures in (
+      lines_counted f.table.now f.size m (f.n - m) refl h each.0 ∙ ap (λ (j : ℕ). ones_in (lines_of f.size f.table.now j)) z,
+      omega (arith, k, each.1, add-mul m (f.n - m) f.size, ap (λ (j : ℕ). j * f.size) z),
     )

@@ -4,4 +4,4 @@ use Rattle.std.specs.Prelude.{◌*◌}
 use Rattle.counts.proofs.lines.count_lines.Given as goal
 
 abbrev pub invariant-loop-s : goal.invariant-loop-s
-invariant-loop-s l = LinesPassed l.table l.size l.sum (l.s * 7)
+invariant-loop-s l = LinesPassed l.lines.table.now l.lines.size l.sum (l.s * 7)

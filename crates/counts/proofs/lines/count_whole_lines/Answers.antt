@@ -9,8 +9,7 @@ use Rattle.counts.proofs.lines.count_whole_lines.Goals as goal
 pub returns : goal.returns
 returns c =
     let w = c.whole_words in
-    let b = c in
-    let a = b.args in (
-      c.count_lines.ensures.0 ∙ ap (λ (k : ℕ). ones_in (lines_of k a.table.now a.n)) w.ensures ∙ b.requires.3,
-      omega (arith, c.count_lines.ensures.1, lines_small w.result a.n (omega arith)),
+    let f = c.args.lines in (
+      c.count_lines.ensures.0 ∙ ap (λ (k : ℕ). ones_in (lines_of k f.table.now f.n)) w.ensures ∙ c.requires.1,
+      omega (arith, c.count_lines.ensures.1, lines_small w.result f.n (omega arith)),
     )

@@ -6,15 +6,12 @@ use Rattle.counts.proofs.lines.ones_across.Goals as goal
 
 pub returns : goal.returns
 returns c =
-    let fourth = c in
-    let first = fourth in
-    let k = first.shared_slice_known-1.given in
-    let a = first.args in
-    let e1 = ap ones first.word_at.ensures in
-    let e2 = ap ones fourth.word_at-2.ensures in
-    let e3 = ap ones fourth.word_at-3.ensures in
-    let e4 = ap ones fourth.word_at-4.ensures in
+    let a = c.args in
+    let e1 = ap ones c.word_at.ensures in
+    let e2 = ap ones c.word_at-2.ensures in
+    let e3 = ap ones c.word_at-3.ensures in
+    let e4 = ap ones c.word_at-4.ensures in
     let e5 = ap ones c.word_at-5.ensures in
     let e6 = ap ones c.word_at-6.ensures in
     let e7 = ap ones c.word_at-7.ensures in
-    (omega (arith, seven_across a.table.now a.at (λ j. (k j).fits) (omega arith), e1, e2, e3, e4, e5, e6, e7), omega arith)
+    (omega (arith, seven_across a.table.now a.at (λ j. (c.type_inv.table j).fits) (omega arith), e1, e2, e3, e4, e5, e6, e7), omega arith)

@@ -1,6 +1,6 @@
 -- `count_ones` meets its contract. Invariant: the sum and the ones of what is left are the ones of the table.
 use Rattle.bitmaps.specs.Bitmap.{ones_in}
-use Rattle.counts.proofs.WordOnes.{word_next}
+use Rattle.counts.proofs.WordOnes.{word_next, word_read}
 use Rattle.std.proofs.Common.{ap, arith, ◌∙◌, ◌≡◌, ◌/◌, length, List, [], ℕ, get_or}
 use Rattle.std.specs.Int.Count.{ones}
 use Rattle.words.specs.Words.{word_at}
@@ -10,7 +10,7 @@ pub loop-word-preserved : goal.loop-word-preserved
 loop-word-preserved c =
     let t = c.args.table.now in
     let i = c.loop-word.word-index in
-    let e = ap ones c.word_at.ensures ∙ ap (λ (words : List (List ℕ)). ones (word_at (get_or words i []) 0 8)) c.as_chunks.ensures.front in
+    let e = ap ones (word_read _ c.from_le_bytes.ensures) ∙ ap (λ (words : List (List ℕ)). ones (word_at (get_or words i []) 0 8)) c.as_chunks.ensures.front in
     (omega arith, omega arith, omega (arith, e, word_next t (λ j. (c.type_inv.table j).fits) (length t / 8) i (omega arith) (omega arith)))
 
 pub returns : goal.returns

@@ -5,4 +5,4 @@ use Rattle.members.proofs.repeated.head.Goals as goal
 
 pub returns : goal.returns
 unfolding word_at
-returns c = omega (arith, c.from.ensures, c.from-2.ensures)
+returns c = omega (arith, c.from.ensures, c.from_le_bytes.ensures)
