@@ -17,8 +17,5 @@ loop-left-preserved c =
     let l = c.loop-left in
     change_next l.invariant c.from-d.result c.from-d.ensures c.first.ensures c.rest-left.ensures (omega arith) c.with.ensures
 
-pub shape_of-gathered : goal.shape_of-gathered
-shape_of-gathered c = c.loop-left.invariant.changed.size
-
 pub returns : goal.returns
 returns c = change_end c.loop-left.invariant (omega arith)
