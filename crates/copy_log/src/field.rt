@@ -15,18 +15,19 @@ impl ProbeField {
     pub const PAYLOAD_SIZE: u8 = 4;
 }
 
-// Writes the field of a probe from `at` on and gives the place behind it. The outcome is the format's byte: of a row two sets of turns tell it,
-// and no `Outcome` is made.
+// Writes the field of a probe from `at` on and gives the place behind it. The outcome is the format's byte: of a row two
+// sets of turns tell it, and no `Outcome` is made.
 fn put_probe(out: &mut [u8], at: usize, row: usize, c: u8, outcome: u8) -> usize
     requires { at + probe_field_size ≤ length out.old }
     ensures { Wrote at (probe_field row c outcome) out.old result out.new }
 {
+    let [high, low] = ((row % 0x1_0000) as u16).to_be_bytes();
     let field = [
         ProbeField::TAG,
         0,
         ProbeField::PAYLOAD_SIZE,
-        (row / 256 % 256) as u8,
-        (row % 256) as u8,
+        high,
+        low,
         c,
         outcome,
     ];

@@ -1,11 +1,14 @@
 // The marks of a block by row: words with a bit for each of 64 rows, one for each turn, made into sets of turns, one for each row.
 #![tactic(auto)]
 
-ghost use Rattle.std.specs.Prelude.{◌<◌, ◌≤◌, ◌≡◌, length, get_or};
+ghost use Rattle.std.specs.Prelude.{◌<◌, ◌≤◌, length};
 ghost use Rattle.sets.specs.Set.{below_set};
-ghost use Rattle.bitmaps.specs.Word.{block_rows, BlockAt};
+ghost use Rattle.bitmaps.specs.Word.{block_rows};
 ghost use Rattle.gather.specs.Turns.{turn_limit, HasLines, AtTurns, GatheredBy, TurnsFor, Added};
 
+pub mod probes;
+
+use bitmaps::block::Base;
 use bitmaps::copy::Line;
 use bitmaps::word::Word;
 
@@ -49,9 +52,12 @@ pub fn gather_words<F: Fn(usize) -> u64>(turns: &[u8], word_of: F) -> [u64; Word
 }
 
 // The turns whose predicates are marked in the table, for each row of the block.
-pub fn gather(turns: &[u8], table: &[u8], base: usize) -> [u64; Word::ROWS]
-    requires { HasLines turns.now table.now × BlockAt base }
-    ensures { TurnsFor turns.now table.now base result }
+pub fn gather(turns: &[u8], table: &[u8], base: Base) -> [u64; Word::ROWS]
+    requires { HasLines turns.now table.now }
+    ensures { TurnsFor turns.now table.now base.row result }
 {
-    gather_words(turns, |c| words::word_at(table, c * Line::SIZE + base / 8))
+    gather_words(
+        turns,
+        |c| words::word_at(table, c * Line::SIZE + base.row / 8),
+    )
 }
