@@ -7,6 +7,7 @@ ghost use Rattle.finish_log.specs.Finish.{HasMarks, LogFinished};
 use answers::refusal::Refusal;
 use answers::word::Answer;
 use copy_log::field::ProbeField;
+use gather::probes::Probes;
 use marks::MarkTable;
 
 // Ends a copy whose own table and plan are these: refusal 20, or the length and the fields.
@@ -28,15 +29,12 @@ pub fn finish_log(
     if (output.len() as u64) < size {
         return Err(Refusal::OutputTooShort);
     }
-    log_rows::all::put_rows(
-        catalogue,
-        plan,
-        order,
-        &marks[..MarkTable::PROBES],
-        &marks[MarkTable::PROBES..],
-        rows,
-        output,
-    );
+    let probes = Probes {
+        turns: order,
+        probed: &marks[..MarkTable::PROBES],
+        met: &marks[MarkTable::PROBES..],
+    };
+    log_rows::all::put_rows(catalogue, plan, probes, rows, output);
     Ok(Answer {
         first: 0,
         second: 0,
