@@ -8,7 +8,8 @@ use bitmaps::block::Base;
 use bitmaps::word::Word;
 use gather::probes::Probes;
 
-// Writes the fields of so many rows of the block: the turns probed and those of a yes are gathered from their tables, those of a blank are lent.
+// Writes the fields of so many rows of the block: the turns probed and those of a yes are gathered from their tables,
+// those of a blank are lent.
 pub fn put_block(
     out: &mut [u8],
     at: usize,

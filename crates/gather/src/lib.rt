@@ -1,4 +1,5 @@
-// The marks of a block by row: words with a bit for each of 64 rows, one for each turn, made into sets of turns, one for each row.
+// The marks of a block by row: words with a bit for each of 64 rows, one for each turn, made into sets of turns, one for
+// each row.
 #![tactic(auto)]
 
 ghost use Rattle.std.specs.Prelude.{◌<◌, ◌≤◌, length};
@@ -11,8 +12,10 @@ pub mod probes;
 use bitmaps::block::Base;
 use bitmaps::copy::Line;
 use bitmaps::word::Word;
+use sets::numbers::Numbers;
 
-// Adds turn i to all rows, with no branch on them. By number, not by `iter_mut`: a constant number of rows, so vector code with no rest.
+// Adds turn i to all rows, with no branch on them. By number, not by `iter_mut`: a constant number of rows, so vector
+// code with no rest.
 fn add_to_all(gathered: &mut [u64; Word::ROWS], i: u8)
     requires { i < turn_limit }
     ensures { Added (below_set block_rows) i gathered.old gathered.new }
@@ -22,7 +25,8 @@ fn add_to_all(gathered: &mut [u64; Word::ROWS], i: u8)
     }
 }
 
-// Adds turn i to the rows of a word. A full word, as at a first turn, takes the loop with no branch (docs/DECISIONS.md has what it saves).
+// Adds turn i to the rows of a word. A full word, as at a first turn, takes the loop with no branch (docs/DECISIONS.md
+// has what it saves).
 pub fn add_turn(gathered: &mut [u64; Word::ROWS], word: u64, i: u8)
     requires { i < turn_limit }
     ensures { Added word i gathered.old gathered.new }
@@ -31,11 +35,9 @@ pub fn add_turn(gathered: &mut [u64; Word::ROWS], word: u64, i: u8)
         add_to_all(gathered, i);
         return;
     }
-    let mut left = word;
-    while left != 0 {
-        let d = usize::from(sets::first(left));
+    for d in Numbers(word) {
+        let d = usize::from(d);
         gathered[d] = sets::with(gathered[d], i);
-        left = sets::rest(left);
     }
 }
 
@@ -51,7 +53,7 @@ pub fn gather_words<F: Fn(usize) -> u64>(turns: &[u8], word_of: F) -> [u64; Word
     gathered
 }
 
-// The turns whose predicates are marked in the table, for each row of the block.
+// The turns whose predicates are marked in the table, for each row of the block. The table is either of those of Probes.
 pub fn gather(turns: &[u8], table: &[u8], base: Base) -> [u64; Word::ROWS]
     requires { HasLines turns.now table.now }
     ensures { TurnsFor turns.now table.now base.row result }
