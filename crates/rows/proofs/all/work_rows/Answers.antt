@@ -13,10 +13,10 @@ withdrawn_line-withdrawn-requires c =
 pub loop-base-init : goal.loop-base-init
 loop-base-init c = let p = c.requires.has_no_bits in blocking_start c.withdrawn_line-withdrawn.ensures p.0 p.1
 
-pub invariant_of-present_rows-part : goal.invariant_of-present_rows-part
-invariant_of-present_rows-part c =
+pub invariant_of-present_rows : goal.invariant_of-present_rows
+invariant_of-present_rows c =
     let p = c.requires.rows_ready in
-    (block_in c.loop-base.invariant c.loop-base-test.true p.2 p.3).block
+    record { block = (block_in c.loop-base.invariant c.loop-base-test.true p.2 p.3).block }
 
 pub work_block-found-requires : goal.work_block-found-requires
 work_block-found-requires c =
