@@ -2,6 +2,7 @@
 #![tactic(auto)]
 
 pub mod bit;
+pub mod block;
 pub mod copy;
 pub mod size;
 pub mod word;

@@ -4,6 +4,8 @@ ghost use Rattle.fields.specs.Output.{Wrote};
 ghost use Rattle.task.specs.Log.{probe_field_size, probe_field};
 ghost use Rattle.copy_log.specs.MarkedLog.{turn_fields, HasTurns};
 
+use sets::numbers::Numbers;
+
 #[derive(Drop)]
 pub struct ProbeField;
 
@@ -15,25 +17,27 @@ impl ProbeField {
     pub const PAYLOAD_SIZE: u8 = 4;
 }
 
-// Writes the field of a probe from `at` on and gives the place behind it. The outcome is the format's byte: of a row two sets of turns tell it,
-// and no `Outcome` is made.
+// Writes the field of a probe from `at` on and gives the place behind it. The outcome is the format's byte: of a row two
+// sets of turns tell it, and no `Outcome` is made.
 fn put_probe(out: &mut [u8], at: usize, row: usize, c: u8, outcome: u8) -> usize
     requires { at + probe_field_size ≤ length out.old }
     ensures { Wrote at (probe_field row c outcome) out.old result out.new }
 {
+    let [high, low] = ((row % 0x1_0000) as u16).to_be_bytes();
     let field = [
         ProbeField::TAG,
         0,
         ProbeField::PAYLOAD_SIZE,
-        (row / 256 % 256) as u8,
-        (row % 256) as u8,
+        high,
+        low,
         c,
         outcome,
     ];
     fields::output::put(out, at, &field)
 }
 
-// Writes the fields of a row in the turns' sequence: of the turns of `due`, each with a yes where it is in `met`, a blank where it is in `blank`.
+// Writes the fields of a row in the turns' sequence: of the turns of `due`, each with a yes where it is in `met`, a blank
+// where it is in `blank`.
 pub fn put_row(
     out: &mut [u8],
     at: usize,
@@ -48,14 +52,12 @@ pub fn put_row(
     ensures { Wrote at (turn_fields turns.now row due met blank) out.old result out.new }
 {
     let mut end = at;
-    let mut left = due;
-    while left != 0 {
-        let i = sets::first(left);
+    for i in Numbers(due) {
         let c = turns[usize::from(i)];
-        // `as`, not `u8::from`: with that a copy takes up to a sixth longer (12 conditions over four columns: 1.20 of the engine by hand, for 1.04).
+        // The cast is `as`: by `u8::from` a copy takes up to a sixth longer. Of 12 conditions over four columns it takes
+        // 1.20 times as long as the copy of the engine written by hand, by `as` 1.04 times.
         let outcome = sets::has(met, i) as u8 + 2 * (sets::has(blank, i) as u8);
         end = put_probe(out, end, row, c, outcome);
-        left = sets::rest(left);
     }
     end
 }

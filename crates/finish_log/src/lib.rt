@@ -8,9 +8,11 @@ use answers::refusal::Refusal;
 use answers::word::Answer;
 use bitmaps::copy::Lines;
 use copy_log::field::ProbeField;
+use gather::probes::Probes;
 use marks::MarkTable;
 
-// Ends a copy whose own table and plan are these: refusal 20, or the length and the fields.
+// Ends a copy whose own table and plan are these: refusal 20, or the length and the fields. MarksOf has the table's size
+// for the theorems on the log, so the table is lent as a slice.
 pub fn finish_log(
     catalogue: &[u8],
     plan: &[usize],
@@ -34,15 +36,12 @@ pub fn finish_log(
     if (output.len() as u64) < size {
         return Err(Refusal::OutputTooShort);
     }
-    log_rows::all::put_rows(
-        catalogue,
-        plan,
-        order,
-        &marks[..MarkTable::PROBES],
-        &marks[MarkTable::PROBES..],
-        rows,
-        output,
-    );
+    let probes = Probes {
+        turns: order,
+        probed: &marks[..MarkTable::PROBES],
+        met: &marks[MarkTable::PROBES..],
+    };
+    log_rows::all::put_rows(catalogue, plan, probes, rows, output);
     Ok(Answer {
         first: 0,
         second: 0,

@@ -3,9 +3,9 @@
 
 ghost use Rattle.std.specs.Prelude.{◌≡◌, ◌+◌, ◌≤◌, ◌<◌, length, drop};
 ghost use Rattle.bitmaps.specs.Table.{line_size};
-ghost use Rattle.bitmaps.specs.Word.{BlockAt};
 ghost use Rattle.present.specs.Present.{WithdrawnFor, present_set};
 
+use bitmaps::block::Base;
 use bitmaps::copy::Line;
 
 // The mark that starts there, with zeros behind it, so that each block has a word of it.
@@ -19,11 +19,11 @@ pub fn withdrawn_line(catalogue: &[u8], mark: usize) -> [u8; Line::SIZE]
 }
 
 // Of the block at base the rows that there are and that are not withdrawn.
-pub fn present_rows(withdrawn: &[u8], rows: usize, base: usize) -> u64
-    requires { (length withdrawn.now ≡ line_size) × (base < rows) × BlockAt base }
-    ensures { result ≡ present_set withdrawn.now rows base }
+pub fn present_rows(withdrawn: &[u8; Line::SIZE], rows: usize, base: Base) -> u64
+    requires { base.row < rows }
+    ensures { result ≡ present_set withdrawn.now rows base.row }
 {
     // The last block may have fewer rows.
-    let there = bitmaps::word::rows_of(rows - base);
-    sets::minus(there, words::word_at(withdrawn, base / 8))
+    let there = bitmaps::word::rows_of(rows - base.row);
+    sets::minus(there, words::word_at(withdrawn, base.row / 8))
 }

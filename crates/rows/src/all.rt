@@ -4,6 +4,7 @@ ghost use Rattle.marks.specs.Marks.{HasNoBits, HasEmptyMarks};
 ghost use Rattle.rows.specs.Worked.{RowsReady, RowsWorked};
 
 use crate::block::Block;
+use bitmaps::block::Base;
 use bitmaps::word::Word;
 use predicate::fold::Fold;
 
@@ -37,7 +38,7 @@ pub fn work_rows(
     let Extent { rows, mark, start } = extent;
     let withdrawn = present::withdrawn_line(catalogue, mark);
     for base in (0..rows).step_by(Word::ROWS) {
-        let part = present::present_rows(&withdrawn, rows, base);
+        let part = present::present_rows(&withdrawn, rows, Base { row: base });
         let block = Block {
             base,
             rows: part,

@@ -1,11 +1,10 @@
 // A block of 64 rows worked through, turn after turn.
-ghost use Rattle.std.specs.Prelude.{◌≡◌, length};
-ghost use Rattle.query.specs.Format.{predicate_limit};
 ghost use Rattle.rows.specs.Ready.{slices};
 ghost use Rattle.rows.specs.Worked.{Filled, HasNoMarks, BlockReady, BlockWorked};
 
 use predicate::fold::Fold;
 use query::format::Predicate;
+use sets::numbers::Numbers;
 
 // Row d of the block is row base + d; the rows that take part; the predicates that are live at first.
 #[derive(Clone, Copy)]
@@ -16,15 +15,11 @@ pub struct Block {
 }
 
 // Makes the predicates of start live at the rows.
-fn fill(live: &mut [u64], start: u64, rows: u64)
-    requires { length live.old ≡ predicate_limit }
+fn fill(live: &mut [u64; Predicate::LIMIT], start: u64, rows: u64)
     ensures { Filled start rows live.old live.new }
 {
-    let mut left = start;
-    while left != 0 {
-        let c = usize::from(sets::first(left));
-        live[c] = rows;
-        left = sets::rest(left);
+    for c in Numbers(start) {
+        live[usize::from(c)] = rows;
     }
 }
 

@@ -5,3 +5,4 @@ pub mod KeptLaws
 pub mod Gathered
 pub mod Changed
 pub mod ChangedLaws
+pub mod Taken

@@ -1,6 +1,5 @@
 // A set of numbers below 64, held as the bits of a u64.
-// A loop over the numbers of a set x takes first(x) and goes on with rest(x): std has no iterator over the bits of a
-// number.
+// A loop over the numbers of a set x is `for d in Numbers(x)`: it takes first(x) and goes on with rest(x).
 #![tactic(auto)]
 
 ghost use Rattle.std.specs.Prelude.{ℕ, ◌≡◌, cond, ◌+◌, ◌*◌, ◌^◌, ◌≤◌, ◌<◌};
@@ -8,8 +7,11 @@ ghost use Rattle.sets.specs.Set.{has, one_set, below_set, set_minus, set_with};
 ghost use Rattle.sets.specs.Kept.{FirstIs, RestIs, MayAsk, KeptWhere};
 ghost use Rattle.sets.specs.Gathered.{bit_of, HalfWhere};
 
+pub mod numbers;
+
 // `d < 64` stands in `has`, `single` and `with`: with a type for such numbers each of their callers, which have a byte at
 // hand, would have to build a value of it first.
+
 
 // Is d in the set.
 pub fn has(x: u64, d: u8) -> bool
@@ -92,6 +94,7 @@ pub fn kept_where<F: Fn(u8) -> bool>(x: u64, test: F) -> u64
 {
     let mut left = x;
     let mut met: u64 = 0;
+    // Not by `Numbers`: it gives the numbers alone, and what is kept here is the bit that `left` loses.
     while left != 0 {
         let next = rest(left);
         met |= kept(test(first(left)), left ^ next);

@@ -7,14 +7,14 @@ pub blank_of-requires : goal.blank_of-requires
 blank_of-requires c =
     let a = c.args in
     let t = c.type_inv in
-    let R = c.requires.0.2 in (
+    let R = c.requires.2 in (
       R.low,
       R.plan_size_lem,
-      has_blanks a.catalogue.now a.plan.now a.probed.now a.met.now a.c c.requires.1 (λ k. (t.probed k).fits) (λ k. (t.met k).fits) c.word_at.ensures c.word_at-2.ensures (omega arith) c.rows_of_no-rows.ensures c.requires.0,
+      has_blanks a.catalogue.now a.plan.now a.probed.now a.met.now a.c a.base.block (λ k. (t.probed k).fits) (λ k. (t.met k).fits) c.word_at.ensures c.word_at-2.ensures (omega arith) c.rows_of_no-rows.ensures c.requires,
     )
 
 pub returns : goal.returns
 returns c T q R =
     let a = c.args in
     let t = c.type_inv in
-    blanks_found a.catalogue.now a.plan.now a.probed.now a.met.now a.c c.requires.1 (λ k. (t.probed k).fits) (λ k. (t.met k).fits) c.word_at.ensures c.word_at-2.ensures (omega arith) c.rows_of_no-rows.ensures T q R _ c.blank_of.ensures
+    blanks_found a.catalogue.now a.plan.now a.probed.now a.met.now a.c a.base.block (λ k. (t.probed k).fits) (λ k. (t.met k).fits) c.word_at.ensures c.word_at-2.ensures (omega arith) c.rows_of_no-rows.ensures T q R _ c.blank_of.ensures

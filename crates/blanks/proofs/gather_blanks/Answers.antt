@@ -7,7 +7,8 @@ use Rattle.blanks.proofs.gather_blanks.Goals as goal
 pub returns : goal.returns
 returns c T q R =
     let a = c.args in
+    let P = a.probes in
     c.gather_words.ensures _
     (λ i word d l e k.
-    (let found : BlankRows a.catalogue.now a.plan.now a.probed.now a.met.now (get_or a.turns.now i 0) a.base word = search rules in
+    (let found : BlankRows a.catalogue.now a.plan.now P.probed.now P.met.now (get_or P.turns.now i 0) a.base.row word = search rules in
     found T q (probes_at R l) d k))

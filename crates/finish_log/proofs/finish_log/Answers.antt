@@ -1,7 +1,7 @@
 -- `finish_log` meets its contract: refused before anything is written, or the fields of all probes.
 use Rattle.fields.proofs.Parts.{part_rest}
 use Rattle.finish_log.proofs.Finishing.{log_room, log_short, log_written, looks_few, marks_whole, size_short}
-use Rattle.finish_log.proofs.Halves.{first_length, half}
+use Rattle.finish_log.proofs.Halves.{first_length, half, probes_of}
 use Rattle.std.proofs.Common.{arith}
 use Rattle.finish_log.proofs.finish_log.Goals as goal
 
@@ -22,10 +22,16 @@ pub returns-then-output-size : goal.returns-then-output-size
 returns-then-output-size c =
     record { fits = omega arith; leaves = log_short c.bytes_for.ensures c.count_whole_lines-looked.ensures.0 c.args.output.now c.if-output-size.true }
 
-pub slice_bounds-put_rows-end : goal.slice_bounds-put_rows-end
-slice_bounds-put_rows-end c =
+pub slice_bounds-probes-end : goal.slice_bounds-probes-end
+slice_bounds-probes-end c =
     let s = c.requires.2.size in
     first_length c.args.marks.now (omega arith)
+
+-- each half has a line for each turn
+pub invariant_of-probes : goal.invariant_of-probes
+invariant_of-probes c =
+    let P = probes_of c.requires.2 in
+    record { lines = P.lines; met_lines = rw (part_rest c.args.marks.now half) P.met_lines }
 
 pub put_rows-requires : goal.put_rows-requires
 put_rows-requires c =

@@ -9,16 +9,15 @@ pub returns-then-word-below : goal.returns-then-word-below
 returns-then-word-below c =
     all_of c.args.i c.if-word-below.true c.below.ensures c.add_to_all.ensures
 
-pub loop-left-init : goal.loop-left-init
-loop-left-init c = let a = c.args in change_start (λ s. set_with s a.i) a.word a.gathered.now
+pub loop-d-init : goal.loop-d-init
+loop-d-init c =
+    let a = c.args in
+    rw c.into_iter-d-iterator.ensures.into_iter_gives (change_start (λ s. set_with s a.i) a.word a.gathered.now)
 
-pub loop-left-preserved : goal.loop-left-preserved
-loop-left-preserved c =
-    let l = c.loop-left in
-    change_next l.invariant c.from-d.result c.from-d.ensures c.first.ensures c.rest-left.ensures (omega arith) c.with.ensures
-
-pub shape_of-gathered : goal.shape_of-gathered
-shape_of-gathered c = c.loop-left.invariant.changed.size
+pub loop-d-preserved : goal.loop-d-preserved
+loop-d-preserved c =
+    let taken = c.in-Some.ensures.steps in
+    change_next c.loop-d.invariant c.from-d.result c.from-d.ensures taken.0 taken.1 (omega arith) c.with.ensures
 
 pub returns : goal.returns
-returns c = change_end c.loop-left.invariant (omega arith)
+returns c = change_end c.loop-d.invariant c.in-None.ensures.steps.0

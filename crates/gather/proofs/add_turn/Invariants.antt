@@ -3,8 +3,5 @@ use Rattle.sets.specs.Changed.{Changing}
 use Rattle.sets.specs.Set.{set_with}
 use Rattle.gather.proofs.add_turn.Given as goal
 
-abbrev pub invariant-loop-left : goal.invariant-loop-left
-invariant-loop-left l = Changing (λ s. set_with s l.i) l.word l.left l.initial.gathered l.gathered
-
-abbrev pub decreases-loop-left : goal.decreases-loop-left
-decreases-loop-left l = l.left
+abbrev pub invariant-loop-d : goal.invariant-loop-d
+invariant-loop-d l = Changing (λ s. set_with s l.i) l.word l.d-iterator.0 l.initial.gathered l.gathered

@@ -6,4 +6,4 @@ use Rattle.gather.proofs.gather.Goals as goal
 pub returns : goal.returns
 returns c =
     c.gather_words.ensures _
-    (λ i word d l e r. word_bits c.args.table.now (λ k. (c.type_inv.table k).fits) c.requires.has_lines.1 refl (search rules) d r)
+    (λ i word d l e r. word_bits c.args.table.now (λ k. (c.type_inv.table k).fits) c.args.base.block refl (search rules) d r)

@@ -1,8 +1,6 @@
 -- `gather_words` meets its contract. Invariant: each row has, of the turns passed, those whose words have the row.
 use Rattle.gather.specs.Turns.{GatheredBelow}
-use Rattle.std.specs.Prelude.{◌≡◌, length}
-use Rattle.bitmaps.specs.Word.{block_rows}
 use Rattle.gather.proofs.gather_words.Given as goal
 
 abbrev pub invariant-loop-i : goal.invariant-loop-i
-invariant-loop-i g l = (length l.gathered ≡ block_rows) × GatheredBelow (goal.F-post g l.word_of) l.i l.turns l.gathered
+invariant-loop-i g l = GatheredBelow (goal.F-post g l.word_of) l.i l.turns l.gathered

@@ -3,4 +3,4 @@ use Rattle.copy_log.proofs.BlockLoop.{BlockLoop}
 use Rattle.copy_log.proofs.block.put_block.Given as goal
 
 abbrev pub invariant-loop-d : goal.invariant-loop-d
-invariant-loop-d l = BlockLoop l.turns l.probed l.met l.blanks l.base l.at l.initial.out l.d l.end l.out
+invariant-loop-d l = BlockLoop l.turns l.probes.probed.now l.probes.met.now l.blanks l.base.row l.at l.initial.out l.d l.end l.out

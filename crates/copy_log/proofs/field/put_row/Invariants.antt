@@ -2,8 +2,5 @@
 use Rattle.copy_log.proofs.RowLoop.{RowLoop}
 use Rattle.copy_log.proofs.field.put_row.Given as goal
 
-abbrev pub invariant-loop-left : goal.invariant-loop-left
-invariant-loop-left l = RowLoop l.turns l.row l.due l.met l.blank l.at l.initial.out l.left l.end l.out
-
-abbrev pub decreases-loop-left : goal.decreases-loop-left
-decreases-loop-left l = l.left
+abbrev pub invariant-loop-i : goal.invariant-loop-i
+invariant-loop-i l = RowLoop l.turns l.row l.due l.met l.blank l.at l.initial.out l.i-iterator.0 l.end l.out

@@ -3,8 +3,10 @@ use Rattle.log_rows.proofs.RowsLoop.{RowsLoop}
 use Rattle.std.specs.Prelude.{◌-◌}
 use Rattle.log_rows.proofs.all.put_rows.Given as goal
 
-abbrev pub invariant-loop-base : goal.invariant-loop-base
-invariant-loop-base l = RowsLoop l.catalogue l.plan l.turns l.probed l.met l.rows l.initial.out l.base l.at l.out
+abbrev pub invariant-loop-row : goal.invariant-loop-row
+invariant-loop-row l =
+    let P = l.probes in
+    RowsLoop l.catalogue l.plan P.turns.now P.probed.now P.met.now l.rows l.initial.out l.row l.at l.out
 
-abbrev pub decreases-loop-base : goal.decreases-loop-base
-decreases-loop-base l = l.rows - l.base
+abbrev pub decreases-loop-row : goal.decreases-loop-row
+decreases-loop-row l = l.rows - l.row

@@ -13,11 +13,10 @@ withdrawn_line-withdrawn-requires c =
 pub loop-base-init : goal.loop-base-init
 loop-base-init c = let p = c.requires.has_no_bits in blocking_start c.withdrawn_line-withdrawn.ensures p.0 p.1
 
-pub present_rows-part-requires : goal.present_rows-part-requires
-present_rows-part-requires c =
+pub invariant_of-present_rows : goal.invariant_of-present_rows
+invariant_of-present_rows c =
     let p = c.requires.rows_ready in
-    let t = c.loop-base-test.true in
-    (c.loop-base.invariant.withdrawn.size, t, (block_in c.loop-base.invariant t p.2 p.3).block)
+    record { block = (block_in c.loop-base.invariant c.loop-base-test.true p.2 p.3).block }
 
 pub work_block-found-requires : goal.work_block-found-requires
 work_block-found-requires c =

@@ -3,17 +3,15 @@ use Rattle.sets.specs.ChangedLaws.{change_end, change_next, change_start}
 use Rattle.std.proofs.Common.{arith, refl}
 use Rattle.rows.proofs.block.fill.Goals as goal
 
-pub loop-left-init : goal.loop-left-init
-loop-left-init c = let a = c.args in change_start (λ word. a.rows) a.start a.live.now
+pub loop-c-init : goal.loop-c-init
+loop-c-init c =
+    let a = c.args in
+    rw c.into_iter-c-iterator.ensures.into_iter_gives (change_start (λ word. a.rows) a.start a.live.now)
 
-pub loop-left-preserved : goal.loop-left-preserved
-loop-left-preserved c =
-    let l = c.loop-left in
-    let f = c.first.ensures in
-    change_next l.invariant c.from-c.result c.from-c.ensures f c.rest-left.ensures (omega arith) refl
-
-pub shape_of-live : goal.shape_of-live
-shape_of-live c = c.loop-left.invariant.changed.size
+pub loop-c-preserved : goal.loop-c-preserved
+loop-c-preserved c =
+    let taken = c.in-Some.ensures.steps in
+    change_next c.loop-c.invariant c.from.result c.from.ensures taken.0 taken.1 (omega arith) refl
 
 pub returns : goal.returns
-returns c = change_end c.loop-left.invariant (omega arith)
+returns c = change_end c.loop-c.invariant c.in-None.ensures.steps.0

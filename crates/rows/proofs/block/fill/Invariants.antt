@@ -2,8 +2,5 @@
 use Rattle.sets.specs.Changed.{Changing}
 use Rattle.rows.proofs.block.fill.Given as goal
 
-abbrev pub invariant-loop-left : goal.invariant-loop-left
-invariant-loop-left l = Changing (λ word. l.rows) l.start l.left l.initial.live l.live
-
-abbrev pub decreases-loop-left : goal.decreases-loop-left
-decreases-loop-left l = l.left
+abbrev pub invariant-loop-c : goal.invariant-loop-c
+invariant-loop-c l = Changing (λ word. l.rows) l.start l.c-iterator.0 l.initial.live l.live
