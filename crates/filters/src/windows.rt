@@ -5,10 +5,11 @@ ghost use Rattle.catalogue.specs.Format.{text_tag};
 ghost use Rattle.catalogue.specs.InPlace.{HasRow};
 ghost use Rattle.slots.specs.Slots.{slot_size};
 ghost use Rattle.sets.specs.Kept.{KeptBy};
-ghost use Rattle.heads.specs.Block.{HasDueRows, slot_of};
+ghost use Rattle.heads.specs.Block.{slot_of};
 ghost use Rattle.filters.specs.Windows.{windows_pass};
 
 use crate::pair::Pair;
+use heads::rows::DueRows;
 use slots::slot::Text;
 
 // The slot at p. The pair's two places run from p and q on in the first window, from r and s on in the second, which
@@ -31,10 +32,11 @@ fn slot_passes(b: &[u8], p: usize, k: Pair) -> bool
 }
 
 // The due rows whose slots pass, by the shorter way.
-pub fn windows_rows(b: &[u8], start: usize, base: usize, k: Pair, due: u64) -> u64
-    requires { HasDueRows b.now text_tag start base due × (k.gap ≤ 8) }
-    ensures { KeptBy (λ d. windows_pass b.now (slot_of start (base + d)) k) due result }
+pub fn windows_rows(rows: DueRows, k: Pair) -> u64
+    requires { (rows.tag ≡ text_tag) × (k.gap ≤ 8) }
+    ensures { let r = rows.entry in KeptBy (λ d. windows_pass r.b.now (slot_of r.start (r.base + d)) k) r.due result }
 {
+    let DueRows { b, start, base, due, .. } = rows;
     sets::met_where(
         due,
         |d| -> bool

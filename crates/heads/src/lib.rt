@@ -5,3 +5,4 @@
 pub mod byte_test;
 pub mod front;
 pub mod head;
+pub mod rows;
