@@ -28,9 +28,9 @@ pub fn non_ascii_rows(rows: DueRows) -> u64
     requires { rows.tag ≡ text_tag }
     ensures { let r = rows.entry in KeptBy (λ d. non_ascii_in r.b.now (slot_of r.start (r.base + d)) slot_size) r.due result }
 {
-    let DueRows { b, start, base, due, .. } = rows;
+    let (b, start, base) = (rows.b, rows.start, rows.base);
     sets::kept_where(
-        due,
+        rows.due,
         |d| -> bool
             requires { HasRow b.now text_tag start (base + d) }
             ensures { result ≡ non_ascii_in b.entry.now (slot_of start (base + d)) slot_size }

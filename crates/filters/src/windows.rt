@@ -36,9 +36,9 @@ pub fn windows_rows(rows: DueRows, k: Pair) -> u64
     requires { (rows.tag ≡ text_tag) × (k.gap ≤ 8) }
     ensures { let r = rows.entry in KeptBy (λ d. windows_pass r.b.now (slot_of r.start (r.base + d)) k) r.due result }
 {
-    let DueRows { b, start, base, due, .. } = rows;
+    let (b, start, base) = (rows.b, rows.start, rows.base);
     sets::met_where(
-        due,
+        rows.due,
         |d| -> bool
             requires { HasRow b.now text_tag start (base + d) × (k.gap ≤ 8) }
             ensures { result ≡ windows_pass b.entry.now (slot_of start (base + d)) k }

@@ -8,11 +8,12 @@ ghost use Rattle.catalogue.specs.Format.{text_tag};
 ghost use Rattle.catalogue.specs.InPlace.{HasRow};
 ghost use Rattle.predicate.specs.Meaning.{begins_with, text_test};
 ghost use Rattle.sets.specs.Kept.{KeptBy};
-ghost use Rattle.heads.specs.Block.{HasDueRows, text_of};
+ghost use Rattle.heads.specs.Block.{text_of};
 ghost use Rattle.fronts.specs.Fronts.{of_fronts, size_fits, BeginsAlike};
 ghost use Rattle.fronts.specs.Sure.{SureFor};
 
 use crate::sure::Sure;
+use heads::rows::DueRows;
 use predicate::fold::Fold;
 use predicate::kind::Kind;
 use slots::slot::Text;
@@ -72,21 +73,14 @@ fn row_passes(
 }
 
 // The due rows whose texts pass.
-pub fn fronts_that_pass(
-    fold: Fold,
-    b: &[u8],
-    start: usize,
-    base: usize,
-    kind: u8,
-    operand: &[u8],
-    due: u64,
-) -> u64
-    requires { HasDueRows b.now text_tag start base due × (of_fronts kind ≡ true) }
-    ensures { KeptBy (λ d. text_test kind operand.now (text_of b.now start (base + d))) due result }
+pub fn fronts_that_pass(fold: Fold, rows: DueRows, kind: u8, operand: &[u8]) -> u64
+    requires { (rows.tag ≡ text_tag) × (of_fronts kind ≡ true) }
+    ensures { let r = rows.entry in KeptBy (λ d. text_test kind operand.now (text_of r.b.now r.start (r.base + d))) r.due result }
 {
+    let (b, start, base) = (rows.b, rows.start, rows.base);
     let k = crate::sure::sure_of(fold, operand);
     sets::kept_where(
-        due,
+        rows.due,
         |d| -> bool
             requires { HasRow b.now text_tag start (base + d) × (of_fronts kind ≡ true) × SureFor operand.now k }
             ensures { result ≡ text_test kind operand.entry.now (text_of b.entry.now start (base + d)) }

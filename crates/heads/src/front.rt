@@ -17,9 +17,9 @@ pub fn front_rows(rows: DueRows, k: Head) -> u64
     requires { rows.tag ≡ text_tag }
     ensures { let r = rows.entry in KeptBy (λ d. head_passes r.b.now (slot_of r.start (r.base + d)) k) r.due result }
 {
-    let DueRows { b, start, base, due, .. } = rows;
+    let (b, start, base) = (rows.b, rows.start, rows.base);
     sets::met_where(
-        due,
+        rows.due,
         |d| -> bool
             requires { HasRow b.now text_tag start (base + d) }
             ensures { result ≡ head_passes b.entry.now (slot_of start (base + d)) k }

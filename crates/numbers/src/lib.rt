@@ -7,10 +7,10 @@ ghost use Rattle.catalogue.specs.Format.{number_tag, number_size};
 ghost use Rattle.catalogue.specs.InPlace.{HasRow};
 ghost use Rattle.predicate.specs.Meaning.{number_blank};
 ghost use Rattle.sets.specs.Kept.{KeptBy};
-ghost use Rattle.heads.specs.Block.{HasDueRows};
 ghost use Rattle.numbers.specs.Within.{number_in_row, within};
 
 use catalogue::format::Number;
+use heads::rows::DueRows;
 
 // Whether n is low or one of the numbers after it, as many as width: one comparison. Written with <= it becomes a branch in the loop over
 // due rows, which a processor guesses wrong where the answers are mixed.
@@ -52,12 +52,13 @@ fn is_blank_at(b: &[u8], at: usize) -> bool
 }
 
 // The due rows whose numbers are among those.
-fn due_within(b: &[u8], start: usize, base: usize, low: u32, width: u32, due: u64) -> u64
-    requires { HasDueRows b.now number_tag start base due × (low + width < 2 ^ 32) }
-    ensures { KeptBy (λ d. within low width (number_in_row b.now start (base + d))) due result }
+fn due_within(rows: DueRows, low: u32, width: u32) -> u64
+    requires { (rows.tag ≡ number_tag) × (low + width < 2 ^ 32) }
+    ensures { let r = rows.entry in KeptBy (λ d. within low width (number_in_row r.b.now r.start (r.base + d))) r.due result }
 {
+    let (b, start, base) = (rows.b, rows.start, rows.base);
     sets::kept_where(
-        due,
+        rows.due,
         |d| -> bool
             requires { HasRow b.now number_tag start (base + d) × (low + width < 2 ^ 32) }
             ensures { result ≡ within low width (number_in_row b.entry.now start (base + d)) }
@@ -71,12 +72,14 @@ fn due_within(b: &[u8], start: usize, base: usize, low: u32, width: u32, due: u6
     )
 }
 
-// The same, by the shorter way.
-pub fn numbers_within(b: &[u8], start: usize, base: usize, low: u32, width: u32, due: u64) -> u64
-    requires { HasDueRows b.now number_tag start base due × (low + width < 2 ^ 32) }
-    ensures { KeptBy (λ d. within low width (number_in_row b.now start (base + d))) due result }
+// The same, by the shorter way. Not by `met_where`, which asks one test on both ways: a whole block's reads four bytes in the order that
+// becomes vector code, and the loop over due rows has no use for that.
+pub fn numbers_within(rows: DueRows, low: u32, width: u32) -> u64
+    requires { (rows.tag ≡ number_tag) × (low + width < 2 ^ 32) }
+    ensures { let r = rows.entry in KeptBy (λ d. within low width (number_in_row r.b.now r.start (r.base + d))) r.due result }
 {
-    if due == sets::below(64) {
+    let (b, start, base) = (rows.b, rows.start, rows.base);
+    if rows.due == sets::below(64) {
         return sets::all_where(
             |d| -> bool
                 requires { HasRow b.now number_tag start (base + d) × (low + width < 2 ^ 32) }
@@ -91,16 +94,17 @@ pub fn numbers_within(b: &[u8], start: usize, base: usize, low: u32, width: u32,
             },
         );
     }
-    due_within(b, start, base, low, width, due)
+    due_within(rows, low, width)
 }
 
-// The due rows whose numbers are blank. Only a whole block by an equality: in the loop over due rows it would become a branch.
-pub fn numbers_blank(b: &[u8], start: usize, base: usize, due: u64) -> u64
-    requires { HasDueRows b.now number_tag start base due }
-    ensures { KeptBy (λ d. number_blank (number_in_row b.now start (base + d))) due result }
+// The due rows whose numbers are blank. Not by `met_where`: in the loop over due rows an equality would become a branch.
+pub fn numbers_blank(rows: DueRows) -> u64
+    requires { rows.tag ≡ number_tag }
+    ensures { let r = rows.entry in KeptBy (λ d. number_blank (number_in_row r.b.now r.start (r.base + d))) r.due result }
 {
+    let (b, start, base) = (rows.b, rows.start, rows.base);
     let full = sets::below(64);
-    if due == full {
+    if rows.due == full {
         return sets::all_where(
             |d| -> bool
                 requires { HasRow b.now number_tag start (base + d) }
@@ -108,5 +112,5 @@ pub fn numbers_blank(b: &[u8], start: usize, base: usize, due: u64) -> u64
             { is_blank_at(b, start + Number::SIZE * (base + usize::from(d))) },
         );
     }
-    due_within(b, start, base, Number::BLANK, 0, due)
+    due_within(rows, Number::BLANK, 0)
 }
