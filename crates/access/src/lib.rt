@@ -6,6 +6,7 @@ ghost use Rattle.query.specs.Format.{predicate_limit};
 ghost use Rattle.plan.specs.Plan.{plan_size, access_at};
 ghost use Rattle.access.specs.Access.{HasOutcome, AccessGives, HasOutcomes, MetIs, HasOutcomesAnyQuery, BlankIs};
 
+use heads::rows::DueRows;
 use plan::table::Plan;
 use predicate::fold::Fold;
 use predicate::outcome::Outcome;
@@ -81,7 +82,14 @@ pub fn met_of(
     ensures { MetIs catalogue.now q.now (access_at plan.now c) base due result }
 {
     let x = access_in(plan, c);
-    scan::met::met_at(fold, catalogue, x.start, base, x.kind, x.operand(q), due)
+    let rows = DueRows {
+        b: catalogue,
+        tag: x.tag,
+        start: x.start,
+        base,
+        due,
+    };
+    scan::met::met_at(fold, rows, x.kind, x.operand(q))
 }
 
 // Those at which it is blank: the operand is not asked for.
@@ -90,5 +98,12 @@ pub fn blank_of(catalogue: &[u8], plan: &[usize], c: usize, base: usize, due: u6
     ensures { BlankIs catalogue.now (access_at plan.now c) base due result }
 {
     let x = access_in(plan, c);
-    scan::met::blank_at(catalogue, x.start, base, x.kind, due)
+    let rows = DueRows {
+        b: catalogue,
+        tag: x.tag,
+        start: x.start,
+        base,
+        due,
+    };
+    scan::met::blank_at(rows, x.kind)
 }
