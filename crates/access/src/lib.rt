@@ -6,6 +6,7 @@ ghost use Rattle.query.specs.Format.{predicate_limit};
 ghost use Rattle.plan.specs.Plan.{plan_size, access_at};
 ghost use Rattle.access.specs.Access.{HasOutcome, AccessGives, HasOutcomes, MetIs, HasOutcomesAnyQuery, BlankIs};
 
+use catalogue::cell::Cell;
 use heads::rows::DueRows;
 use plan::table::Plan;
 use predicate::fold::Fold;
@@ -64,7 +65,13 @@ pub fn outcome_of(
     ensures { AccessGives catalogue.now q.now (access_at plan.now c) row result }
 {
     let x = access_in(plan, c);
-    predicate::row::outcome_at(fold, catalogue, x.tag, x.start, x.kind, x.operand(q), row)
+    let cell = Cell {
+        b: catalogue,
+        tag: x.tag,
+        start: x.start,
+        row,
+    };
+    predicate::row::outcome_at(fold, cell, x.kind, x.operand(q))
 }
 
 // The due rows of a block at which predicate c is taken for yes: bit d is row base + d.

@@ -4,6 +4,7 @@
 pub mod sure;
 
 ghost use Rattle.std.specs.Prelude.{◌≡◌, true, ◌+◌, ◌≤◌, length};
+ghost use Rattle.fields.specs.Numbers.{Bytes};
 ghost use Rattle.catalogue.specs.Format.{text_tag};
 ghost use Rattle.catalogue.specs.InPlace.{HasRow};
 ghost use Rattle.predicate.specs.Meaning.{begins_with, text_test};
@@ -13,6 +14,8 @@ ghost use Rattle.fronts.specs.Fronts.{of_fronts, size_fits, BeginsAlike};
 ghost use Rattle.fronts.specs.Sure.{SureFor};
 
 use crate::sure::Sure;
+use catalogue::cell::Cell;
+use catalogue::format::Column;
 use heads::rows::DueRows;
 use predicate::fold::Fold;
 use predicate::kind::Kind;
@@ -50,23 +53,15 @@ fn rest_matches(fold: Fold, text: &[u8], operand: &[u8]) -> bool
 }
 
 // Whether the text of a row passes. Where its first word does not tell, as of an accented letter, it is compared from its first byte on.
-fn row_passes(
-    fold: Fold,
-    b: &[u8],
-    start: usize,
-    row: usize,
-    kind: u8,
-    operand: &[u8],
-    k: Sure,
-) -> bool
-    requires { HasRow b.now text_tag start row × (of_fronts kind ≡ true) × SureFor operand.now k }
-    ensures { result ≡ text_test kind operand.now (text_of b.now start row) }
+fn row_passes(fold: Fold, cell: Cell, kind: u8, operand: &[u8], k: Sure) -> bool
+    requires { (cell.tag ≡ text_tag) × (of_fronts kind ≡ true) × SureFor operand.now k × Bytes cell.b.now }
+    ensures { result ≡ text_test kind operand.now (text_of cell.entry.b.now cell.entry.start cell.entry.row) }
 {
-    let text = catalogue::column::text_at(b, start, row);
+    let text = catalogue::column::text_at(cell);
     if !size_fits(kind, text.len(), operand.len()) {
         return false;
     }
-    if crate::sure::is_sure(b, start + Text::SLOT_SIZE * row, k) {
+    if crate::sure::is_sure(cell.b, cell.start + Text::SLOT_SIZE * cell.row, k) {
         return rest_matches(fold, text, operand);
     }
     predicate::text::begins_with(fold, text, operand)
@@ -82,8 +77,16 @@ pub fn fronts_that_pass(fold: Fold, rows: DueRows, kind: u8, operand: &[u8]) -> 
     sets::kept_where(
         rows.due,
         |d| -> bool
-            requires { HasRow b.now text_tag start (base + d) × (of_fronts kind ≡ true) × SureFor operand.now k }
+            requires { HasRow b.now text_tag start (base + d) × (of_fronts kind ≡ true) × SureFor operand.now k × Bytes b.now }
             ensures { result ≡ text_test kind operand.entry.now (text_of b.entry.now start (base + d)) }
-        { row_passes(fold, b, start, base + usize::from(d), kind, operand, k) },
+        {
+            let cell = Cell {
+                b,
+                tag: Column::TEXT_TAG,
+                start,
+                row: base + usize::from(d),
+            };
+            row_passes(fold, cell, kind, operand, k)
+        },
     )
 }

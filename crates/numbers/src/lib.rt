@@ -9,7 +9,8 @@ ghost use Rattle.predicate.specs.Meaning.{number_blank};
 ghost use Rattle.sets.specs.Kept.{KeptBy};
 ghost use Rattle.numbers.specs.Within.{number_in_row, within};
 
-use catalogue::format::Number;
+use catalogue::cell::Cell;
+use catalogue::format::{Column, Number};
 use heads::rows::DueRows;
 
 // Whether n is low or one of the numbers after it, as many as width: one comparison. Written with <= it becomes a branch in the loop over
@@ -66,7 +67,12 @@ fn due_within(rows: DueRows, low: u32, width: u32) -> u64
             is_within(
                 low,
                 width,
-                catalogue::column::number_at(b, start, base + usize::from(d)),
+                catalogue::column::number_at(Cell {
+                    b,
+                    tag: Column::NUMBER_TAG,
+                    start,
+                    row: base + usize::from(d),
+                }),
             )
         },
     )

@@ -6,6 +6,8 @@ ghost use Rattle.predicate.specs.Meaning.{text_test, text_blank};
 ghost use Rattle.sets.specs.Kept.{KeptBy};
 ghost use Rattle.heads.specs.Block.{text_of};
 
+use catalogue::cell::Cell;
+use catalogue::format::Column;
 use heads::rows::DueRows;
 use predicate::fold::Fold;
 
@@ -29,7 +31,12 @@ fn texts_one_by_one(fold: Fold, rows: DueRows, kind: u8, operand: &[u8]) -> u64
             requires { HasRow b.now text_tag start (base + d) }
             ensures { result ≡ text_test kind operand.entry.now (text_of b.entry.now start (base + d)) }
         {
-            let text = catalogue::column::text_at(b, start, base + usize::from(d));
+            let text = catalogue::column::text_at(Cell {
+                b,
+                tag: Column::TEXT_TAG,
+                start,
+                row: base + usize::from(d),
+            });
             predicate::text::text_test(fold, kind, operand, text)
         },
     )

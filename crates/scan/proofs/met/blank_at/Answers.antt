@@ -6,6 +6,9 @@ use Rattle.scan.proofs.met.blank_at.Goals as goal
 pub returns-then-not-asks_content : goal.returns-then-not-asks_content
 returns-then-not-asks_content c = none_blank _ c.plain_kind.ensures (sym c.asks_content.ensures ∙ c.if-not-asks_content.true)
 
+pub numbers_blank-requires : goal.numbers_blank-requires
+numbers_blank-requires c = c.if-rows-eq-NUMBER_TAG.true
+
 pub returns-then-rows-eq-NUMBER_TAG : goal.returns-then-rows-eq-NUMBER_TAG
 returns-then-rows-eq-NUMBER_TAG c =
     let k = c.plain_kind.ensures in
