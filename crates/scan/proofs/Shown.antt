@@ -28,7 +28,7 @@ use Rattle.heads.specs.Block.{text_of}
 use Rattle.fronts.proofs.Texts.{text_shown}
 use Rattle.scan.specs.declared.range.Range.{Range}
 use Rattle.numbers.specs.Within.{number_in_row, within}
-use Rattle.scan.specs.Met.{RangeFor, ShownRows, FitsColumn, MetFor, PlainMetFor, BlankFor}
+use Rattle.scan.specs.Met.{RangeFor, FitsColumn, MetFor, PlainMetFor, BlankFor}
 use Rattle.scan.proofs.Ranges.{text_fits, range_means}
 use Rattle.scan.proofs.Blanks.{number_truth, text_truth}
 

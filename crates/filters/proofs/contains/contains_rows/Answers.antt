@@ -3,7 +3,7 @@ use Rattle.filters.proofs.Pairs.{near_gap}
 use Rattle.filters.proofs.Passing.{pair_or_non_ascii_sifts, pair_sifts}
 use Rattle.filters.specs.declared.pair.Pair.{Pair}
 use Rattle.heads.proofs.DueRowLaws.{due_rows}
-use Rattle.std.proofs.Common.{ap, arith, sym, ◌∙◌}
+use Rattle.std.proofs.Common.{ap, sym, ◌∙◌}
 use Rattle.filters.proofs.contains.contains_rows.Goals as goal
 
 pub windows_rows-tight-requires : goal.windows_rows-tight-requires

@@ -10,7 +10,7 @@ use Rattle.heads.specs.declared.head.Head.{Head}
 use Rattle.predicate.specs.Meaning.{text_blank}
 use Rattle.sets.specs.Kept.{KeptBy}
 use Rattle.sets.specs.KeptLaws.{kept_same}
-use Rattle.std.proofs.Common.{ap, arith, sym, ◌∙◌}
+use Rattle.std.proofs.Common.{ap, sym, ◌∙◌}
 use Rattle.std.specs.Prelude.{List, eqb, ℕ, ◌+◌}
 use Rattle.scan.proofs.text.texts_blank.Goals as goal
 
