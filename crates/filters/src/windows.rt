@@ -1,5 +1,5 @@
-// The filter of contains: the pair anywhere in the slot, in two windows of 16 bytes that cover it. Both windows are tested
-// by one loop of constant length, which becomes vector code.
+// The filter of contains: the pair anywhere in the slot, in two windows of 16 bytes that cover it. Both windows are
+// tested by one loop of constant length, which becomes vector code.
 ghost use Rattle.std.specs.Prelude.{◌≡◌, ◌+◌, ◌≤◌, length};
 ghost use Rattle.catalogue.specs.Format.{text_tag};
 ghost use Rattle.catalogue.specs.InPlace.{HasRow};

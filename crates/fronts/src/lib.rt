@@ -52,7 +52,8 @@ fn rest_matches(fold: Fold, text: &[u8], operand: &[u8]) -> bool
     true
 }
 
-// Whether the text of a row passes. Where its first word does not tell, as of an accented letter, it is compared from its first byte on.
+// Whether the text of a row passes. Where its first word does not tell, as of an accented letter, it is compared from
+// its first byte on.
 fn row_passes(fold: Fold, cell: Cell, kind: u8, operand: &[u8], k: Sure) -> bool
     requires { (cell.tag ≡ text_tag) × (of_fronts kind ≡ true) × SureFor operand.now k × Bytes cell.b.now }
     ensures { result ≡ text_test kind operand.now (text_of cell.entry.b.now cell.entry.start cell.entry.row) }

@@ -10,8 +10,8 @@ use crate::head::Head;
 use crate::rows::DueRows;
 use slots::slot::Text;
 
-// The due rows whose heads pass, by the shorter way. Not inlined: where the compiler sees the head of a blank it joins the halves of a
-// block in lanes of 64 bits.
+// The due rows whose heads pass, by the shorter way. Not inlined: where the compiler sees the head of a blank it
+// joins the halves of a block in lanes of 64 bits.
 #[inline(never)]
 pub fn front_rows(rows: DueRows, k: Head) -> u64
     requires { rows.tag ≡ text_tag }

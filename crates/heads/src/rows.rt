@@ -1,9 +1,10 @@
-// The due rows of a block of 64 rows of a column.
+// The due rows of a block of 64 rows of a column: what the leaves of a run are given.
 ghost use Rattle.std.specs.Prelude.{◌≡◌};
 ghost use Rattle.fields.specs.Numbers.{Bytes};
 ghost use Rattle.heads.specs.Block.{HasDueRows, IsWithin};
 
 // Bit d of `due` is row base + d of the column of this tag whose payload starts there in b, the catalogue's bytes.
+// Every due row is a row of that column; that b holds bytes is said for those who hand it on and read none.
 #[derive(Clone, Copy)]
 pub struct DueRows<'a> {
     pub b: &'a [u8],

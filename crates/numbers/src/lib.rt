@@ -13,8 +13,8 @@ use catalogue::cell::Cell;
 use catalogue::format::{Column, Number};
 use heads::rows::DueRows;
 
-// Whether n is low or one of the numbers after it, as many as width: one comparison. Written with <= it becomes a branch in the loop over
-// due rows, which a processor guesses wrong where the answers are mixed.
+// Whether n is low or one of the numbers after it, as many as width: one comparison. Written with <= it becomes a
+// branch in the loop over due rows, which a processor guesses wrong where the answers are mixed.
 fn is_within(low: u32, width: u32, n: u32) -> bool
     requires { low + width < 2 ^ 32 }
     ensures { result ≡ within low width n }
@@ -22,9 +22,10 @@ fn is_within(low: u32, width: u32, n: u32) -> bool
     !(width < std::num::wrapping_sub_u32(n, low))
 }
 
-// The number at a place less low, wrapping. The four bytes are read with the least significant first, and low is taken away between the
-// two steps that put them in order: a reversal that the compiler sees as one instruction would keep the loop over it from vector code.
-// Lanes are compared as signed numbers: with 2^31 taken off low and off the sum, none needs its top bit turned for that.
+// The number at a place less low, wrapping. The four bytes are read with the least significant first, and low is
+// taken away between the two steps that put them in order: a reversal that the compiler sees as one instruction would
+// keep the loop over it from vector code. Lanes are compared as signed numbers: with 2^31 taken off low and off the
+// sum, none needs its top bit turned for that.
 fn above(b: &[u8], at: usize, low: u32) -> u32
     requires { at + number_size ≤ length b.now }
     ensures { ((result + low) % 2 ^ 32 ≡ number_at b.now at number_size) × (result < 2 ^ 32) }
@@ -78,8 +79,8 @@ fn due_within(rows: DueRows, low: u32, width: u32) -> u64
     )
 }
 
-// The same, by the shorter way. Not by `met_where`, which asks one test on both ways: a whole block's reads four bytes in the order that
-// becomes vector code, and the loop over due rows has no use for that.
+// The same, by the shorter way. Not by `met_where`, which asks one test on both ways: a whole block's reads the four
+// bytes in the order that becomes vector code, and the loop over due rows has no use for that.
 pub fn numbers_within(rows: DueRows, low: u32, width: u32) -> u64
     requires { (rows.tag ≡ number_tag) × (low + width < 2 ^ 32) }
     ensures { let r = rows.entry in KeptBy (λ d. within low width (number_in_row r.b.now r.start (r.base + d))) r.due result }
@@ -103,7 +104,8 @@ pub fn numbers_within(rows: DueRows, low: u32, width: u32) -> u64
     due_within(rows, low, width)
 }
 
-// The due rows whose numbers are blank. Not by `met_where`: in the loop over due rows an equality would become a branch.
+// The due rows whose numbers are blank. Not by `met_where`: in the loop over due rows an equality would become a
+// branch.
 pub fn numbers_blank(rows: DueRows) -> u64
     requires { rows.tag ≡ number_tag }
     ensures { let r = rows.entry in KeptBy (λ d. number_blank (number_in_row r.b.now r.start (r.base + d))) r.due result }

@@ -27,7 +27,9 @@ fn plain_at(fold: Fold, cell: Cell, kind: u8, operand: &[u8]) -> Outcome
     Outcome::from(crate::text::text_test(fold, kind, operand, text))
 }
 
-// The outcome of any kind.
+// The outcome of any kind. Kind and operand are not one type with the fact `HasRange`: it is asked here of the plain
+// kind, by `number_test` of the kind itself, an opposite's too, and one fact for both would ask more of
+// `number_test`.
 pub fn outcome_at(fold: Fold, cell: Cell, kind: u8, operand: &[u8]) -> Outcome
     requires { HasRange (plain_kind kind) operand.now }
     ensures { let c = cell.entry in OutcomeIs c.b.now c.tag c.start kind operand.now c.row result }

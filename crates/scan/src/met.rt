@@ -9,7 +9,8 @@ use heads::rows::DueRows;
 use predicate::fold::Fold;
 use predicate::kind::Kind;
 
-// Of the kind below the opposites. What a leaf takes of the operand is worked out for each block: a table of it is no faster.
+// Of the kind below the opposites. What a leaf takes of the operand is worked out for each block: a table of it is no
+// faster.
 fn plain_met_at(fold: Fold, rows: DueRows, kind: u8, operand: &[u8]) -> u64
     requires { FitsColumn rows.tag kind operand.now }
     ensures { let r = rows.entry in PlainMetFor r.b.now r.start r.base kind operand.now r.due result }

@@ -19,7 +19,8 @@ pub fn texts_blank(rows: DueRows) -> u64
     heads::front::front_rows(rows, heads::head::blank_head())
 }
 
-// The due rows whose texts pass the test of a kind below the opposites, each text handed on as a part. The way of contains.
+// The due rows whose texts pass the test of a kind below the opposites, each text handed on as a part. The way of
+// contains.
 fn texts_one_by_one(fold: Fold, rows: DueRows, kind: u8, operand: &[u8]) -> u64
     requires { rows.tag ≡ text_tag }
     ensures { let r = rows.entry in KeptBy (λ d. text_test kind operand.now (text_of r.b.now r.start (r.base + d))) r.due result }
