@@ -6,6 +6,8 @@ ghost use Rattle.query.specs.Format.{predicate_limit};
 ghost use Rattle.plan.specs.Plan.{plan_size, access_at};
 ghost use Rattle.access.specs.Access.{HasOutcome, AccessGives, HasOutcomes, MetIs, HasOutcomesAnyQuery, BlankIs};
 
+use catalogue::cell::Cell;
+use heads::rows::DueRows;
 use plan::table::Plan;
 use predicate::fold::Fold;
 use predicate::outcome::Outcome;
@@ -63,7 +65,13 @@ pub fn outcome_of(
     ensures { AccessGives catalogue.now q.now (access_at plan.now c) row result }
 {
     let x = access_in(plan, c);
-    predicate::row::outcome_at(fold, catalogue, x.tag, x.start, x.kind, x.operand(q), row)
+    let cell = Cell {
+        b: catalogue,
+        tag: x.tag,
+        start: x.start,
+        row,
+    };
+    predicate::row::outcome_at(fold, cell, x.kind, x.operand(q))
 }
 
 // The due rows of a block at which predicate c is taken for yes: bit d is row base + d.
@@ -81,7 +89,14 @@ pub fn met_of(
     ensures { MetIs catalogue.now q.now (access_at plan.now c) base due result }
 {
     let x = access_in(plan, c);
-    scan::met::met_at(fold, catalogue, x.start, base, x.kind, x.operand(q), due)
+    let rows = DueRows {
+        b: catalogue,
+        tag: x.tag,
+        start: x.start,
+        base,
+        due,
+    };
+    scan::met::met_at(fold, rows, x.kind, x.operand(q))
 }
 
 // Those at which it is blank: the operand is not asked for.
@@ -90,5 +105,12 @@ pub fn blank_of(catalogue: &[u8], plan: &[usize], c: usize, base: usize, due: u6
     ensures { BlankIs catalogue.now (access_at plan.now c) base due result }
 {
     let x = access_in(plan, c);
-    scan::met::blank_at(catalogue, x.start, base, x.kind, due)
+    let rows = DueRows {
+        b: catalogue,
+        tag: x.tag,
+        start: x.start,
+        base,
+        due,
+    };
+    scan::met::blank_at(rows, x.kind)
 }

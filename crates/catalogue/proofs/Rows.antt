@@ -1,18 +1,21 @@
 -- The value of a row, in the decoded column and in the bytes.
 use Prim.Native.Nat.{ℕ, zero, suc, ◌+◌, ◌-◌, ◌*◌, ◌≤◌, ◌<◌}
 use native.Mathlib.Omega.{arith}
-use mathlib.Core.Path.{◌≡◌, ap, ◌∙◌}
+use mathlib.Core.Path.{◌≡◌, refl, ap, ◌∙◌}
 use mathlib.Core.Bool.{true}
+use mathlib.Core.Logic.{◌⊎◌, inl, inr, ∥∥₁_elim}
 use mathlib.Core.List.{List, []}
+use Rattle.std.specs.Coded.{coded_bool, Coded-set, ×_prop, le_prop}
 use lib.ListN.{length, get_or, take, drop}
 use lib.Dec.{leb}
 use borrow.Author.Tests.{leb-true}
-use Rattle.bools.specs.Bools.{and_left, and_right}
+use Rattle.bools.specs.Bools.{both, and_left, and_right, same?}
 use Rattle.fields.specs.Numbers.{number_at}
 use Rattle.catalogue.specs.Format.{number_tag, number_size, text_tag}
 use Rattle.catalogue.specs.Catalogue.{numbers, texts}
 use Rattle.slots.specs.Slots.{slot_size, text_limit, text_at, texts_at, zeros_at, valid_slot, valid_slots}
 use Rattle.catalogue.specs.Decode.{numbers_at}
+use Rattle.catalogue.specs.declared.cell.Cell.{Cell}
 use Rattle.catalogue.specs.InPlace.{HasRow, NumberIs, TextIs}
 
 numbers_at_lem : (b : List ℕ) (s rows row : ℕ) → row < rows → get_or (numbers_at b s rows) row 0 ≡ number_at b (s + number_size * row) number_size
@@ -64,3 +67,42 @@ text_part b at n e = let z : at + 1 + n - (at + 1) ≡ get_or b at 0 = omega ari
 
 pub text_is : (b : List ℕ) (start row at n : ℕ) → at ≡ start + slot_size * row → n ≡ get_or b at 0 → TextIs b start row (take (at + 1 + n - (at + 1)) (drop (at + 1) b))
 text_is b start row at n p e rows ts s l = rw (s.2, texts_at_lem b start rows row l, ← p) (text_part b at n e)
+
+-- the first rows of valid slots are valid slots
+fewer_valid : (b : List ℕ) (s n rows : ℕ) → n ≤ rows → valid_slots b s rows ≡ true → valid_slots b s n ≡ true
+unfolding valid_slots
+fewer_valid b s zero rows l g = refl
+fewer_valid b s (suc n) zero l g = absurd (omega arith)
+fewer_valid b s (suc n) (suc rows) l g =
+    both (and_left (valid_slot b s) (valid_slots b (s + slot_size) rows) g)
+    (fewer_valid b (s + slot_size) n rows (omega arith) (and_right (valid_slot b s) (valid_slots b (s + slot_size) rows) g))
+
+module _ (b : List ℕ) (start row : ℕ) where
+  number_there : HasRow b number_tag start row → start + number_size * (row + 1) ≤ length b
+  number_there (rows, numbers ns, s, l) = omega (arith, s.1)
+  number_there (rows, texts ts, s, l) = let z : number_tag ≡ text_tag = s.0 in absurd (omega arith)
+
+  text_there : HasRow b text_tag start row → (start + slot_size * (row + 1) ≤ length b) × (valid_slots b start (row + 1) ≡ true)
+  text_there (rows, numbers ns, s, l) = let z : text_tag ≡ number_tag = s.0 in absurd (omega arith)
+  text_there (rows, texts ts, s, l) = (omega (arith, s.1), fewer_valid b start (row + 1) rows (omega arith) s.3)
+
+  other_tag : (tag : ℕ) → (tag ≡ number_tag → ⊥) → (tag ≡ text_tag → ⊥) → HasRow b tag start row → ⊥
+  other_tag tag ne nf (rows, numbers ns, s, l) = ne s.0
+  other_tag tag ne nf (rows, texts ts, s, l) = nf s.0
+
+  -- a row that is merely known to be there is there: of a column of so many rows that it is the last
+  pub has_row : (tag : ℕ) → ∥ HasRow b tag start row ∥₁ → HasRow b tag start row
+  has_row tag h = go (same? tag number_tag) (same? tag text_tag)
+    where
+      go : (tag ≡ number_tag) ⊎ (tag ≡ number_tag → ⊥) → (tag ≡ text_tag) ⊎ (tag ≡ text_tag → ⊥) → HasRow b tag start row
+      go (inl e) w =
+          let p = ∥∥₁_elim (rw e at h) le_prop number_there in
+          (row + 1, numbers (numbers_at b start (row + 1)), (e, p, refl), omega arith)
+      go (inr ne) (inl e) =
+          let p = ∥∥₁_elim (rw e at h) (×_prop le_prop (Coded-set coded_bool _ _)) text_there in
+          (row + 1, texts (texts_at b start (row + 1)), (e, p.0, refl, p.1), omega arith)
+      go (inr ne) (inr nf) = absurd (∥∥₁_elim h (λ x y. absurd x) (other_tag tag ne nf))
+
+-- the row of a cell, of a column whose tag is known
+pub cell_row : (C : Cell) {tag : ℕ} → C.tag ≡ tag → HasRow C.b.now tag C.start C.row
+cell_row C e = rw e at (has_row C.b.now C.start C.row C.tag C.there)

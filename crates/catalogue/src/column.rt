@@ -5,8 +5,9 @@ ghost use Rattle.slots.specs.Limits.{Limits};
 ghost use Rattle.catalogue.specs.Format.{number_tag, text_tag, row_limit};
 ghost use Rattle.catalogue.specs.Decode.{column_of};
 ghost use Rattle.catalogue.specs.Sound.{SoundColumn};
-ghost use Rattle.catalogue.specs.InPlace.{HasRow, NumberIs, TextIs};
+ghost use Rattle.catalogue.specs.InPlace.{NumberIs, TextIs};
 
+use crate::cell::Cell;
 use crate::format::{Column, Number};
 use crate::refusal::Refusal;
 use fields::header::{Field, read_header};
@@ -38,20 +39,21 @@ pub fn read_column(limits: &[u8], b: &[u8], rows: usize, at: usize) -> Result<Co
     Ok(ColumnField::Texts { start, end })
 }
 
-// The number at a row of the number column whose payload starts there.
-pub fn number_at(b: &[u8], start: usize, row: usize) -> u32
-    requires { HasRow b.now number_tag start row }
-    ensures { NumberIs b.now start row result }
+// The number at a row of a number column.
+pub fn number_at(cell: Cell) -> u32
+    requires { cell.tag ≡ number_tag }
+    ensures { let c = cell.entry in NumberIs c.b.now c.start c.row result }
 {
-    fields::number::four_bytes(b, start + Number::SIZE * row)
+    fields::number::four_bytes(cell.b, cell.start + Number::SIZE * cell.row)
 }
 
-// The text at a row of the text column whose payload starts there: a part of the catalogue's bytes.
-pub fn text_at(b: &[u8], start: usize, row: usize) -> &[u8]
-    requires { HasRow b.now text_tag start row }
-    ensures { TextIs b.now start row result.now }
+// The text at a row of a text column: a part of the catalogue's bytes.
+pub fn text_at<'a>(cell: Cell<'a>) -> &'a [u8]
+    requires { cell.tag ≡ text_tag }
+    ensures { let c = cell.entry in TextIs c.b.now c.start c.row result.now }
 {
-    let at = start + Text::SLOT_SIZE * row;
+    let b = cell.b;
+    let at = cell.start + Text::SLOT_SIZE * cell.row;
     let size = usize::from(b[at]);
     let from = at + 1;
     let to = from + size;

@@ -5,9 +5,10 @@ ghost use Rattle.catalogue.specs.Format.{text_tag};
 ghost use Rattle.catalogue.specs.InPlace.{HasRow};
 ghost use Rattle.slots.specs.Slots.{slot_size};
 ghost use Rattle.sets.specs.Kept.{KeptBy};
-ghost use Rattle.heads.specs.Block.{HasDueRows, slot_of};
+ghost use Rattle.heads.specs.Block.{slot_of};
 ghost use Rattle.filters.specs.NonAscii.{non_ascii_in};
 
+use heads::rows::DueRows;
 use slots::slot::Text;
 
 // The slot at p.
@@ -23,12 +24,13 @@ fn slot_has_non_ascii(b: &[u8], p: usize) -> bool
 }
 
 // The due rows whose slots have such a byte.
-pub fn non_ascii_rows(b: &[u8], start: usize, base: usize, due: u64) -> u64
-    requires { HasDueRows b.now text_tag start base due }
-    ensures { KeptBy (λ d. non_ascii_in b.now (slot_of start (base + d)) slot_size) due result }
+pub fn non_ascii_rows(rows: DueRows) -> u64
+    requires { rows.tag ≡ text_tag }
+    ensures { let r = rows.entry in KeptBy (λ d. non_ascii_in r.b.now (slot_of r.start (r.base + d)) slot_size) r.due result }
 {
+    let (b, start, base) = (rows.b, rows.start, rows.base);
     sets::kept_where(
-        due,
+        rows.due,
         |d| -> bool
             requires { HasRow b.now text_tag start (base + d) }
             ensures { result ≡ non_ascii_in b.entry.now (slot_of start (base + d)) slot_size }

@@ -1,4 +1,5 @@
-// Two of an operand's bytes at their distance, not loose letters (heads::byte_test::is_loose) where others are in reach.
+// Two of an operand's bytes at their distance, not loose letters (heads::byte_test::is_loose) where others are in
+// reach.
 ghost use Rattle.std.specs.Prelude.{◌≡◌, cond, ◌||◌, ◌<◌, length};
 ghost use Rattle.heads.specs.ByteTest.{is_loose};
 ghost use Rattle.filters.specs.Windows.{InReach, PairFor, pair_at};
@@ -16,6 +17,8 @@ pub struct Pair {
 }
 
 // The first byte that is no loose letter; the operand's first where all are.
+// That the operand is not empty is a clause, here, of `pair_of` and of `contains_rows`: a type for that alone would be
+// built in `sift`, for one call of each, and opened at every byte.
 fn first_place(fold: Fold, operand: &[u8]) -> usize
     requires { (0 < length operand.now) }
     ensures { result < length operand.now }

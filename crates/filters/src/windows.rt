@@ -1,14 +1,15 @@
-// The filter of contains: the pair anywhere in the slot, in two windows of 16 bytes that cover it. Both windows are tested
-// by one loop of constant length, which becomes vector code.
+// The filter of contains: the pair anywhere in the slot, in two windows of 16 bytes that cover it. Both windows are
+// tested by one loop of constant length, which becomes vector code.
 ghost use Rattle.std.specs.Prelude.{◌≡◌, ◌+◌, ◌≤◌, length};
 ghost use Rattle.catalogue.specs.Format.{text_tag};
 ghost use Rattle.catalogue.specs.InPlace.{HasRow};
 ghost use Rattle.slots.specs.Slots.{slot_size};
 ghost use Rattle.sets.specs.Kept.{KeptBy};
-ghost use Rattle.heads.specs.Block.{HasDueRows, slot_of};
+ghost use Rattle.heads.specs.Block.{slot_of};
 ghost use Rattle.filters.specs.Windows.{windows_pass};
 
 use crate::pair::Pair;
+use heads::rows::DueRows;
 use slots::slot::Text;
 
 // The slot at p. The pair's two places run from p and q on in the first window, from r and s on in the second, which
@@ -31,12 +32,13 @@ fn slot_passes(b: &[u8], p: usize, k: Pair) -> bool
 }
 
 // The due rows whose slots pass, by the shorter way.
-pub fn windows_rows(b: &[u8], start: usize, base: usize, k: Pair, due: u64) -> u64
-    requires { HasDueRows b.now text_tag start base due × (k.gap ≤ 8) }
-    ensures { KeptBy (λ d. windows_pass b.now (slot_of start (base + d)) k) due result }
+pub fn windows_rows(rows: DueRows, k: Pair) -> u64
+    requires { (rows.tag ≡ text_tag) × (k.gap ≤ 8) }
+    ensures { let r = rows.entry in KeptBy (λ d. windows_pass r.b.now (slot_of r.start (r.base + d)) k) r.due result }
 {
+    let (b, start, base) = (rows.b, rows.start, rows.base);
     sets::met_where(
-        due,
+        rows.due,
         |d| -> bool
             requires { HasRow b.now text_tag start (base + d) × (k.gap ≤ 8) }
             ensures { result ≡ windows_pass b.entry.now (slot_of start (base + d)) k }

@@ -1,3 +1,4 @@
 pub mod ByteTests
 pub mod Found
 pub mod Heads
+pub mod DueRowLaws

@@ -8,6 +8,10 @@ use Rattle.sets.specs.Set.{has}
 abbrev pub HasDueRows : List ℕ → (tag start base due : ℕ) → Type 0
 HasDueRows b tag start base due = (d : ℕ) → has due d ≡ true → HasRow b tag start (base + d)
 
+-- each number of the set x is one of y
+abbrev pub IsWithin : (x y : ℕ) → Type 0
+IsWithin x y = (d : ℕ) → has x d ≡ true → has y d ≡ true
+
 -- where a row's slot begins, with its length byte; its text
 abbrev pub slot_of : (start row : ℕ) → ℕ
 slot_of start row = start + slot_size * row

@@ -24,8 +24,8 @@ pub fn is_loose(c: u8) -> bool
     matches!(c, b'a' | b'e' | b'i' | b'n' | b'o' | b'u')
 }
 
-// The bits that a test of c leaves open: bit 5 where c has it, which tells the cases of a letter apart; more for the two
-// letters with accented forms that are not loose.
+// The bits that a test of c leaves open: bit 5 where c has it, which tells the cases of a letter apart; more for the
+// two letters with accented forms that are not loose.
 fn tight_bits(c: u8) -> u8
     ensures { result ≡ tight_bits c }
 {

@@ -1,5 +1,5 @@
-// What equals and begins ask of a slot's head: its length and the first three bytes of its text, as one number with the least significant
-// byte first.
+// What equals and begins ask of a slot's head: its length and the first three bytes of its text, as one number with
+// the least significant byte first.
 ghost use Rattle.std.specs.Prelude.{◌≡◌, ◌+◌, ◌≤◌, length};
 ghost use Rattle.slots.specs.Slots.{text_limit};
 ghost use Rattle.heads.specs.Head.{head_size, head_passes, TestFor, HeadFor, BlankHeadIs};
@@ -8,8 +8,8 @@ use crate::byte_test::ByteTest;
 use predicate::fold::Fold;
 use predicate::kind::Kind;
 
-// A slot passes where its head has the value's bits in all places that are asked for. Its twin at 64 bits is `Sure` of crate `fronts`: one
-// type for both would need a trait of the operators and of the reading, and is no plainer.
+// A slot passes where its head has the value's bits in all places that are asked for. Its twin at 64 bits is `Sure`
+// of crate `fronts`: one type for both would need a trait of the operators and of the reading, and is no plainer.
 #[derive(Clone, Copy)]
 pub struct Head {
     pub asked: u32,
@@ -44,6 +44,8 @@ fn test_at(fold: Fold, kind: u8, operand: &[u8], j: usize) -> ByteTest
 }
 
 // The tests of the four bytes as one, the last byte's first: what they leave open is not asked for.
+// That the operand is short is a clause, as in crate `filters` that it is not empty: `head_of` asks the one alone,
+// `contains_rows` the other, and a type of operands that are both would ask more of each.
 pub fn head_of(fold: Fold, kind: u8, operand: &[u8]) -> Head
     requires { (length operand.now ≤ text_limit) }
     ensures { HeadFor kind operand.now result }

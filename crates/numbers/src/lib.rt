@@ -7,13 +7,14 @@ ghost use Rattle.catalogue.specs.Format.{number_tag, number_size};
 ghost use Rattle.catalogue.specs.InPlace.{HasRow};
 ghost use Rattle.predicate.specs.Meaning.{number_blank};
 ghost use Rattle.sets.specs.Kept.{KeptBy};
-ghost use Rattle.heads.specs.Block.{HasDueRows};
 ghost use Rattle.numbers.specs.Within.{number_in_row, within};
 
-use catalogue::format::Number;
+use catalogue::cell::Cell;
+use catalogue::format::{Column, Number};
+use heads::rows::DueRows;
 
-// Whether n is low or one of the numbers after it, as many as width: one comparison. Written with <= it becomes a branch in the loop over
-// due rows, which a processor guesses wrong where the answers are mixed.
+// Whether n is low or one of the numbers after it, as many as width: one comparison. Written with <= it becomes a
+// branch in the loop over due rows, which a processor guesses wrong where the answers are mixed.
 fn is_within(low: u32, width: u32, n: u32) -> bool
     requires { low + width < 2 ^ 32 }
     ensures { result ≡ within low width n }
@@ -21,9 +22,10 @@ fn is_within(low: u32, width: u32, n: u32) -> bool
     !(width < std::num::wrapping_sub_u32(n, low))
 }
 
-// The number at a place less low, wrapping. The four bytes are read with the least significant first, and low is taken away between the
-// two steps that put them in order: a reversal that the compiler sees as one instruction would keep the loop over it from vector code.
-// Lanes are compared as signed numbers: with 2^31 taken off low and off the sum, none needs its top bit turned for that.
+// The number at a place less low, wrapping. The four bytes are read with the least significant first, and low is
+// taken away between the two steps that put them in order: a reversal that the compiler sees as one instruction would
+// keep the loop over it from vector code. Lanes are compared as signed numbers: with 2^31 taken off low and off the
+// sum, none needs its top bit turned for that.
 fn above(b: &[u8], at: usize, low: u32) -> u32
     requires { at + number_size ≤ length b.now }
     ensures { ((result + low) % 2 ^ 32 ≡ number_at b.now at number_size) × (result < 2 ^ 32) }
@@ -52,12 +54,13 @@ fn is_blank_at(b: &[u8], at: usize) -> bool
 }
 
 // The due rows whose numbers are among those.
-fn due_within(b: &[u8], start: usize, base: usize, low: u32, width: u32, due: u64) -> u64
-    requires { HasDueRows b.now number_tag start base due × (low + width < 2 ^ 32) }
-    ensures { KeptBy (λ d. within low width (number_in_row b.now start (base + d))) due result }
+fn due_within(rows: DueRows, low: u32, width: u32) -> u64
+    requires { (rows.tag ≡ number_tag) × (low + width < 2 ^ 32) }
+    ensures { let r = rows.entry in KeptBy (λ d. within low width (number_in_row r.b.now r.start (r.base + d))) r.due result }
 {
+    let (b, start, base) = (rows.b, rows.start, rows.base);
     sets::kept_where(
-        due,
+        rows.due,
         |d| -> bool
             requires { HasRow b.now number_tag start (base + d) × (low + width < 2 ^ 32) }
             ensures { result ≡ within low width (number_in_row b.entry.now start (base + d)) }
@@ -65,18 +68,25 @@ fn due_within(b: &[u8], start: usize, base: usize, low: u32, width: u32, due: u6
             is_within(
                 low,
                 width,
-                catalogue::column::number_at(b, start, base + usize::from(d)),
+                catalogue::column::number_at(Cell {
+                    b,
+                    tag: Column::NUMBER_TAG,
+                    start,
+                    row: base + usize::from(d),
+                }),
             )
         },
     )
 }
 
-// The same, by the shorter way.
-pub fn numbers_within(b: &[u8], start: usize, base: usize, low: u32, width: u32, due: u64) -> u64
-    requires { HasDueRows b.now number_tag start base due × (low + width < 2 ^ 32) }
-    ensures { KeptBy (λ d. within low width (number_in_row b.now start (base + d))) due result }
+// The same, by the shorter way. Not by `met_where`, which asks one test on both ways: a whole block's reads the four
+// bytes in the order that becomes vector code, and the loop over due rows has no use for that.
+pub fn numbers_within(rows: DueRows, low: u32, width: u32) -> u64
+    requires { (rows.tag ≡ number_tag) × (low + width < 2 ^ 32) }
+    ensures { let r = rows.entry in KeptBy (λ d. within low width (number_in_row r.b.now r.start (r.base + d))) r.due result }
 {
-    if due == sets::below(64) {
+    let (b, start, base) = (rows.b, rows.start, rows.base);
+    if rows.due == sets::below(64) {
         return sets::all_where(
             |d| -> bool
                 requires { HasRow b.now number_tag start (base + d) × (low + width < 2 ^ 32) }
@@ -91,16 +101,18 @@ pub fn numbers_within(b: &[u8], start: usize, base: usize, low: u32, width: u32,
             },
         );
     }
-    due_within(b, start, base, low, width, due)
+    due_within(rows, low, width)
 }
 
-// The due rows whose numbers are blank. Only a whole block by an equality: in the loop over due rows it would become a branch.
-pub fn numbers_blank(b: &[u8], start: usize, base: usize, due: u64) -> u64
-    requires { HasDueRows b.now number_tag start base due }
-    ensures { KeptBy (λ d. number_blank (number_in_row b.now start (base + d))) due result }
+// The due rows whose numbers are blank. Not by `met_where`: in the loop over due rows an equality would become a
+// branch.
+pub fn numbers_blank(rows: DueRows) -> u64
+    requires { rows.tag ≡ number_tag }
+    ensures { let r = rows.entry in KeptBy (λ d. number_blank (number_in_row r.b.now r.start (r.base + d))) r.due result }
 {
+    let (b, start, base) = (rows.b, rows.start, rows.base);
     let full = sets::below(64);
-    if due == full {
+    if rows.due == full {
         return sets::all_where(
             |d| -> bool
                 requires { HasRow b.now number_tag start (base + d) }
@@ -108,5 +120,5 @@ pub fn numbers_blank(b: &[u8], start: usize, base: usize, due: u64) -> u64
             { is_blank_at(b, start + Number::SIZE * (base + usize::from(d))) },
         );
     }
-    due_within(b, start, base, Number::BLANK, 0, due)
+    due_within(rows, Number::BLANK, 0)
 }

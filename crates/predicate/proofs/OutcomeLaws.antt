@@ -7,6 +7,8 @@ use mathlib.Core.List.{List}
 use borrow.Author.Tests.{lt-ltb, le-ltb}
 use Rattle.catalogue.specs.Format.{number_tag, text_tag}
 use Rattle.catalogue.specs.Catalogue.{numbers, texts}
+use Rattle.catalogue.specs.declared.cell.Cell.{Cell}
+use Rattle.catalogue.proofs.Rows.{cell_row}
 use Rattle.catalogue.specs.InPlace.{HasRow, NumberIs, TextIs}
 use Rattle.predicate.specs.declared.outcome.Outcome.{Outcome}
 use Rattle.predicate.specs.declared.outcome.Outcome.TheVariants.{Blank}
@@ -22,15 +24,15 @@ module _ (kind : ℕ) (blank test : Bool) {r : Bool} (e : r ≡ answers_blank ki
   left_tested : {t : Bool} {a : Outcome} → r ≡ false → a ≡ yes_if t → t ≡ test → a ≡ plain_outcome kind blank test
   left_tested n y tested = rw (sym e ∙ n) (y ∙ ap yes_if tested)
 
+-- a row that is no number column's is a text column's
+pub other_is_text : (C : Cell) → (C.tag ≡ number_tag → ⊥) → C.tag ≡ text_tag
+other_is_text C ne = go (cell_row C refl)
+  where
+    go : HasRow C.b.now C.tag C.start C.row → C.tag ≡ text_tag
+    go (rows, numbers ns, s, l) = absurd (ne s.0)
+    go (rows, texts ts, s, l) = s.0
+
 module _ (b : List ℕ) (tag start row : ℕ) where
-  pub number_row : tag ≡ number_tag → HasRow b tag start row → HasRow b number_tag start row
-  number_row e (rows, numbers ns, s, l) = (rows, numbers ns, (refl, s.1, s.2), l)
-  number_row e (rows, texts ts, s, l) = absurd (omega arith)
-
-  pub text_row : (tag ≡ number_tag → ⊥) → HasRow b tag start row → HasRow b text_tag start row
-  text_row ne (rows, numbers ns, s, l) = absurd (ne s.0)
-  text_row ne (rows, texts ts, s, l) = (rows, texts ts, (refl, s.1, s.2, s.3), l)
-
   -- from the value read there: blank, or by its test
   module _ (kind : ℕ) (o : List ℕ) (e : tag ≡ number_tag) (n : ℕ) (value : NumberIs b start row n) {r : Bool} (blank : r ≡ answers_blank kind (number_blank n)) where
     plain_number : (a : Outcome) → a ≡ plain_outcome kind (number_blank n) (number_test kind o n) → PlainIs b tag start kind o row a

@@ -3,12 +3,13 @@ use Prim.Native.Nat.{ℕ, ◌+◌, ◌≤◌, ◌<◌}
 use native.Mathlib.Omega.{arith}
 use mathlib.Core.Path.{◌≡◌, refl, sym, ap, ◌∙◌}
 use mathlib.Core.Bool.{Bool, true, false, ◌&&◌, ◌||◌, and-false, and-true}
+use mathlib.Core.Logic.{◌⊎◌, inl, inr}
 use mathlib.Core.List.{List, []}
 use lib.ListN.{length, get_or}
 use lib.Dec.{leb, eqb}
 use lib.Bits.{bit_or, bit_xor}
-use borrow.Author.Tests.{lt-ltb, le-ltb, le-leb, lt-leb, leb-true}
-use Rattle.bools.specs.Bools.{and_parts, eqb_eq}
+use borrow.Author.Tests.{lt-ltb, le-ltb, le-leb, lt-leb, leb-true, leb-false}
+use Rattle.bools.specs.Bools.{and_parts, eqb_eq, which}
 use Rattle.catalogue.specs.Format.{number_tag, text_tag}
 use Rattle.catalogue.specs.Catalogue.{Column, numbers, texts}
 use Rattle.slots.specs.Slots.{text_limit}
@@ -18,17 +19,16 @@ use Rattle.predicate.specs.Kinds.{range_kind, number_blank_kind, contains_kind, 
 use Rattle.predicate.specs.Meaning.{truth, text_blank, number_blank, number_test, text_test, value_blank, plain_of, outcome_of}
 use Rattle.predicate.specs.Outcome.{is_blank}
 use Rattle.predicate.specs.Payload.{kind_fits, operand_fits}
-use Rattle.predicate.proofs.OutcomeLaws.{number_row, text_row}
 use Rattle.predicate.proofs.BlankLaws.{truth_opposite, blank_turned, blank_is}
 use Rattle.sets.specs.Set.{has}
 use Rattle.sets.specs.SetLaws.{has_none}
 use Rattle.sets.specs.Kept.{KeptBy, Sifted}
 use Rattle.sets.specs.KeptLaws.{sift_kept, kept_same, kept_others, kept_either}
-use Rattle.heads.specs.Block.{HasDueRows, text_of}
+use Rattle.heads.specs.Block.{text_of}
 use Rattle.fronts.proofs.Texts.{text_shown}
 use Rattle.scan.specs.declared.range.Range.{Range}
 use Rattle.numbers.specs.Within.{number_in_row, within}
-use Rattle.scan.specs.Met.{RangeFor, ShownRows, HasRows, MetFor, PlainMetFor, BlankFor}
+use Rattle.scan.specs.Met.{RangeFor, FitsColumn, MetFor, PlainMetFor, BlankFor}
 use Rattle.scan.proofs.Ranges.{text_fits, range_means}
 use Rattle.scan.proofs.Blanks.{number_truth, text_truth}
 
@@ -44,36 +44,49 @@ text_kind tag kind h l =
     let p = and_parts (leb kind text_blank_kind) (eqb tag text_tag) (rw (lt-leb kind number_blank_kind l) at h) in
     (leb-true kind text_blank_kind p.0, eqb_eq tag text_tag p.1)
 
--- one predicate, and its plain kind
-module _ {b : List ℕ} {start base kind : ℕ} {o : List ℕ} {due plain : ℕ} (k : plain ≡ plain_kind kind) where
-  -- the due rows, as the leaves take them
-  pub due_numbers : HasRows b start base kind o due → plain ≤ number_blank_kind → HasDueRows b number_tag start base due
-  due_numbers (rows, tag, c, R) l d m =
-      number_row b tag start (base + d) (number_kind tag (plain_kind kind) R.kind_fits_lem (omega arith)) (rows, c, R.shown, R.inside d m)
+-- and the kinds of a column
+pub is_number : (tag kind : ℕ) {plain : ℕ} → plain ≡ plain_kind kind → kind_fits tag (plain_kind kind) ≡ true → plain ≤ number_blank_kind → tag ≡ number_tag
+is_number tag kind k h l = number_kind tag (plain_kind kind) h (omega arith)
 
-  fits : {rows tag : ℕ} {c : Column} → ShownRows b start base kind o due rows tag c → operand_fits plain o ≡ true
-  fits R = ap (λ (j : ℕ). operand_fits j o) k ∙ R.operand_fits_lem
+pub is_text : (tag kind : ℕ) {plain : ℕ} → plain ≡ plain_kind kind → kind_fits tag (plain_kind kind) ≡ true → number_blank_kind < plain → tag ≡ text_tag
+is_text tag kind k h l = (text_kind tag (plain_kind kind) h (omega arith)).1
 
-  pub due_fits : HasRows b start base kind o due → plain ≡ range_kind → operand_fits range_kind o ≡ true
-  due_fits (rows, tag, c, R) e = ap (λ (j : ℕ). operand_fits j o) (sym e) ∙ fits R
+pub number_column : (tag kind : ℕ) {plain : ℕ} → plain ≡ plain_kind kind → kind_fits tag (plain_kind kind) ≡ true → tag ≡ number_tag → plain ≤ number_blank_kind
+number_column tag kind {plain} k h e = go (which (leb plain number_blank_kind))
+  where
+    go : (leb plain number_blank_kind ≡ true) ⊎ (leb plain number_blank_kind ≡ false) → plain ≤ number_blank_kind
+    go (inl l) = leb-true plain number_blank_kind l
+    go (inr g) =
+        let l : number_blank_kind < plain = leb-false plain number_blank_kind g in
+        let t = (text_kind tag (plain_kind kind) h (omega arith)).1 in
+        absurd (omega arith)
 
-  pub due_texts : HasRows b start base kind o due → number_blank_kind < plain → HasDueRows b text_tag start base due
-  due_texts (rows, tag, c, R) l d m =
-      let f = text_kind tag (plain_kind kind) R.kind_fits_lem (omega arith) in
-      text_row b tag start (base + d) (λ e. omega arith) (rows, c, R.shown, R.inside d m)
+pub text_column : (tag kind : ℕ) {plain : ℕ} → plain ≡ plain_kind kind → kind_fits tag (plain_kind kind) ≡ true → (tag ≡ number_tag → ⊥) → number_blank_kind < plain
+text_column tag kind {plain} k h ne = go (which (leb plain number_blank_kind))
+  where
+    go : (leb plain number_blank_kind ≡ true) ⊎ (leb plain number_blank_kind ≡ false) → number_blank_kind < plain
+    go (inl l) = let s = leb-true plain number_blank_kind l in absurd (ne (number_kind tag (plain_kind kind) h (omega arith)))
+    go (inr g) = leb-false plain number_blank_kind g
+
+-- what fits a column: its tag, and the operand
+module _ (tag kind : ℕ) (o : List ℕ) {plain : ℕ} (k : plain ≡ plain_kind kind) (F : FitsColumn tag kind o) where
+  fits : operand_fits plain o ≡ true
+  fits = ap (λ (j : ℕ). operand_fits j o) k ∙ F.1
+
+  pub range_asked : plain ≡ range_kind → operand_fits range_kind o ≡ true
+  range_asked e = ap (λ (j : ℕ). operand_fits j o) (sym e) ∙ fits
 
   -- the kinds with an operand: its size
-  pub due_operand : HasRows b start base kind o due → number_blank_kind < plain → (plain ≡ text_blank_kind → ⊥) → (plain ≤ contains_kind) × (0 < length o) × (length o ≤ text_limit)
-  due_operand (rows, tag, c, R) l ne =
-      let f = text_kind tag (plain_kind kind) R.kind_fits_lem (omega arith) in
+  pub operand_asked : number_blank_kind < plain → (plain ≡ text_blank_kind → ⊥) → (plain ≤ contains_kind) × (0 < length o) × (length o ≤ text_limit)
+  operand_asked l ne =
+      let f = text_kind tag (plain_kind kind) F.0 (omega arith) in
       let m : plain ≤ contains_kind = omega arith in
-      let s = text_fits plain o (fits R) (omega arith) m in
+      let s = text_fits plain o fits (omega arith) m in
       (m, s.0, s.1)
 
-  pub due_sifted : {may : ℕ} → HasRows b start base kind o due → number_blank_kind < plain → Sifted (λ d. text_test plain o (text_of b start (base + d))) due may → HasDueRows b text_tag start base may
-  due_sifted h l S d e = due_texts h l d (S.within d e)
-
-  -- and what they answer, as the column has it
+-- one predicate, and its plain kind
+module _ {b : List ℕ} {start base kind : ℕ} {o : List ℕ} {due plain : ℕ} (k : plain ≡ plain_kind kind) where
+  -- what the leaves answer, as the column has it
   module _ (r : ℕ) where
     numbers_met : plain ≤ number_blank_kind → KeptBy (λ d. number_test plain o (number_in_row b start (base + d))) due r → PlainMetFor b start base kind o due r
     numbers_met l K rows tag (numbers ns) R =
@@ -84,11 +97,11 @@ module _ {b : List ℕ} {start base kind : ℕ} {o : List ℕ} {due plain : ℕ}
     numbers_met l K rows tag (texts ts) R =
         let e = number_kind tag (plain_kind kind) R.kind_fits_lem (omega arith) in let f : tag ≡ text_tag = R.shown.0 in absurd (omega arith)
 
-    pub range_met : {g : Range} → RangeFor o g → HasRows b start base kind o due → plain ≡ range_kind → KeptBy (λ d. within g.low g.width (number_in_row b start (base + d))) due r → PlainMetFor b start base kind o due r
+    pub range_met : {g : Range} → RangeFor o g → operand_fits range_kind o ≡ true → plain ≡ range_kind → KeptBy (λ d. within g.low g.width (number_in_row b start (base + d))) due r → PlainMetFor b start base kind o due r
     unfolding number_test
     range_met P h e K =
         numbers_met (omega arith)
-        (kept_same _ (λ d. number_test plain o (number_in_row b start (base + d))) due r (λ d m. rw e (range_means P (due_fits h e) (number_in_row b start (base + d)))) K)
+        (kept_same _ (λ d. number_test plain o (number_in_row b start (base + d))) due r (λ d m. rw e (range_means P h (number_in_row b start (base + d)))) K)
 
     pub number_blanks_met : plain ≡ number_blank_kind → KeptBy (λ d. number_blank (number_in_row b start (base + d))) due r → PlainMetFor b start base kind o due r
     unfolding number_test

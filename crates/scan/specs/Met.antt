@@ -23,8 +23,9 @@ pub record ShownRows (b : List ℕ) (start base kind : ℕ) (o : List ℕ) (due 
   pub operand_fits_lem : operand_fits (plain_kind kind) o ≡ true
   pub inside : (d : ℕ) → has due d ≡ true → base + d < rows
 
-abbrev pub HasRows : List ℕ → (start base kind : ℕ) → (operand : List ℕ) → (due : ℕ) → Type 0
-HasRows b start base kind o due = (rows : ℕ) × (tag : ℕ) × (c : Column) × ShownRows b start base kind o due rows tag c
+-- kind and operand fit a column of this tag
+abbrev pub FitsColumn : (tag kind : ℕ) → (operand : List ℕ) → Type 0
+FitsColumn tag kind o = (kind_fits tag (plain_kind kind) ≡ true) × (operand_fits (plain_kind kind) o ≡ true)
 
 -- the due rows at which the outcome is one of these, for whatever column is shown there
 abbrev pub OutcomesFor : (these : Outcome → Bool) → List ℕ → (start base kind : ℕ) → (operand : List ℕ) → (due r : ℕ) → Type 0
@@ -35,10 +36,6 @@ OutcomesFor these b start base kind o due r =
 -- those of a yes
 abbrev pub MetFor : List ℕ → (start base kind : ℕ) → (operand : List ℕ) → (due r : ℕ) → Type 0
 MetFor b start base kind o due r = OutcomesFor truth b start base kind o due r
-
--- the due rows are there, for some operand
-abbrev pub HasRowsAnyOperand : List ℕ → (start base kind due : ℕ) → Type 0
-HasRowsAnyOperand b start base kind due = (o : List ℕ) × HasRows b start base kind o due
 
 -- those of a blank, whatever the operand
 abbrev pub BlankFor : List ℕ → (start base kind due r : ℕ) → Type 0

@@ -12,10 +12,8 @@ overflow_add-y c = let l = and_le_r c.half_at-x.result 16711935 in let m = and_l
 
 pub returns : goal.returns
 returns c =
-    let turned = c in
-    let read = turned in
-    let a = read.args in (
-      in_order_signed a.b.now a.at (λ k. (read.shared_slice_known-1.given k).fits) _ _ a.low _ read.half_at-x.ensures.0 refl
-          turned.wrapping_sub_u32-turned.ensures.value c.wrapping_sub_u32-first.ensures.value c.wrapping_add_u32.ensures.value c.wrapping_sub_u32.ensures.value,
+    let a = c.args in (
+      in_order_signed a.b.now a.at (λ i. omega (arith, c.type_inv.b i)) _ _ a.low _ c.half_at-x.ensures.0 refl
+          c.wrapping_sub_u32-turned.ensures.value c.wrapping_sub_u32-first.ensures.value c.wrapping_add_u32.ensures.value c.wrapping_sub_u32.ensures.value,
       omega arith,
     )

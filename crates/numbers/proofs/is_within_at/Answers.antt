@@ -3,4 +3,4 @@ use Rattle.numbers.proofs.Within.{within_wraps}
 use Rattle.numbers.proofs.is_within_at.Goals as goal
 
 pub returns : goal.returns
-returns c = let a = c in within_wraps a.args.low a.args.width _ _ c.above.ensures.1 a.requires.1 c.above.ensures.0
+returns c = let a = c.args in within_wraps a.low a.width _ _ c.above.ensures.1 c.requires.1 c.above.ensures.0

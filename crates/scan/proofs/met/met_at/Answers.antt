@@ -6,7 +6,7 @@ pub returns-then-kind-lt-OPPOSITE_FROM : goal.returns-then-kind-lt-OPPOSITE_FROM
 returns-then-kind-lt-OPPOSITE_FROM c = plain_met _ c.plain_met_at-met.ensures c.if-kind-lt-OPPOSITE_FROM.true
 
 pub blank_at-requires : goal.blank_at-requires
-blank_at-requires c = (_, c.requires)
+blank_at-requires c = c.requires.0
 
 pub returns : goal.returns
 returns c = opposite_met _ c.plain_met_at-met.ensures _ c.if-kind-lt-OPPOSITE_FROM.false c.blank_at.ensures

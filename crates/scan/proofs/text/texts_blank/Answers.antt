@@ -2,6 +2,7 @@
 use Rattle.catalogue.proofs.Rows.{has_text}
 use Rattle.catalogue.specs.Format.{text_tag}
 use Rattle.fields.specs.Numbers.{Bytes}
+use Rattle.heads.proofs.DueRowLaws.{due_rows}
 use Rattle.heads.proofs.Found.{text_size}
 use Rattle.heads.specs.Block.{HasDueRows, slot_of, text_of}
 use Rattle.heads.specs.Head.{BlankHeadIs, head_passes}
@@ -9,7 +10,7 @@ use Rattle.heads.specs.declared.head.Head.{Head}
 use Rattle.predicate.specs.Meaning.{text_blank}
 use Rattle.sets.specs.Kept.{KeptBy}
 use Rattle.sets.specs.KeptLaws.{kept_same}
-use Rattle.std.proofs.Common.{ap, arith, sym, ◌∙◌}
+use Rattle.std.proofs.Common.{ap, sym, ◌∙◌}
 use Rattle.std.specs.Prelude.{List, eqb, ℕ, ◌+◌}
 use Rattle.scan.proofs.text.texts_blank.Goals as goal
 
@@ -26,5 +27,5 @@ front_rows-requires c = c.requires
 
 pub returns : goal.returns
 returns c =
-    let s = c in
-    blanks-kept _ (λ i. omega (arith, s.shared_slice_known-1.given i)) _ _ _ _ _ s.requires c.blank_head.ensures c.front_rows.ensures
+    let r = c.args.rows in
+    blanks-kept _ r.bytes _ _ _ _ _ (due_rows r c.requires) c.blank_head.ensures c.front_rows.ensures

@@ -8,11 +8,11 @@ use Rattle.scan.proofs.text.texts_that_pass.Goals as goal
 none-due : (P : ℕ → Bool) (due : ℕ) → due ≡ 0 → KeptBy P due 0
 none-due P due e d = rw (e, has_none d)
 
-pub returns-then-due-eq0 : goal.returns-then-due-eq0
-returns-then-due-eq0 c = none-due _ _ c.if-due-eq0.true
+pub returns-then-rows-eq0 : goal.returns-then-rows-eq0
+returns-then-rows-eq0 c = none-due _ _ c.if-rows-eq0.true
 
 pub rest-requires : goal.rest-requires
-rest-requires c = omega (arith, c.if-due-eq0.false)
+rest-requires c = omega (arith, c.if-rows-eq0.false)
 
 pub fronts_that_pass-requires : goal.fronts_that_pass-requires
 fronts_that_pass-requires c =
