@@ -7,7 +7,7 @@ use Rattle.predicate.specs.Kinds.{plain_kind}
 use Rattle.predicate.specs.Meaning.{column_asked}
 use Rattle.predicate.specs.Outcome.{HasRange}
 use Rattle.predicate.proofs.PayloadLaws.{range_size_lem}
-use Rattle.plan.specs.Plan.{Access}
+use Rattle.plan.specs.declared.table.Access.{Access}
 use Rattle.access.specs.Access.{operand_in, HasOutcome}
 
 -- the outcome at a row: the code hands on a tag, a kind, a start and an operand that are the access's

@@ -6,6 +6,7 @@ ghost use Rattle.bitmaps.specs.Word.{block_rows, BlockAt};
 ghost use Rattle.blanks.specs.Blanks.{NoesIn, HasProbesAt, BlankRows, HasProbes, BlankTurns};
 
 use bitmaps::copy::Line;
+use plan::table::Plan;
 
 // Where the blanks of a turn are sought: among its noes, or among all due rows where these are the whole block, which is gone through faster.
 fn rows_of_no(due: u64, met: u64) -> u64
@@ -20,7 +21,7 @@ fn rows_of_no(due: u64, met: u64) -> u64
 // The rows of the block at which predicate c was probed with outcome blank.
 fn blank_rows(
     catalogue: &[u8],
-    plan: &[usize],
+    plan: &Plan,
     probed: &[u8],
     met: &[u8],
     c: usize,
@@ -31,13 +32,13 @@ fn blank_rows(
 {
     let at = c * Line::SIZE + base / 8;
     let rows = rows_of_no(words::word_at(probed, at), words::word_at(met, at));
-    access::blank_of(catalogue, plan, c, base, rows)
+    access::blank_of(catalogue, plan[c], base, rows)
 }
 
 // A run takes a blank for a no and keeps no table of them; so those among the probed rows are worked out again, turn by turn.
 pub fn gather_blanks(
     catalogue: &[u8],
-    plan: &[usize],
+    plan: &Plan,
     turns: &[u8],
     probed: &[u8],
     met: &[u8],

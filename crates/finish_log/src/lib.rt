@@ -8,11 +8,12 @@ use answers::refusal::Refusal;
 use answers::word::Answer;
 use copy_log::field::ProbeField;
 use marks::MarkTable;
+use plan::table::Plan;
 
 // Ends a copy whose own table and plan are these: refusal 20, or the length and the fields.
 pub fn finish_log(
     catalogue: &[u8],
-    plan: &[usize],
+    plan: &Plan,
     order: &[u8],
     marks: &[u8],
     n: usize,

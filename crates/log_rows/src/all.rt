@@ -2,11 +2,12 @@
 ghost use Rattle.log_rows.specs.Written.{HasLogRoom, LogWritten};
 
 use bitmaps::word::Word;
+use plan::table::Plan;
 
 // Writes the log of so many rows to the front of an output and gives its length.
 pub fn put_rows(
     catalogue: &[u8],
-    plan: &[usize],
+    plan: &Plan,
     turns: &[u8],
     probed: &[u8],
     met: &[u8],

@@ -1,8 +1,7 @@
 -- `outcome_of` meets its contract: what it hands on is what the access of the predicate shows.
+use Rattle.std.proofs.Common.{refl}
 use Rattle.access.proofs.Outcomes.{has_range, has_row}
 use Rattle.access.proofs.outcome_of.Goals as goal
 
 pub outcome_at-requires : goal.outcome_at-requires
-outcome_at-requires c =
-    let x = c.access_in-x.ensures in
-    (has_row _ _ _ _ _ _ x.tag x.start c.requires.2, has_range _ _ _ _ _ _ x.kind (rw (← x.place, ← x.len) c.operand.ensures) c.requires.2)
+outcome_at-requires c = (has_row _ _ _ _ _ _ refl refl c.requires, has_range _ _ _ _ _ _ refl c.operand.ensures c.requires)
