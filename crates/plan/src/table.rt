@@ -41,63 +41,54 @@ impl Access {
     }
 }
 
-// The access of a predicate's record, over columns with these tags and starts.
-fn access_of(tags: &[u8], starts: &[usize], r: PredicateRecord) -> Access
-    requires { HasColumn tags.now starts.now r }
-    ensures { result ≡ access_of tags.now starts.now r }
-{
-    let column = usize::from(r.column);
-    Access {
-        tag: tags[column],
-        start: starts[column],
-        kind: r.kind,
-        place: r.place,
-        len: r.len,
+// The columns of a catalogue: of each its tag and where its payload starts.
+#[derive(Clone, Copy)]
+pub struct Columns<'a> {
+    pub tags: &'a [u8],
+    pub starts: &'a [usize],
+}
+
+impl Columns<'_> {
+    // The access of a predicate's record.
+    fn access(self, r: PredicateRecord) -> Access
+        requires { HasColumn self.tags.now self.starts.now r }
+        ensures { result ≡ access_of self.entry.tags.now self.entry.starts.now r }
+    {
+        let column = usize::from(r.column);
+        Access {
+            tag: self.tags[column],
+            start: self.starts[column],
+            kind: r.kind,
+            place: r.place,
+            len: r.len,
+        }
     }
 }
 
 // The access of predicate c alone, whose field begins at offsets[c] of the query.
-pub fn plan_predicate(
-    tags: &[u8],
-    starts: &[usize],
-    q: &[u8],
-    offsets: &[usize],
-    c: usize,
-) -> Access
-    requires { HasRecord q.now offsets.now c × HasColumn tags.now starts.now (record_at q.now offsets.now c) }
-    ensures { result ≡ access_of tags.now starts.now (record_at q.now offsets.now c) }
+pub fn plan_predicate(columns: Columns, q: &[u8], offsets: &[usize], c: usize) -> Access
+    requires { HasRecord q.now offsets.now c × HasColumn columns.tags.now columns.starts.now (record_at q.now offsets.now c) }
+    ensures { result ≡ access_of columns.entry.tags.now columns.entry.starts.now (record_at q.now offsets.now c) }
 {
-    access_of(tags, starts, records::record_at(q, offsets, c))
+    columns.access(records::record_at(q, offsets, c))
 }
 
 // Plans the first n predicates of the table.
-fn plan_records(
-    tags: &[u8],
-    starts: &[usize],
-    table: &[PredicateRecord],
-    n: usize,
-    plan: &mut Plan,
-)
-    requires { (n ≤ predicate_limit) × (n ≤ length table.now) × HasColumns tags.now starts.now (record_in table.now) n }
-    ensures { Planned tags.now starts.now (record_in table.now) plan.new n }
+fn plan_records(columns: Columns, table: &[PredicateRecord], n: usize, plan: &mut Plan)
+    requires { (n ≤ predicate_limit) × (n ≤ length table.now)
+        × HasColumns columns.tags.now columns.starts.now (record_in table.now) n }
+    ensures { Planned columns.entry.tags.now columns.entry.starts.now (record_in table.now) plan.new n }
 {
     for c in 0..n {
-        plan[c] = access_of(tags, starts, table[c]);
+        plan[c] = columns.access(table[c]);
     }
 }
 
 // Plans the n predicates whose fields begin at these offsets of the query, by the table of their records: it is this
 // function's own, lent to the one that fills it and to the one that reads it.
-pub fn fill_plan(
-    tags: &[u8],
-    starts: &[usize],
-    q: &[u8],
-    offsets: &[usize],
-    n: usize,
-    plan: &mut Plan,
-)
-    requires { HasFields q.now offsets.now n × HasColumns tags.now starts.now (record_at q.now offsets.now) n }
-    ensures { Planned tags.now starts.now (record_at q.now offsets.now) plan.new n }
+pub fn fill_plan(columns: Columns, q: &[u8], offsets: &[usize], n: usize, plan: &mut Plan)
+    requires { HasFields q.now offsets.now n × HasColumns columns.tags.now columns.starts.now (record_at q.now offsets.now) n }
+    ensures { Planned columns.entry.tags.now columns.entry.starts.now (record_at q.now offsets.now) plan.new n }
 {
     let mut table = [PredicateRecord {
         column: 0,
@@ -106,5 +97,5 @@ pub fn fill_plan(
         len: 0,
     }; Predicate::LIMIT];
     records::tabulate(q, offsets, n, &mut table);
-    plan_records(tags, starts, &table, n, plan);
+    plan_records(columns, &table, n, plan);
 }

@@ -6,4 +6,4 @@ use Rattle.plan.specs.Plan.{Planned}
 use Rattle.plan.proofs.table.plan_records.Given as goal
 
 abbrev pub invariant-loop-c : goal.invariant-loop-c
-invariant-loop-c l = record { sized : length l.plan ≡ predicate_limit; planned : Planned l.tags l.starts (record_in l.table) l.plan l.c }
+invariant-loop-c l = record { sized : length l.plan ≡ predicate_limit; planned : Planned l.columns.tags.now l.columns.starts.now (record_in l.table) l.plan l.c }
