@@ -17,14 +17,7 @@ pub fn outcome_of(fold: Fold, catalogue: &[u8], q: &[u8], x: Access, row: usize)
 }
 
 // The due rows of a block at which it is taken for yes: bit d is row base + d.
-pub fn met_of(
-    fold: Fold,
-    catalogue: &[u8],
-    q: &[u8],
-    x: Access,
-    base: usize,
-    due: u64,
-) -> u64
+pub fn met_of(fold: Fold, catalogue: &[u8], q: &[u8], x: Access, base: usize, due: u64) -> u64
     requires { HasOutcomes catalogue.now q.now x base due }
     ensures { MetIs catalogue.now q.now x base due result }
 {

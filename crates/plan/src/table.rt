@@ -9,7 +9,7 @@ use query::format::Predicate;
 use records::PredicateRecord;
 
 // Where a predicate's outcome comes from: its column's tag and start in the catalogue, its kind, its operand's place and
-// length in the query.
+// length in the query. Tag and kind are the formats' bytes, which `outcome_at` and `met_at` are handed.
 #[derive(Clone, Copy, PartialEq, Eq, Debug)]
 pub struct Access {
     pub tag: u8,
