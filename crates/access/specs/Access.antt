@@ -9,20 +9,18 @@ use Rattle.predicate.specs.Outcome.{is_blank}
 use Rattle.predicate.specs.Payload.{kind_fits, operand_fits}
 use Rattle.sets.specs.Set.{has}
 use Rattle.sets.specs.Kept.{KeptBy}
-use Rattle.plan.specs.Plan.{Access}
+use Rattle.plan.specs.declared.table.Access.{Access}
 
 -- the bytes of an operand in the query
 abbrev pub operand_in : (q : List ℕ) → Access → List ℕ
-operand_in q x = take x.size (drop x.place q)
+operand_in q x = take x.len (drop x.place q)
 
 -- an access shows a predicate: the column's values in the catalogue's bytes, the operand in the query's
 pub record Accessed (b q : List ℕ) (C : Catalogue) (p : Predicate) (x : Access) : Type 0 where
   pub shown : Shows b C.rows x.tag x.start (column_asked C p)
-  pub tag_byte : x.tag < 256
   pub kind : x.kind ≡ p.kind
-  pub kind_byte_lem : x.kind < 256
   pub operand : operand_in q x ≡ p.operand
-  pub placed : x.place + x.size ≤ length q
+  pub placed : x.place + x.len ≤ length q
   pub kind_fits_lem : kind_fits x.tag (plain_kind x.kind) ≡ true
   pub operand_fits_lem : operand_fits (plain_kind x.kind) (operand_in q x) ≡ true
 

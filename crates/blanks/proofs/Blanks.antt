@@ -18,6 +18,7 @@ use Rattle.sets.specs.KeptLaws.{sift_kept}
 use Rattle.bitmaps.specs.Table.{line_size, line_bit}
 use Rattle.bitmaps.specs.Word.{block_rows, word_size, BlockAt}
 use Rattle.gather.proofs.Gathering.{word_bits}
+use Rattle.plan.specs.declared.table.Access.{Access}
 use Rattle.plan.specs.Plan.{access_at}
 use Rattle.access.specs.Access.{RowsIn, HasOutcomesAnyQuery, BlankIs}
 use Rattle.task.specs.Task.{Task, predicate_at}
@@ -45,7 +46,7 @@ noes_alone due met = record {
     within false q e = e
 
 -- predicate c, whose words are `due` and `met`; its blanks are sought among `rows`
-module _ (b plan P M : List ℕ) (c : ℕ) {base due met rows : ℕ} (block : BlockAt base) (bytes : Bytes P) (met-bytes : Bytes M)
+module _ (b : List ℕ) (plan : List Access) (P M : List ℕ) (c : ℕ) {base due met rows : ℕ} (block : BlockAt base) (bytes : Bytes P) (met-bytes : Bytes M)
     (due-is : due ≡ word_at P (c * line_size + base / 8) word_size) (met-is : met ≡ word_at M (c * line_size + base / 8) word_size) (small : due < 2 ^ 64)
     (N : NoesIn due met rows) where
   due-bits : (d : ℕ) → d < block_rows → has due d ≡ line_bit P c (base + d)
@@ -81,12 +82,11 @@ module _ (b plan P M : List ℕ) (c : ℕ) {base due met rows : ℕ} (block : Bl
   has_blanks (T, q, R) = (q, (T.catalogue, predicate_at T.query c, R.accessed, sought_rows T q R))
 
 -- the probes of turn i are those of its predicate
-pub probes_at : {T : Task} {b q plan turns P M : List ℕ} → ProbesOf T b q plan turns P M → {i : ℕ} → i < length turns → ProbesAt T b q plan P M (get_or turns i 0)
+pub probes_at : {T : Task} {b q : List ℕ} {plan : List Access} {turns P M : List ℕ} → ProbesOf T b q plan turns P M → {i : ℕ} → i < length turns → ProbesAt T b q plan P M (get_or turns i 0)
 probes_at R {i} l = record {
   line = R.lines.inside i l;
   met_line = R.met_lines.inside i l;
   low = R.low i l;
-  plan_size_lem = R.plan_size_lem;
   accessed = R.accessed i l;
   inside = λ row. R.inside i row l;
   yes = λ row. R.yes i row l;

@@ -7,6 +7,7 @@ use bitmaps::block::Base;
 use bitmaps::copy::Line;
 use bitmaps::word::Word;
 use gather::probes::Probes;
+use plan::table::Plan;
 
 // Where the blanks of a turn are sought: among its noes, or among all due rows where these are the whole block, which is
 // gone through faster.
@@ -23,7 +24,7 @@ fn rows_of_no(due: u64, met: u64) -> u64
 // in a struct the check does not know that what stands there are bytes, and the bits of a word rest on that.
 fn blank_rows(
     catalogue: &[u8],
-    plan: &[usize],
+    plan: &Plan,
     probed: &[u8],
     met: &[u8],
     c: usize,
@@ -34,14 +35,14 @@ fn blank_rows(
 {
     let at = c * Line::SIZE + base.row / 8;
     let rows = rows_of_no(words::word_at(probed, at), words::word_at(met, at));
-    access::blank_of(catalogue, plan, c, base.row, rows)
+    access::blank_of(catalogue, plan[c], base.row, rows)
 }
 
 // A run takes a blank for a no and keeps no table of them; so those among the probed rows are worked out again, turn by
 // turn.
 pub fn gather_blanks(
     catalogue: &[u8],
-    plan: &[usize],
+    plan: &Plan,
     probes: Probes,
     base: Base,
 ) -> [u64; Word::ROWS]

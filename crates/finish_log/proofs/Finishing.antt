@@ -12,6 +12,7 @@ use Rattle.bitmaps.specs.Table.{line_size, lines_of}
 use Rattle.counts.specs.Whole.{NoneBehind}
 use Rattle.query.specs.Format.{predicate_limit}
 use Rattle.task.specs.Log.{probe_field_size}
+use Rattle.plan.specs.declared.table.Access.{Access}
 use Rattle.log_rows.specs.Written.{task_log, LogReady, HasLogRoom, LogWritten}
 use Rattle.task.specs.Input.{Input}
 use Rattle.answers.specs.Answer.{Refused, Accepted}
@@ -25,11 +26,11 @@ use Rattle.finish_log.specs.Finish.{MarksOf, HasMarks, finished_log}
 use Rattle.finish_log.proofs.Halves.{half, probes_of, marked_fields, fields_length, looks_counted}
 
 -- the size of a line as the code has it
-pub size_short : {i : Input} {b q plan order marks : List ℕ} {n rows size : ℕ} → MarksOf i b q plan order marks n rows → size ≡ bytes_for rows → size ≤ line_size
+pub size_short : {i : Input} {b q : List ℕ} {plan : List Access} {order marks : List ℕ} {n rows size : ℕ} → MarksOf i b q plan order marks n rows → size ≡ bytes_for rows → size ≤ line_size
 size_short M e = let s = M.short in omega arith
 
 -- nothing is marked behind the rows that there are
-pub marks_whole : {i : Input} {b q plan order marks : List ℕ} {n rows size : ℕ} → MarksOf i b q plan order marks n rows → size ≡ bytes_for rows → NoneBehind size n marks
+pub marks_whole : {i : Input} {b q : List ℕ} {plan : List Access} {order marks : List ℕ} {n rows size : ℕ} → MarksOf i b q plan order marks n rows → size ≡ bytes_for rows → NoneBehind size n marks
 marks_whole {marks = marks} {n = n} M e =
     let z = ap bytes_for M.rows_are ∙ sym e in
     subst (λ (k : ℕ). NoneBehind k n marks) z M.worked.probed_whole
@@ -38,7 +39,7 @@ marks_whole {marks = marks} {n = n} M e =
 pub looks_few : (n looked : ℕ) → n ≤ predicate_limit → looked ≤ 8 * (n * line_size) → looked ≤ 131072
 looks_few n looked f l = omega arith
 
-module _ {b plan order marks : List ℕ} {n rows size looked : ℕ} (s : size ≡ bytes_for rows) (l : looked ≡ ones_in (lines_of size marks n)) (old : List ℕ) where
+module _ {b : List ℕ} {plan : List Access} {order marks : List ℕ} {n rows size looked : ℕ} (s : size ≡ bytes_for rows) (l : looked ≡ ones_in (lines_of size marks n)) (old : List ℕ) where
   log_size_lem : {i : Input} {q : List ℕ} → MarksOf i b q plan order marks n rows → log_size (task_of i order) ≡ probe_field_size * looked
   log_size_lem M = ap (λ (k : ℕ). probe_field_size * k) (sym (l ∙ ap (λ (k : ℕ). ones_in (lines_of k marks n)) s ∙ looks_counted M))
 

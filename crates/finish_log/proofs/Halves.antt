@@ -28,6 +28,7 @@ use Rattle.task.specs.Task.{told, made_at, is_probed}
 use Rattle.marks.specs.Marks.{met_line}
 use Rattle.rows.specs.Worked.{is_met, marking}
 use Rattle.rows.proofs.MarkLines.{probe_line, met_line_lem}
+use Rattle.plan.specs.declared.table.Access.{Access}
 use Rattle.blanks.specs.Blanks.{outcome_on, ProbesOf, blank_turn}
 use Rattle.log_rows.specs.Written.{task_log}
 use Rattle.task.specs.Input.{Input}
@@ -46,7 +47,7 @@ half = predicate_limit * line_size
 pub first_length : (marks : List ℕ) → half ≤ length marks → half ≡ length (take half marks)
 first_length marks h = sym (length-take-le half marks h)
 
-module _ {i : Input} {b q plan order marks : List ℕ} {n rows : ℕ} (M : MarksOf i b q plan order marks n rows) where
+module _ {i : Input} {b q : List ℕ} {plan : List Access} {order marks : List ℕ} {n rows : ℕ} (M : MarksOf i b q plan order marks n rows) where
   held : Order n order
   held = (order_law n order).0 M.ordered
 
@@ -134,7 +135,6 @@ module _ {i : Input} {b q plan order marks : List ℕ} {n rows : ℕ} (M : Marks
     lines = half_lines.0;
     met_lines = half_lines.1;
     low = λ j l. (let f = M.few in let c = turn_few j l in omega arith);
-    plan_size_lem = M.plan_size_lem;
     accessed = λ j l. M.accessed (get_or order j 0) (turn_few j l);
     inside = λ j e l. probed_inside (get_or order j 0) e (turn_few j l);
     yes = λ j e l. met_told (get_or order j 0) e (among_at order j l);

@@ -10,12 +10,13 @@ use bitmaps::copy::Lines;
 use copy_log::field::ProbeField;
 use gather::probes::Probes;
 use marks::MarkTable;
+use plan::table::Plan;
 
 // Ends a copy whose own table and plan are these: refusal 20, or the length and the fields. MarksOf has the table's size
 // for the theorems on the log, so the table is lent as a slice.
 pub fn finish_log(
     catalogue: &[u8],
-    plan: &[usize],
+    plan: &Plan,
     order: &[u8],
     marks: &[u8],
     n: usize,

@@ -6,7 +6,8 @@ use mathlib.Core.List.{List}
 use Rattle.catalogue.specs.Format.{row_limit}
 use Rattle.records.specs.Table.{record_at}
 use Rattle.reading.specs.Tables.{Tables}
-use Rattle.plan.specs.Plan.{access_at, access_of, HasColumns}
+use Rattle.plan.specs.declared.table.Access.{Access}
+use Rattle.plan.specs.Plan.{access_of, HasColumns}
 use Rattle.access.specs.Access.{Accessed}
 use Rattle.task.specs.Task.{predicate_at}
 use Rattle.rows.proofs.Prepared.{have_columns, planned_accessed}
@@ -20,6 +21,6 @@ module _ {b q : List ℕ} {r : Beginning} {T : Tables} (G : HasInput b q r T) wh
   pub input_columns : HasColumns r.tags r.starts (record_at q T.offsets) r.n
   input_columns = rw (G.tags, G.starts) (have_columns G.laid G.tabled)
 
-  pub input_accessed : (P : List ℕ) (c : ℕ) → c < r.n → access_at P c ≡ access_of r.tags r.starts (record_at q T.offsets c)
-      → Accessed b q G.input.catalogue (predicate_at G.input.query c) (access_at P c)
-  input_accessed P c k e = planned_accessed G.laid G.tabled P c k (rw (G.tags, G.starts) at e)
+  pub input_accessed : {x : Access} (c : ℕ) → c < r.n → x ≡ access_of r.tags r.starts (record_at q T.offsets c)
+      → Accessed b q G.input.catalogue (predicate_at G.input.query c) x
+  input_accessed c k e = planned_accessed G.laid G.tabled c k (rw (G.tags, G.starts) at e)

@@ -13,17 +13,18 @@ use Rattle.bitmaps.proofs.SumLaws.{joined_split, joined_grows, joined_same}
 use Rattle.bitmaps.specs.Table.{line_bit}
 use Rattle.bitmaps.specs.Word.{block_rows}
 use Rattle.copy_log.specs.MarkedLog.{marked_number, field_if, marked_field, marked_row, marked_log, marked_from, blanks_in}
+use Rattle.plan.specs.declared.table.Access.{Access}
 use Rattle.task.specs.Task.{Task}
 use Rattle.blanks.specs.Blanks.{blank_turn, BlankTurns}
 use Rattle.log_rows.specs.Written.{task_log, LogReady}
 
 -- the log of the rows before `base` is written
-pub record RowsLoop (b plan turns P M : List ℕ) (rows : ℕ) (old : List ℕ) (base at : ℕ) (new : List ℕ) : Type 0 where
+pub record RowsLoop (b : List ℕ) (plan : List Access) (turns P M : List ℕ) (rows : ℕ) (old : List ℕ) (base at : ℕ) (new : List ℕ) : Type 0 where
   pub whole : base % block_rows ≡ 0
   pub size : length new ≡ length old
   pub wrote : (T : Task) (q : List ℕ) → LogReady T b q plan turns P M rows old → Wrote 0 (task_log T turns P M (min base rows)) old at new
 
-pub rows_start : (b plan turns P M : List ℕ) (rows : ℕ) (old : List ℕ) → RowsLoop b plan turns P M rows old 0 0 old
+pub rows_start : (b : List ℕ) (plan : List Access) (turns P M : List ℕ) (rows : ℕ) (old : List ℕ) → RowsLoop b plan turns P M rows old 0 0 old
 unfolding marked_log joined
 rows_start b plan turns P M rows old = record {
   whole = refl;
@@ -40,7 +41,7 @@ marked_same turns P M f g base count same =
     (λ d l. joined_same (marked_field turns P M (f d) (base + d)) (marked_field turns P M (g d) (base + d)) (length turns)
     (λ i k. ap (λ (b : Bool). field_if (line_bit P (get_or turns i 0) (base + d)) (base + d) (get_or turns i 0) (marked_number (line_bit M (get_or turns i 0) (base + d)) b)) (same d i l k)))
 
-module _ {b plan turns P M : List ℕ} {rows : ℕ} {old : List ℕ} {base at : ℕ} {new : List ℕ} (L : RowsLoop b plan turns P M rows old base at new) where
+module _ {b : List ℕ} {plan : List Access} {turns P M : List ℕ} {rows : ℕ} {old : List ℕ} {base at : ℕ} {new : List ℕ} (L : RowsLoop b plan turns P M rows old base at new) where
   pub rows_end : rows ≤ base → (T : Task) (q : List ℕ) → LogReady T b q plan turns P M rows old → Wrote 0 (task_log T turns P M rows) old at new
   rows_end l T q R = let e : min base rows ≡ rows = omega arith in rw e at (L.wrote T q R)
 

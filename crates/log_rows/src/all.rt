@@ -4,11 +4,12 @@ ghost use Rattle.log_rows.specs.Written.{HasLogRoom, LogWritten};
 use bitmaps::block::Base;
 use bitmaps::word::Word;
 use gather::probes::Probes;
+use plan::table::Plan;
 
 // Writes the log of so many rows to the front of an output and gives its length.
 pub fn put_rows(
     catalogue: &[u8],
-    plan: &[usize],
+    plan: &Plan,
     probes: Probes,
     rows: usize,
     out: &mut [u8],

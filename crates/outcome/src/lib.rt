@@ -11,7 +11,7 @@ use ancestors::Ancestors;
 use answers::refusal::Refusal;
 use answers::word::Answer;
 use input::begin::Beginning;
-use plan::table::Plan;
+use plan::table::Columns;
 use predicate::fold::Fold;
 use predicate::outcome::Outcome;
 use query::format::Predicate;
@@ -44,22 +44,17 @@ fn outcome_accepted(
     if begun.n as u64 <= condition {
         return Err(Refusal::NoSuchRowOrPredicate);
     }
-    let mut plan = [0usize; Plan::TABLE_SIZE];
-    plan::table::plan_predicate(
-        &begun.tags,
-        &begun.starts,
-        question,
-        offsets,
-        condition as usize,
-        &mut plan,
-    );
+    let columns = Columns {
+        tags: &begun.tags,
+        starts: &begun.starts,
+    };
+    let planned = plan::table::plan_predicate(columns, question, offsets, condition as usize);
     let table = predicate::fold::fold_table();
     let outcome = access::outcome_of(
         Fold { table: &table },
         catalogue,
         question,
-        &plan,
-        condition as usize,
+        planned,
         entry as usize,
     );
     Ok(Answer {

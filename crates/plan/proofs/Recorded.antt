@@ -3,6 +3,7 @@ use Rattle.std.proofs.Common.{◌≡◌, sym, ap, subst, ◌∙◌, ℕ, ◌<◌
 use Rattle.records.specs.declared.PredicateRecord.{PredicateRecord}
 use Rattle.records.specs.Table.{record_at, record_in, records_of}
 use Rattle.records.proofs.Tabulated.{record_in_lem}
+use Rattle.plan.specs.declared.table.Access.{Access}
 use Rattle.plan.specs.Plan.{access_of, HasColumn, HasColumns, Planned}
 
 module _ (q offsets : List ℕ) (T T₀ : List PredicateRecord) (n : ℕ) (filled : T ≡ records_of q offsets n ++ drop n T₀) where
@@ -13,5 +14,5 @@ module _ (q offsets : List ℕ) (T T₀ : List PredicateRecord) (n : ℕ) (fille
     pub have_columns : HasColumns tags starts (record_at q offsets) n → HasColumns tags starts (record_in T) n
     have_columns h c l = subst (HasColumn tags starts) (sym (same c l)) (h c l)
 
-    pub planned : (P : List ℕ) → Planned tags starts (record_in T) P n → Planned tags starts (record_at q offsets) P n
+    pub planned : (P : List Access) → Planned tags starts (record_in T) P n → Planned tags starts (record_at q offsets) P n
     planned P h c l = h c l ∙ ap (access_of tags starts) (same c l)

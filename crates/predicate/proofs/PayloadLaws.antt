@@ -57,7 +57,3 @@ tags_at (c ∷ cs) (suc k) other h = tags_at cs k other (omega arith)
 pub shown_tag : (b : List ℕ) (rows tag start : ℕ) (c : Column) → Shows b rows tag start c → tag ≡ tag_of c
 shown_tag b rows tag start (numbers ns) s = s.0
 shown_tag b rows tag start (texts ts) s = s.0
-
-pub tag_small : (c : Column) → tag_of c < 256
-tag_small (numbers ns) = omega arith
-tag_small (texts ts) = omega arith

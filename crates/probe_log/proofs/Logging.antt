@@ -22,6 +22,7 @@ use Rattle.answers.specs.Refusals.{not_order}
 use Rattle.answers.specs.Checks.{checked}
 use Rattle.answers.specs.Written.{written}
 use Rattle.demands.specs.Log.{log_on, log_of}
+use Rattle.plan.specs.declared.table.Access.{Access}
 use Rattle.work.specs.Worked.{HasPlan, RunWorked}
 use Rattle.probe_log.specs.Sequence.{log_in_turn}
 use Rattle.finish_log.specs.Finish.{MarksOf, HasMarks, finished_log, LogFinished}
@@ -36,7 +37,7 @@ module _ {b q : List ℕ} {r : Beginning} {T : Tables} (G : HasInput b q r T) (o
   unfolding log_of log_on checked
   log_not_order output o = rw (G.decoded, G.tabled.count, o)
 
-module _ {b q : List ℕ} {r : Beginning} {plan ancestors : List ℕ} (P : HasPlan b q r plan ancestors) (order : List ℕ) (o : is_order r.n order ≡ true) {S marks : List ℕ}
+module _ {b q : List ℕ} {r : Beginning} {plan : List Access} {ancestors : List ℕ} (P : HasPlan b q r plan ancestors) (order : List ℕ) (o : is_order r.n order ≡ true) {S marks : List ℕ}
     (size : length marks ≡ 2 * predicate_limit * line_size) (W : RunWorked b q order r.n S marks) where
   abbrev G : HasInput b q r (tables P.offsets ancestors)
   G = P.has_input
@@ -51,8 +52,7 @@ module _ {b q : List ℕ} {r : Beginning} {plan ancestors : List ℕ} (P : HasPl
     size = size;
     selected = S;
     worked = W G.input G.decoded;
-    plan_size_lem = P.size;
-    accessed = λ c l. input_accessed G plan c l (P.planned c l);
+    accessed = λ c l. input_accessed G c l (P.planned c l);
   }
 
   pub has_marks : HasMarks b plan order marks r.n r.rows

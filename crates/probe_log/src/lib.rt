@@ -12,7 +12,6 @@ use answers::refusal::Refusal;
 use answers::word::Answer;
 use bitmaps::copy::Line;
 use marks::MarkTable;
-use plan::table::Plan;
 use query::format::Predicate;
 
 // The checks, the work, the end.
@@ -33,7 +32,7 @@ pub fn log_question(
     if !orders::is_order(order, n as u8) {
         return Err(Refusal::NotOrder);
     }
-    let mut plan = [0usize; Plan::TABLE_SIZE];
+    let mut plan = plan::table::UNFILLED;
     work::make_plan(question, begun, &offsets, &mut plan);
     let mut selected = [0u8; Line::SIZE];
     let mut marks = [0u8; 2 * MarkTable::PROBES];

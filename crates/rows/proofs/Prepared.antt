@@ -13,7 +13,7 @@ use Rattle.layout.specs.Layout.{Laid}
 use Rattle.layout.proofs.Laid.{column_shown}
 use Rattle.predicate.specs.Kinds.{plain_kind}
 use Rattle.predicate.specs.Payload.{tags_of, kind_fits}
-use Rattle.predicate.proofs.PayloadLaws.{Valid, valid_payload_lem, tags_length, tags_at, shown_tag, tag_small}
+use Rattle.predicate.proofs.PayloadLaws.{Valid, valid_payload_lem, tags_length, tags_at, shown_tag}
 use Rattle.strategy.specs.Order.{is_order}
 use Rattle.records.specs.declared.PredicateRecord.{PredicateRecord}
 use Rattle.query.specs.Query.{Query}
@@ -22,7 +22,8 @@ use Rattle.records.specs.Table.{record_at, predicate_in}
 use Rattle.reading.specs.Tables.{Tables}
 use Rattle.reading.specs.QueryRead.{Tabled}
 use Rattle.records.proofs.Records.{predicates_at_lem}
-use Rattle.plan.specs.Plan.{plan_size, access_at, access_of, HasColumns, Planned}
+use Rattle.plan.specs.declared.table.Access.{Access}
+use Rattle.plan.specs.Plan.{access_of, HasColumns, Planned}
 use Rattle.access.specs.Access.{Accessed}
 use Rattle.task.specs.Task.{predicate_at}
 use Rattle.rows.specs.Ready.{slices, Ready}
@@ -64,9 +65,7 @@ module _ {b q : List ℕ} {l : Layout} {C : Catalogue} {Q : Query} {n : ℕ} {T 
     planned : Accessed b q C (predicate_in q r) (access_of l.tags l.starts r)
     planned = record {
       shown = shown;
-      tag_byte = omega (arith, shown_tag b C.rows tag (get_or l.starts r.column 0) column shown, tag_small column);
       kind = refl;
-      kind_byte_lem = (read.each c k).kind;
       operand = refl;
       placed = omega (arith, (read.located.each c k).0, (read.located.each c k).1);
       kind_fits_lem = ap (λ (t : ℕ). kind_fits t (plain_kind r.kind)) same_tag ∙ valid.kind_fits_lem;
@@ -79,20 +78,18 @@ module _ {b q : List ℕ} {l : Layout} {C : Catalogue} {Q : Query} {n : ℕ} {T 
         ∙ predicates_at_lem q T.offsets n c (record { column = 0; kind = 0; operand = []; place = 0 }) k
 
   -- a predicate that is planned is shown
-  pub planned_accessed : (P : List ℕ) (c : ℕ) → c < n → access_at P c ≡ access_of l.tags l.starts (record_at q T.offsets c)
-      → Accessed b q C (predicate_at Q c) (access_at P c)
-  planned_accessed P c k e = rw (e, predicate_is c k) (planned c k)
+  pub planned_accessed : {x : Access} (c : ℕ) → c < n → x ≡ access_of l.tags l.starts (record_at q T.offsets c) → Accessed b q C (predicate_at Q c) x
+  planned_accessed c k e = rw (e, predicate_is c k) (planned c k)
 
   -- A RUN IS READY
-  pub ready : {order P : List ℕ} → is_order n order ≡ true → length P ≡ plan_size → Planned l.tags l.starts (record_at q T.offsets) P n
+  pub ready : {order : List ℕ} {P : List Access} → is_order n order ≡ true → Planned l.tags l.starts (record_at q T.offsets) P n
       → Ready (slices b q order P T.ancestors) n (record { catalogue = C; query = Q; order = order })
-  ready {order} {P} o s p = record {
+  ready {order} {P} o p = record {
     short = omega (arith, laid.rows, laid.short);
     few = read.few;
     turns = refl;
     ordered = o;
-    plan_size_lem = s;
-    accessed = λ c k. planned_accessed P c k (p c k);
+    accessed = λ c k. planned_accessed c k (p c k);
     ancestors_size_lem = read.sized.ancestors;
     low = read.low;
     spans = read.spans;

@@ -6,7 +6,8 @@ use Rattle.strategy.specs.Order.{is_order}
 use Rattle.strategy.specs.Propagation.{enclosing}
 use Rattle.query.specs.Format.{predicate_limit}
 use Rattle.ancestors.specs.Ancestors.{ancestors_size, ancestors_of, Low, Spans}
-use Rattle.plan.specs.Plan.{access_at, plan_size}
+use Rattle.plan.specs.declared.table.Access.{Access}
+use Rattle.plan.specs.Plan.{access_at}
 use Rattle.access.specs.Access.{Accessed}
 use Rattle.task.specs.Task.{Task, predicate_at, turns_of}
 
@@ -15,10 +16,10 @@ pub record Slices : Type 0 where
   pub catalogue : List ℕ
   pub question : List ℕ
   pub turns : List ℕ
-  pub plan : List ℕ
+  pub plan : List Access
   pub ancestors : List ℕ
 
-abbrev pub slices : (catalogue question turns plan ancestors : List ℕ) → Slices
+abbrev pub slices : (catalogue question turns : List ℕ) → (plan : List Access) → (ancestors : List ℕ) → Slices
 slices b q turns P A = record { catalogue = b; question = q; turns = turns; plan = P; ancestors = A }
 
 -- they show the task, whose query has n predicates
@@ -27,7 +28,6 @@ pub record Ready (G : Slices) (n : ℕ) (T : Task) : Type 0 where
   pub few : n ≤ predicate_limit
   pub turns : G.turns ≡ turns_of T
   pub ordered : is_order n G.turns ≡ true
-  pub plan_size_lem : length G.plan ≡ plan_size
   pub accessed : (c : ℕ) → c < n → Accessed G.catalogue G.question T.catalogue (predicate_at T.query c) (access_at G.plan c)
   pub ancestors_size_lem : length G.ancestors ≡ ancestors_size
   pub low : Low n G.ancestors

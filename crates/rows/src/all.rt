@@ -6,6 +6,7 @@ ghost use Rattle.rows.specs.Worked.{RowsReady, RowsWorked};
 use crate::block::Block;
 use bitmaps::block::Base;
 use bitmaps::word::Word;
+use plan::table::Plan;
 use predicate::fold::Fold;
 
 // How many rows there are, where in the catalogue the bytes of the mark start, and the predicates that are live at first.
@@ -21,7 +22,7 @@ pub fn work_rows(
     catalogue: &[u8],
     question: &[u8],
     turns: &[u8],
-    plan: &[usize],
+    plan: &Plan,
     ancestors: &[u8],
     extent: Extent,
     selected: &mut [u8],

@@ -2,6 +2,7 @@
 ghost use Rattle.rows.specs.Ready.{slices};
 ghost use Rattle.rows.specs.Worked.{Filled, HasNoMarks, BlockReady, BlockWorked};
 
+use plan::table::Plan;
 use predicate::fold::Fold;
 use query::format::Predicate;
 use sets::numbers::Numbers;
@@ -29,7 +30,7 @@ pub fn work_block(
     catalogue: &[u8],
     question: &[u8],
     turns: &[u8],
-    plan: &[usize],
+    plan: &Plan,
     ancestors: &[u8],
     block: Block,
     marks: &mut [u8],
@@ -49,7 +50,7 @@ pub fn work_block(
         if due == 0 {
             continue;
         }
-        let met = access::met_of(fold, catalogue, question, plan, c, base, due);
+        let met = access::met_of(fold, catalogue, question, plan[c], base, due);
         marks::mark(marks, c, base, due, met);
         live[c] = 0;
         let passed = blocks::propagation::propagate_rows(ancestors, c, &mut live, due, met);

@@ -3,15 +3,14 @@ use Rattle.blanks.proofs.Blanks.{blanks_found, has_blanks}
 use Rattle.std.proofs.Common.{arith}
 use Rattle.blanks.proofs.blank_rows.Goals as goal
 
+pub bounds-plan-c : goal.bounds-plan-c
+bounds-plan-c c = c.requires.2.low
+
 pub blank_of-requires : goal.blank_of-requires
 blank_of-requires c =
     let a = c.args in
     let t = c.type_inv in
-    let R = c.requires.2 in (
-      R.low,
-      R.plan_size_lem,
-      has_blanks a.catalogue.now a.plan.now a.probed.now a.met.now a.c a.base.block (λ k. (t.probed k).fits) (λ k. (t.met k).fits) c.word_at.ensures c.word_at-2.ensures (omega arith) c.rows_of_no-rows.ensures c.requires,
-    )
+    has_blanks a.catalogue.now a.plan.now a.probed.now a.met.now a.c a.base.block (λ k. (t.probed k).fits) (λ k. (t.met k).fits) c.word_at.ensures c.word_at-2.ensures (omega arith) c.rows_of_no-rows.ensures c.requires
 
 pub returns : goal.returns
 returns c T q R =

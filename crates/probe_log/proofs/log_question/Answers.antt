@@ -2,7 +2,7 @@
 use Rattle.bitmaps.proofs.TableLaws.{holds_none}
 use Rattle.marks.proofs.Marking.{empty_marks}
 use Rattle.probe_log.proofs.Logging.{has_marks, log_finished, log_not_order, log_refused}
-use Rattle.std.proofs.Common.{arith, refl, sym}
+use Rattle.std.proofs.Common.{arith, sym}
 use Rattle.std.proofs.lemmas.Result.{err_from_is_err_and}
 use Rattle.probe_log.proofs.log_question.Goals as goal
 
@@ -21,7 +21,7 @@ pub returns-then-not-is_order : goal.returns-then-not-is_order
 returns-then-not-is_order c = (log_not_order c.in_ok-begun.ensures _ _ (sym c.if-not-is_order.ensures), omega arith)
 
 pub make_plan-requires : goal.make_plan-requires
-make_plan-requires c = ((_, (_, c.in_ok-begun.ensures)), refl)
+make_plan-requires c = (_, (_, c.in_ok-begun.ensures))
 
 pub work-requires : goal.work-requires
 work-requires c =

@@ -1,12 +1,8 @@
 -- `work_run` meets its contract: the plan is that of what was read, and the rows are worked by it.
-use Rattle.std.proofs.Common.{refl}
 use Rattle.run_rows.proofs.work_run.Goals as goal
 
-pub slice_bounds-make_plan-end : goal.slice_bounds-make_plan-end
-slice_bounds-make_plan-end c = refl
-
 pub make_plan-requires : goal.make_plan-requires
-make_plan-requires c = ((_, (_, c.requires.has_input.0)), refl)
+make_plan-requires c = (_, (_, c.requires.has_input.0))
 
 pub work-requires : goal.work-requires
 work-requires c =

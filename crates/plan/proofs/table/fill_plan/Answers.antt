@@ -7,9 +7,8 @@ pub plan_records-requires : goal.plan_records-requires
 plan_records-requires c = (
   c.requires.0.few,
   omega (arith, c.requires.0.few),
-  c.requires.1,
-  have_columns c.args.q.now c.args.offsets.now _ _ _ c.tabulate.ensures c.args.tags.now c.args.starts.now c.requires.2,
+  have_columns c.args.q.now c.args.offsets.now _ _ _ c.tabulate.ensures c.args.columns.tags.now c.args.columns.starts.now c.requires.1,
 )
 
 pub returns : goal.returns
-returns c = planned c.args.q.now c.args.offsets.now _ _ _ c.tabulate.ensures c.args.tags.now c.args.starts.now _ c.plan_records.ensures
+returns c = planned c.args.q.now c.args.offsets.now _ _ _ c.tabulate.ensures c.args.columns.tags.now c.args.columns.starts.now _ c.plan_records.ensures

@@ -17,13 +17,16 @@ bounds-live-c c = turn_few c.loop-turn.invariant c.from-c.result c.from-c.ensure
 pub loop-turn-preserved-then-due-eq0 : goal.loop-turn-preserved-then-due-eq0
 loop-turn-preserved-then-due-eq0 c = turning_idle c.loop-turn.invariant c.from-c.result c.from-c.ensures c.loop-turn-test.true c.if-due-eq0.true
 
+pub bounds-plan-c : goal.bounds-plan-c
+bounds-plan-c c = turn_few c.loop-turn.invariant c.from-c.result c.from-c.ensures c.loop-turn-test.true c.requires.0
+
 pub met_of-met-requires : goal.met_of-met-requires
 met_of-met-requires c =
     let p = c.requires in
     let e = p.0 in
     let l = c.loop-turn.invariant in
     let w = c.from-c in
-    (turn_few l w.result w.ensures c.loop-turn-test.true e, e.2.plan_size_lem, turn_outcomes l w.result w.ensures c.loop-turn-test.true e)
+    turn_outcomes l w.result w.ensures c.loop-turn-test.true e
 
 pub mark-requires : goal.mark-requires
 mark-requires c =
