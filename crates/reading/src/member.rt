@@ -6,6 +6,7 @@ ghost use Rattle.reading.specs.MemberRead.{Readable, MemberRead, MembersRead};
 use ancestors::Ancestors;
 use query::member::MemberField;
 use query::refusal::Refusal;
+use records::Predicates;
 
 // How far a reading is: the place after what was read, and the number of predicates up to there.
 #[derive(Clone, Copy)]
@@ -32,7 +33,8 @@ pub fn read_member(
     ensures { MemberRead tags.now q.now at end (depth_of allowed) n result
         (tables offsets.old ancestors.old) (tables offsets.new ancestors.new) }
 {
-    let field = members::field::read_field(tags, q, at, end, allowed, n, offsets)?;
+    let earlier = Predicates { q, offsets, n };
+    let field = members::field::read_field(tags, earlier, at, end, allowed)?;
     match field {
         MemberField::Leaf {
             start: _,
