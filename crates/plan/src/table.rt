@@ -7,7 +7,7 @@ ghost use Rattle.records.specs.Table.{record_at, HasRecord, record_in};
 ghost use Rattle.plan.specs.Plan.{plan_size, access_at, access_of, HasColumn, HasColumns, AccessPut, Planned};
 
 use query::format::Predicate;
-use records::PredicateRecord;
+use records::{PredicateRecord, Predicates};
 
 #[derive(Drop)]
 pub struct Plan;
@@ -85,6 +85,6 @@ pub fn fill_plan(
         place: 0,
         len: 0,
     }; Predicate::LIMIT];
-    records::tabulate(q, offsets, n, &mut table);
+    records::tabulate(Predicates { q, offsets, n }, &mut table);
     plan_records(tags, starts, &table, n, plan);
 }
