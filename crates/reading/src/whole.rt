@@ -1,8 +1,8 @@
 // A whole query read into the tables of the reading.
 ghost use Rattle.query.specs.Decode.{decode_tagged};
-ghost use Rattle.reading.specs.Tables.{tables, HasTables};
 ghost use Rattle.reading.specs.QueryRead.{QueryRead};
 
+use crate::tables::Tables;
 use query::format::Group;
 use query::refusal::Refusal;
 
@@ -11,12 +11,9 @@ use query::refusal::Refusal;
 pub fn read_query(
     tags: &[u8],
     q: &[u8],
-    offsets: &mut [usize],
-    ancestors: &mut [u8],
+    found: &mut Tables,
 ) -> Result<usize, Refusal>
-    requires { HasTables (tables offsets.old ancestors.old) }
-    ensures { QueryRead tags.now q.now (decode_tagged tags.now q.now) result
-        (tables offsets.new ancestors.new) }
+    ensures { QueryRead tags.now q.now (decode_tagged tags.now q.now) result found.new }
 {
     let read = crate::member::read_member(
         tags,
@@ -25,8 +22,7 @@ pub fn read_query(
         q.len(),
         Group::DEPTH_LIMIT,
         0,
-        offsets,
-        ancestors,
+        found,
     )?;
     if read.at != q.len() {
         return Err(Refusal::BytesAfterQuery);

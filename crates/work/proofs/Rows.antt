@@ -7,7 +7,7 @@ use lib.ListN.{length}
 use Rattle.strategy.specs.Order.{is_order}
 use Rattle.sets.specs.Set.{below_set}
 use Rattle.records.specs.Table.{record_at}
-use Rattle.reading.specs.Tables.{Tables}
+use Rattle.reading.specs.declared.tables.Tables.{Tables}
 use Rattle.plan.specs.Plan.{plan_size, Planned}
 use Rattle.rows.specs.declared.all.Extent.{Extent}
 use Rattle.rows.specs.Ready.{slices, Ready}
