@@ -48,7 +48,8 @@ fn predicate_field(
     Ok(MemberField::Leaf { start, end })
 }
 
-// The member expected at a place behind the earlier predicates, inside an enclosing end, with so many more groups allowed.
+// The member expected at a place behind the earlier predicates, inside an enclosing end, with so many more groups
+// allowed.
 pub fn read_field(
     tags: &[u8],
     earlier: Predicates,

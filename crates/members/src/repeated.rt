@@ -10,8 +10,8 @@ ghost use Rattle.members.specs.Heads.{head_at, OtherHeads, LastWithHead};
 use fields::header::Header;
 use records::Predicates;
 
-// Eight bytes at a time, then one by one: `a == b` takes up to twice as long where texts of one column and kind are told
-// apart, `chunks_exact` with `zip` and `all` some hundredths more.
+// Eight bytes at a time, then one by one: `a == b` takes up to twice as long where texts of one column and kind are
+// told apart, `chunks_exact` with `zip` and `all` some hundredths more.
 fn same_bytes(a: &[u8], b: &[u8]) -> bool
     ensures { result ≡ same a.now b.now }
 {
@@ -67,8 +67,8 @@ fn is_payload_at(payload: &[u8], q: &[u8], at: usize) -> bool
     same_bytes(payload, &q[start..end])
 }
 
-// Whether one of the earlier predicates has this payload: only those with its head are compared, the others are passed in
-// a loop of their own.
+// Whether one of the earlier predicates has this payload: only those with its head are compared, the others are passed
+// in a loop of their own.
 pub fn is_repeated(payload: &[u8], earlier: Predicates) -> bool
     requires { payload_head ≤ length payload.now }
     ensures { result ≡ is_repeated payload.now

@@ -2,8 +2,8 @@
 use ancestors::Ancestors;
 use query::format::Predicate;
 
-// Of the predicates read so far: offsets[c] is where the field of predicate c begins, line c of ancestors tells the groups
-// around it.
+// Of the predicates read so far: offsets[c] is where the field of predicate c begins, line c of ancestors tells the
+// groups around it.
 #[derive(Drop)]
 pub struct Tables {
     pub offsets: [usize; Predicate::LIMIT],

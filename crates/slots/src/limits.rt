@@ -1,4 +1,4 @@
-// The bits that may not stand in a byte of a text slot: entry k is limitOf k of specs/Limits.antt.
+// The bits that may not stand in a byte of a text slot: entry k is `limit_of k` of specs/Limits.antt.
 ghost use Rattle.slots.specs.Limits.{Limits};
 
 use crate::slot::Text;
