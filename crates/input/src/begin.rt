@@ -16,11 +16,7 @@ pub struct Beginning {
 }
 
 // Lays out the catalogue and reads the question against it, into the tables of the reading.
-pub fn begin(
-    catalogue: &[u8],
-    question: &[u8],
-    found: &mut Tables,
-) -> Result<Beginning, Refusal>
+pub fn begin(catalogue: &[u8], question: &[u8], found: &mut Tables) -> Result<Beginning, Refusal>
     ensures { InputRead catalogue.now question.now result found.new }
 {
     let layout = layout::lay_out(catalogue)?;

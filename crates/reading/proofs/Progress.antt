@@ -27,7 +27,7 @@ use Rattle.records.specs.Offsets.{HasPayload}
 use Rattle.records.specs.Table.{predicates_at}
 use Rattle.reading.specs.declared.tables.Tables.{Tables}
 use Rattle.reading.specs.Tables.{tables, HasTables}
-use Rattle.ancestors.specs.Ancestors.{ancestors_width, ancestors_size, height_at, ancestor_over, ancestors_of, Low, Under, SameHeights, Spans, Closed}
+use Rattle.ancestors.specs.Ancestors.{ancestors_width, height_at, ancestor_over, ancestors_of, Low, Under, SameHeights, Spans, Closed}
 use Rattle.reading.specs.MemberRead.{progress, AncestorsGained, Reported, MemberReported, MembersReported, MemberRead, MembersRead, StaysWithin, Readable}
 use Rattle.records.proofs.Records.{predicates_put, payload_put, record_shows}
 use Rattle.ancestors.proofs.AncestorLaws.{fresh_height, fresh_kept, fresh_none, fresh_old, fresh_low, fresh_spans}

@@ -21,7 +21,6 @@ use Rattle.query.specs.declared.refusal.Refusal.TheVariants.{BytesAfterQuery}
 use Rattle.query.specs.Decode.{payload_of, Read, member, whole_query, decode_tagged}
 use Rattle.records.specs.Table.{record_at, predicate_in, predicates_at}
 use Rattle.reading.specs.declared.tables.Tables.{Tables}
-use Rattle.reading.specs.Tables.{HasTables}
 use Rattle.reading.specs.MemberRead.{progress, Reported, MemberRead}
 use Rattle.reading.specs.QueryRead.{Recorded, QueryRead}
 use Rattle.query.proofs.Readings.{Fits, Each, SoundTree, member_sound}

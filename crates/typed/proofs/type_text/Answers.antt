@@ -1,5 +1,5 @@
 -- `type_text` meets its contract: misspelled, or what the question gives.
-use Rattle.std.proofs.Common.{arith, length-take-le, sym, ◌≡◌}
+use Rattle.std.proofs.Common.{arith, ◌≡◌}
 use Rattle.std.proofs.lemmas.Result.{err_from_is_err_and}
 use Rattle.answers.specs.declared.refusal.Refusal.TheVariants as refusal
 use Rattle.answers.specs.Answer.{answer_of}

@@ -1,6 +1,5 @@
 -- `read_query` meets its contract: the reading begins with the whole query and no predicates, and is handed on by its cases.
 use Rattle.reading.proofs.WholeQuery.{whole_accepted, whole_left, whole_refused}
-use Rattle.std.proofs.Common.{arith}
 use Rattle.std.proofs.lemmas.Result.{err_from_is_err_and}
 use Rattle.reading.proofs.whole.read_query.Goals as goal
 
