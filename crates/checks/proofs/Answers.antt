@@ -10,7 +10,7 @@ use Rattle.catalogue.specs.declared.refusal.Refusal.{Refusal as CatalogueRefusal
 use Rattle.catalogue.specs.Refusal.{refusal_number as catalogue_number}
 use Rattle.layout.specs.declared.Layout.{Layout}
 use Rattle.layout.specs.Layout.{LaidOut}
-use Rattle.reading.specs.Tables.{Tables}
+use Rattle.reading.specs.declared.tables.Tables.{Tables}
 use Rattle.input.specs.declared.begin.Beginning.{Beginning}
 use Rattle.task.specs.Input.{Input, decode_input}
 use Rattle.input.specs.Beginning.{HasInput}

@@ -6,10 +6,9 @@ ghost use Rattle.task.specs.Input.{decode_input};
 ghost use Rattle.answers.specs.Answer.{answer_of};
 ghost use Rattle.answers.specs.Answers.{catalogue_answer, question_answer, Answered};
 
-use ancestors::Ancestors;
 use answers::refusal::Refusal;
 use answers::word::Answer;
-use query::format::Predicate;
+use reading::tables::Tables;
 
 // The numbers of entries and of columns.
 pub fn check_catalogue(catalogue: &[u8]) -> Result<Answer, Refusal>
@@ -27,9 +26,8 @@ pub fn check_catalogue(catalogue: &[u8]) -> Result<Answer, Refusal>
 pub fn check_question(catalogue: &[u8], question: &[u8]) -> Result<Answer, Refusal>
     ensures { Answered (question_answer (decode_input catalogue.now question.now)) (answer_of result) }
 {
-    let mut offsets = [0usize; Predicate::LIMIT];
-    let mut ancestors = [0u8; Ancestors::TABLE_SIZE];
-    let begun = input::begin::begin(catalogue, question, &mut offsets, &mut ancestors)?;
+    let mut found = Tables::EMPTY;
+    let begun = input::begin::begin(catalogue, question, &mut found)?;
     Ok(Answer {
         first: begun.n as u64,
         second: 0,

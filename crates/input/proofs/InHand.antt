@@ -5,7 +5,7 @@ use mathlib.Core.Path.{◌≡◌}
 use mathlib.Core.List.{List}
 use Rattle.catalogue.specs.Format.{row_limit}
 use Rattle.records.specs.Table.{record_at}
-use Rattle.reading.specs.Tables.{Tables}
+use Rattle.reading.specs.declared.tables.Tables.{Tables}
 use Rattle.plan.specs.declared.table.Access.{Access}
 use Rattle.plan.specs.Plan.{access_of, HasColumns}
 use Rattle.access.specs.Access.{Accessed}

@@ -19,7 +19,7 @@ use Rattle.predicate.proofs.PayloadLaws.{tags_length, tags_at, shown_tag}
 use Rattle.query.specs.Query.{Query}
 use Rattle.query.specs.declared.refusal.Refusal.{Refusal as QuestionRefusal}
 use Rattle.query.specs.Refusal.{refusal_number as question_number}
-use Rattle.reading.specs.Tables.{Tables}
+use Rattle.reading.specs.declared.tables.Tables.{Tables}
 use Rattle.query.specs.Decode.{decode_tagged, decode_query}
 use Rattle.reading.specs.QueryRead.{QueryRead}
 use Rattle.task.specs.Input.{with_query, decode_input}

@@ -4,7 +4,8 @@ use Rattle.fields.specs.Decoded.{refused, accepted}
 use Rattle.layout.specs.declared.Layout.{Layout}
 use Rattle.layout.specs.Layout.{Laid}
 use Rattle.predicate.specs.Payload.{tags_of}
-use Rattle.reading.specs.Tables.{Tables, tables}
+use Rattle.reading.specs.declared.tables.Tables.{Tables}
+use Rattle.reading.specs.Tables.{tables}
 use Rattle.reading.specs.QueryRead.{Tabled}
 use Rattle.input.specs.declared.begin.Beginning.{Beginning}
 use Rattle.task.specs.Input.{Input, decode_input}

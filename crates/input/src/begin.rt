@@ -1,9 +1,9 @@
 // How every call on a question begins: the catalogue laid out, the question read against it.
-ghost use Rattle.reading.specs.Tables.{tables, HasTables};
 ghost use Rattle.input.specs.Beginning.{InputRead};
 
 use answers::refusal::Refusal;
 use catalogue::format::Column;
+use reading::tables::Tables;
 
 // What the later steps ask for.
 #[derive(Clone, Copy)]
@@ -16,18 +16,12 @@ pub struct Beginning {
 }
 
 // Lays out the catalogue and reads the question against it, into the tables of the reading.
-pub fn begin(
-    catalogue: &[u8],
-    question: &[u8],
-    offsets: &mut [usize],
-    ancestors: &mut [u8],
-) -> Result<Beginning, Refusal>
-    requires { HasTables (tables offsets.old ancestors.old) }
-    ensures { InputRead catalogue.now question.now result (tables offsets.new ancestors.new) }
+pub fn begin(catalogue: &[u8], question: &[u8], found: &mut Tables) -> Result<Beginning, Refusal>
+    ensures { InputRead catalogue.now question.now result found.new }
 {
     let layout = layout::lay_out(catalogue)?;
     let tags = &layout.tags[..layout.columns];
-    let n = reading::whole::read_query(tags, question, offsets, ancestors)?;
+    let n = reading::whole::read_query(tags, question, found)?;
     Ok(Beginning {
         rows: layout.rows,
         n,

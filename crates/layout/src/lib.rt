@@ -1,18 +1,20 @@
 // A whole catalogue checked, and where its columns and its mark lie.
 #![tactic(auto)]
 
-ghost use Rattle.std.specs.Prelude.{◌≡◌, ◌≤◌, length};
-ghost use Rattle.catalogue.specs.Format.{row_limit, column_limit};
+ghost use Rattle.std.specs.Prelude.{Ok};
 ghost use Rattle.catalogue.specs.Decode.{columns_at, decode_catalogue};
+ghost use Rattle.catalogue.specs.Sound.{SoundFirst};
 ghost use Rattle.layout.specs.Layout.{ColumnsLaidOut, LaidOut};
 
 use catalogue::column::ColumnField;
+use catalogue::first::Counts;
 use catalogue::format::Column;
 use catalogue::refusal::Refusal;
 
-// Of each column its tag and where its payload starts, and where the bytes of the mark start, which go on to the end. Where there is no mark
-// that is the end.
-// Two arrays: `payload::payload_is_valid` and `reading::whole::read_query` are lent the tags alone, as a slice.
+// Of each column its tag and where its payload starts, and where the bytes of the mark start, which go on to the end.
+// Where there is no mark that is the end.
+// Two arrays, not one of columns: `read_query`, `payload_is_valid` and `read_text` are lent the tags alone, as many as
+// there are columns, and would need them copied out of it at every call.
 #[derive(Drop)]
 pub struct Layout {
     pub rows: usize,
@@ -30,16 +32,17 @@ struct ColumnsLayout {
     starts: [usize; Column::LIMIT],
 }
 
-// So many columns from a place on.
-fn lay_out_columns(
-    b: &[u8],
-    rows: usize,
-    columns: usize,
-    first: usize,
-) -> Result<ColumnsLayout, Refusal>
-    requires { (rows ≤ row_limit) × (columns ≤ column_limit) × (first ≤ length b.now) }
-    ensures { ColumnsLaidOut b.now rows columns result (columns_at b.now rows columns first) }
+// The columns that the first field counts.
+fn lay_out_columns(b: &[u8], counts: Counts) -> Result<ColumnsLayout, Refusal>
+    requires { SoundFirst b.now (Ok counts) }
+    ensures { ColumnsLaidOut b.now counts.rows counts.columns result
+        (columns_at b.now counts.rows counts.columns counts.next) }
 {
+    let Counts {
+        rows,
+        columns,
+        next: first,
+    } = counts;
     let mut tags = [0u8; Column::LIMIT];
     let mut starts = [0usize; Column::LIMIT];
     let limits = slots::limits::limit_table();
@@ -70,7 +73,7 @@ pub fn lay_out(b: &[u8]) -> Result<Layout, Refusal>
     ensures { LaidOut b.now result (decode_catalogue b.now) }
 {
     let counts = catalogue::first::read_first(b)?;
-    let laid = lay_out_columns(b, counts.rows, counts.columns, counts.next)?;
+    let laid = lay_out_columns(b, counts)?;
     let mark = catalogue::mark::read_mark(b, counts.rows, laid.end)?.unwrap_or(b.len());
     Ok(Layout {
         rows: counts.rows,

@@ -61,7 +61,6 @@ fn read_escape(text: &[u8], at: usize) -> Option<QuotedByte>
 }
 
 fn read_byte(text: &[u8], at: usize) -> Option<QuotedByte>
-    requires { at ≤ length text.now }
     ensures { ByteRead text.now at result }
 {
     match *text.get(at)? {

@@ -12,7 +12,7 @@ abbrev pub OtherHeads : (h : ℕ) → (q offsets : List ℕ) → (c n : ℕ) →
 OtherHeads h q os c n = (d : ℕ) → c ≤ d → d < n → head_at q (start_at os d) ≡ h → ⊥
 
 -- of the first n predicates, c is the last with head h
-pub record LastHeadIs (h : ℕ) (q offsets : List ℕ) (n c : ℕ) : Type 0 where
+pub record LastWithHead (h : ℕ) (q offsets : List ℕ) (n c : ℕ) : Type 0 where
   pub inside : c < n
   pub others : OtherHeads h q offsets (c + 1) n
   pub has : head_at q (start_at offsets c) ≡ h

@@ -3,7 +3,6 @@ ghost use Rattle.std.specs.Prelude.{◌≡◌, ◌≤◌, length, IfOk};
 ghost use Rattle.fields.specs.Header.{header_at};
 ghost use Rattle.query.specs.Format.{depth_of};
 ghost use Rattle.query.specs.Decode.{group_field, predicate_field, member_field};
-ghost use Rattle.records.specs.Offsets.{HasFields};
 ghost use Rattle.records.specs.Table.{predicates_at};
 ghost use Rattle.query.specs.Sound.{SoundField};
 
@@ -11,6 +10,7 @@ use fields::header::Field;
 use query::format::{Group, Predicate};
 use query::member::MemberField;
 use query::refusal::Refusal;
+use records::Predicates;
 
 fn group_field(allowed: usize, field: Field) -> Result<MemberField, Refusal>
     ensures { result ≡ group_field (depth_of allowed) field.tag field.start field.end }
@@ -25,50 +25,47 @@ fn group_field(allowed: usize, field: Field) -> Result<MemberField, Refusal>
     Ok(MemberField::Group { tag, start, end })
 }
 
-// The predicates before it are those whose fields begin at the first n offsets.
 fn predicate_field(
     tags: &[u8],
-    q: &[u8],
+    earlier: Predicates,
     start: usize,
     end: usize,
-    n: usize,
-    offsets: &[usize],
 ) -> Result<MemberField, Refusal>
-    requires { (start ≤ end) × (end ≤ length q.now) × HasFields q.now offsets.now n }
-    ensures { result ≡ predicate_field tags.now q.now (predicates_at q.now offsets.now n) start end }
+    requires { (start ≤ end) × (end ≤ length earlier.q.now) }
+    ensures { result ≡ predicate_field tags.now earlier.entry.q.now
+        (predicates_at earlier.entry.q.now earlier.entry.offsets.now earlier.entry.n) start end }
 {
-    if Predicate::LIMIT <= n {
+    if Predicate::LIMIT <= earlier.n {
         return Err(Refusal::TooManyPredicates);
     }
-    if !payload::payload_is_valid(tags, &q[start..end]) {
+    let payload = &earlier.q[start..end];
+    if !payload::payload_is_valid(tags, payload) {
         return Err(Refusal::InvalidPayload);
     }
-    if crate::repeated::is_repeated(&q[start..end], q, offsets, n) {
+    if crate::repeated::is_repeated(payload, earlier) {
         return Err(Refusal::RepeatedPayload);
     }
     Ok(MemberField::Leaf { start, end })
 }
 
-// The member expected at a place inside an enclosing end, with so many more groups allowed.
+// The member expected at a place behind the earlier predicates, inside an enclosing end, with so many more groups
+// allowed.
 pub fn read_field(
     tags: &[u8],
-    q: &[u8],
+    earlier: Predicates,
     at: usize,
     end: usize,
     allowed: usize,
-    n: usize,
-    offsets: &[usize],
 ) -> Result<MemberField, Refusal>
-    requires { (at ≤ end) × (end ≤ length q.now) × HasFields q.now offsets.now n }
-    ensures exact { result ≡ member_field tags.now q.now (depth_of allowed)
-        (predicates_at q.now offsets.now n) (header_at q.now at end) }
-    ensures sound { IfOk result (SoundField tags.now q.now at end (depth_of allowed) n) }
+    requires { (at ≤ end) × (end ≤ length earlier.q.now) }
+    ensures exact { result ≡ member_field tags.now earlier.entry.q.now (depth_of allowed)
+        (predicates_at earlier.entry.q.now earlier.entry.offsets.now earlier.entry.n)
+        (header_at earlier.entry.q.now at end) }
+    ensures sound { IfOk result (SoundField tags.now earlier.entry.q.now at end (depth_of allowed) earlier.entry.n) }
 {
-    let Some(field) = fields::header::read_header(q, at, end) else {
-        return Err(Refusal::MemberCut);
-    };
+    let field = fields::header::read_header(earlier.q, at, end).ok_or(Refusal::MemberCut)?;
     match field.tag {
-        Predicate::TAG => predicate_field(tags, q, field.start, field.end, n, offsets),
+        Predicate::TAG => predicate_field(tags, earlier, field.start, field.end),
         Group::CONJUNCTION_TAG | Group::DISJUNCTION_TAG => group_field(allowed, field),
         _ => Err(Refusal::UnknownTag),
     }

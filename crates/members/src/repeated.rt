@@ -4,14 +4,14 @@ ghost use Rattle.fields.specs.Header.{header_size, field_end};
 ghost use Rattle.predicate.specs.Meaning.{same};
 ghost use Rattle.predicate.specs.Payload.{payload_head};
 ghost use Rattle.query.specs.Decode.{payload_at, is_repeated};
-ghost use Rattle.records.specs.Offsets.{HasFields};
 ghost use Rattle.records.specs.Table.{predicates_at};
-ghost use Rattle.members.specs.Heads.{head_at, OtherHeads, LastHeadIs};
+ghost use Rattle.members.specs.Heads.{head_at, OtherHeads, LastWithHead};
 
 use fields::header::Header;
+use records::Predicates;
 
-// Eight bytes at a time, then one by one: `a == b` takes up to twice as long where texts of one column and kind are told apart, `chunks_exact`
-// with `zip` and `all` some hundredths more.
+// Eight bytes at a time, then one by one: `a == b` takes up to twice as long where texts of one column and kind are
+// told apart, `chunks_exact` with `zip` and `all` some hundredths more.
 fn same_bytes(a: &[u8], b: &[u8]) -> bool
     ensures { result ≡ same a.now b.now }
 {
@@ -44,12 +44,13 @@ fn head(b: &[u8], at: usize) -> usize
 }
 
 // Of the first n predicates, the last that has this head.
-fn last_with_head(h: usize, q: &[u8], offsets: &[usize], n: usize) -> Option<usize>
-    requires { HasFields q.now offsets.now n }
-    ensures { MatchOption result (OtherHeads h q.now offsets.now 0 n) (LastHeadIs h q.now offsets.now n) }
+fn last_with_head(h: usize, earlier: Predicates, n: usize) -> Option<usize>
+    requires { n ≤ earlier.n }
+    ensures { MatchOption result (OtherHeads h earlier.entry.q.now earlier.entry.offsets.now 0 n)
+        (LastWithHead h earlier.entry.q.now earlier.entry.offsets.now n) }
 {
     for c in (0..n).rev() {
-        if head(q, offsets[c] + Header::SIZE) == h {
+        if head(earlier.q, earlier.offsets[c] + Header::SIZE) == h {
             return Some(c);
         }
     }
@@ -66,16 +67,17 @@ fn is_payload_at(payload: &[u8], q: &[u8], at: usize) -> bool
     same_bytes(payload, &q[start..end])
 }
 
-// Whether one of the first n predicates has this payload: only those with its head are compared, the others are passed in a loop
-// of their own.
-pub fn is_repeated(payload: &[u8], q: &[u8], offsets: &[usize], n: usize) -> bool
-    requires { (payload_head ≤ length payload.now) × HasFields q.now offsets.now n }
-    ensures { result ≡ is_repeated payload.now (predicates_at q.now offsets.now n) }
+// Whether one of the earlier predicates has this payload: only those with its head are compared, the others are passed
+// in a loop of their own.
+pub fn is_repeated(payload: &[u8], earlier: Predicates) -> bool
+    requires { payload_head ≤ length payload.now }
+    ensures { result ≡ is_repeated payload.now
+        (predicates_at earlier.entry.q.now earlier.entry.offsets.now earlier.entry.n) }
 {
     let h = head(payload, 0);
-    let mut left = n;
-    while let Some(c) = last_with_head(h, q, offsets, left) {
-        if is_payload_at(payload, q, offsets[c]) {
+    let mut left = earlier.n;
+    while let Some(c) = last_with_head(h, earlier, left) {
+        if is_payload_at(payload, earlier.q, earlier.offsets[c]) {
             return true;
         }
         left = c;

@@ -28,7 +28,9 @@ impl NumberLimit {
     pub const OPERAND: u64 = 4294967295;
 }
 
-// Behind "in ": two numbers with two dots between them.
+// Behind "in ": two numbers with two dots between them. Here and in conditions `text`, `at`, `out` and `end` are no
+// struct: one that holds the `&mut` would add to every contract that it holds the same output at the end (`ghost_name`),
+// and `HasRoom` is another fact at each place that is read or written.
 fn read_range(text: &[u8], at: usize, out: &mut [u8], end: usize) -> Option<Test>
     requires { HasRoom text.now at out.old end }
     ensures { TestRead text.now at (range_ahead (drop at text.now)) end out.old result out.new }
@@ -45,7 +47,8 @@ fn read_range(text: &[u8], at: usize, out: &mut [u8], end: usize) -> Option<Test
     })
 }
 
-// Behind "is ", "starts " or "has ": a quoted text. Inlined: where this and read_member were calls, typed questions took 5 to 10 % longer.
+// Behind "is ", "starts " or "has ": a quoted text. Inlined: with calls here and at `read_member` of parser, typed
+// questions took 5 to 10 % longer.
 #[inline(always)]
 fn read_operand(kind: u8, text: &[u8], at: usize, out: &mut [u8], end: usize) -> Option<Test>
     requires has_room { HasRoom text.now at out.old end }

@@ -10,7 +10,7 @@ use borrow.Author.Tests.{le-ltb, lt-ltb}
 use Rattle.fields.specs.Decoded.{Decoded, refused}
 use Rattle.predicate.specs.declared.outcome.Outcome.{Outcome}
 use Rattle.predicate.specs.Meaning.{outcome}
-use Rattle.reading.specs.Tables.{Tables}
+use Rattle.reading.specs.declared.tables.Tables.{Tables}
 use Rattle.task.specs.Task.{predicate_at}
 use Rattle.input.specs.declared.begin.Beginning.{Beginning}
 use Rattle.task.specs.Input.{Input, decode_input}

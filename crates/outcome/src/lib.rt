@@ -7,14 +7,13 @@ ghost use Rattle.input.specs.Beginning.{HasInputOffsets};
 ghost use Rattle.answers.specs.Answer.{answer_of};
 ghost use Rattle.answers.specs.Answers.{outcome_number, outcome_answer, Answered};
 
-use ancestors::Ancestors;
 use answers::refusal::Refusal;
 use answers::word::Answer;
 use input::begin::Beginning;
 use plan::table::Columns;
 use predicate::fold::Fold;
 use predicate::outcome::Outcome;
-use query::format::Predicate;
+use reading::tables::Tables;
 
 // A `From` would be an impl of std's trait for `predicate`'s type, which only `predicate` may write, and the numbers are the answers'.
 fn number_of(outcome: Outcome) -> u64
@@ -73,8 +72,7 @@ pub fn outcome_at(
 ) -> Result<Answer, Refusal>
     ensures { Answered (outcome_answer (decode_input catalogue.now question.now) entry condition) (answer_of result) }
 {
-    let mut offsets = [0usize; Predicate::LIMIT];
-    let mut ancestors = [0u8; Ancestors::TABLE_SIZE];
-    let begun = input::begin::begin(catalogue, question, &mut offsets, &mut ancestors)?;
-    outcome_accepted(catalogue, question, begun, &offsets, entry, condition)
+    let mut found = Tables::EMPTY;
+    let begun = input::begin::begin(catalogue, question, &mut found)?;
+    outcome_accepted(catalogue, question, begun, &found.offsets, entry, condition)
 }

@@ -1,13 +1,13 @@
-// Groups opened and closed. While a group is open, the two bytes of its length hold where the enclosing group's stand: so the open groups need
-// no table of their own, however many there are.
+// Groups opened and closed. While a group is open, the two bytes of its length hold where the enclosing group's stand:
+// so the open groups need no table of their own, however many there are.
 ghost use Rattle.std.specs.Prelude.{◌≤◌, length};
 ghost use Rattle.parser.specs.Reading.{GroupAt, GroupsOpenable, Opened, GroupsClosable, Closed};
 
 use lexer::word::read_word;
 use query::format::Group;
 
-// How far the text is read and the output written, and where the length of the innermost open group stands, 0 where none is open.
-// An Option would be no plainer: the number is written to the output as it is, and read back from there.
+// How far the text is read and the output written, and where the length of the innermost open group stands, 0 where none
+// is open. An Option would be no plainer: the number is written to the output as it is, and read back from there.
 #[derive(Clone, Copy, PartialEq, Eq, Debug)]
 pub struct Place {
     pub at: usize,

@@ -17,7 +17,8 @@ impl TypedText {
     pub const ROOM: usize = 24592;
 }
 
-// A condition with the groups that begin before it and end behind it, and the place behind them. Inlined: where this and read_operand were calls, typed questions took 5 to 10 % longer.
+// A condition with the groups that begin before it and end behind it, and the place behind them. Inlined: with calls
+// here and at `read_operand` of operands, typed questions took 5 to 10 % longer.
 #[inline(always)]
 fn read_member(tags: &[u8], text: &[u8], out: &mut [u8], from: Place) -> Option<Place>
     requires { MemberReadable tags.now text.now from out.old }

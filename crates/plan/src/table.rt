@@ -6,7 +6,7 @@ ghost use Rattle.records.specs.Table.{record_at, HasRecord, record_in};
 ghost use Rattle.plan.specs.Plan.{access_of, HasColumn, HasColumns, Planned};
 
 use query::format::Predicate;
-use records::PredicateRecord;
+use records::{PredicateRecord, Predicates};
 
 // Where a predicate's outcome comes from: its column's tag and start in the catalogue, its kind, its operand's place and
 // length in the query. Tag and kind are the formats' bytes, which `outcome_at` and `met_at` are handed.
@@ -96,6 +96,6 @@ pub fn fill_plan(columns: Columns, q: &[u8], offsets: &[usize], n: usize, plan: 
         place: 0,
         len: 0,
     }; Predicate::LIMIT];
-    records::tabulate(q, offsets, n, &mut table);
+    records::tabulate(Predicates { q, offsets, n }, &mut table);
     plan_records(columns, &table, n, plan);
 }

@@ -8,7 +8,8 @@ use Rattle.fields.specs.Decoded.{refused}
 use Rattle.strategy.specs.Order.{is_order}
 use Rattle.bitmaps.specs.Table.{line_size}
 use Rattle.query.specs.Format.{predicate_limit}
-use Rattle.reading.specs.Tables.{Tables, tables}
+use Rattle.reading.specs.declared.tables.Tables.{Tables}
+use Rattle.reading.specs.Tables.{tables}
 use Rattle.input.specs.declared.begin.Beginning.{Beginning}
 use Rattle.task.specs.Input.{decode_input}
 use Rattle.input.specs.Beginning.{HasInput}

@@ -7,12 +7,11 @@ ghost use Rattle.answers.specs.Word.{packed, FitsWord};
 ghost use Rattle.answers.specs.Written.{written};
 ghost use Rattle.probe_log.specs.Sequence.{log_in_turn};
 
-use ancestors::Ancestors;
 use answers::refusal::Refusal;
 use answers::word::Answer;
 use bitmaps::copy::Line;
 use marks::MarkTable;
-use query::format::Predicate;
+use reading::tables::Tables;
 
 // The checks, the work, the end.
 pub fn log_question(
@@ -24,16 +23,15 @@ pub fn log_question(
     ensures { (written (packed (answer_of result)) output.new
         ≡ log_in_turn catalogue.now question.now order.now output.old) × FitsWord (answer_of result) }
 {
-    let mut offsets = [0usize; Predicate::LIMIT];
-    let mut ancestors = [0u8; Ancestors::TABLE_SIZE];
-    let begun = input::begin::begin(catalogue, question, &mut offsets, &mut ancestors)?;
+    let mut found = Tables::EMPTY;
+    let begun = input::begin::begin(catalogue, question, &mut found)?;
     let n = begun.n;
     let rows = begun.rows;
     if !orders::is_order(order, n as u8) {
         return Err(Refusal::NotOrder);
     }
     let mut plan = plan::table::UNFILLED;
-    work::make_plan(question, begun, &offsets, &mut plan);
+    work::make_plan(question, begun, &found.offsets, &mut plan);
     let mut selected = [0u8; Line::SIZE];
     let mut marks = [0u8; 2 * MarkTable::PROBES];
     work::work(
@@ -42,7 +40,7 @@ pub fn log_question(
         order,
         begun,
         &plan,
-        &ancestors,
+        &found.ancestors,
         &mut selected,
         &mut marks,
     );

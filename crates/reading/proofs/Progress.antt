@@ -6,7 +6,7 @@ use mathlib.Core.Path.{◌≡◌, refl, ap, ◌∙◌}
 use mathlib.Core.Logic.{◌⊎◌, inl, inr}
 use mathlib.Core.Bool.{true, false, cond}
 use mathlib.Core.List.{List, [], ◌∷◌, ◌++◌, append_assoc, append-nil}
-use lib.ListN.{length, set, length-append}
+use lib.ListN.{length, set, length-append, length-set}
 use lib.Dec.{ltb}
 use Rattle.std.specs.Prelude.{Result, Ok, Err}
 use Rattle.fields.specs.Decoded.{refused, accepted}
@@ -25,8 +25,9 @@ use Rattle.query.specs.Format.{predicate_limit, depth_limit, depth_of}
 use Rattle.query.specs.Decode.{payload_at, member_field, Read, settling_of, as_group, member_before, member_then, member, members}
 use Rattle.records.specs.Offsets.{HasPayload}
 use Rattle.records.specs.Table.{predicates_at}
-use Rattle.reading.specs.Tables.{Tables, tables}
-use Rattle.ancestors.specs.Ancestors.{ancestors_width, ancestors_size, height_at, ancestor_over, ancestors_of, Low, Under, SameHeights, Spans, Closed}
+use Rattle.reading.specs.declared.tables.Tables.{Tables}
+use Rattle.reading.specs.Tables.{tables, HasTables}
+use Rattle.ancestors.specs.Ancestors.{ancestors_width, height_at, ancestor_over, ancestors_of, Low, Under, SameHeights, Spans, Closed}
 use Rattle.reading.specs.MemberRead.{progress, AncestorsGained, Reported, MemberReported, MembersReported, MemberRead, MembersRead, StaysWithin, Readable}
 use Rattle.records.proofs.Records.{predicates_put, payload_put, record_shows}
 use Rattle.ancestors.proofs.AncestorLaws.{fresh_height, fresh_kept, fresh_none, fresh_old, fresh_low, fresh_spans}
@@ -177,9 +178,9 @@ module _ (tags q : List ℕ) (at end depth n : ℕ) (os A : List ℕ) (start sto
         ancestors = gained_leaf os (set os n at) A n (length (predicates_at q os n)) line low;
       })
 
-  pub leaf_within : stop ≤ end → end ≤ length q → n < predicate_limit → depth ≤ depth_limit → ((c : ℕ) → c < n → HasPayload q os c) → Spans n A
+  pub leaf_within : stop ≤ end → end ≤ length q → n < predicate_limit → depth ≤ depth_limit → ((c : ℕ) → c < n → HasPayload q os c) → Spans n A → HasTables (tables os A)
       → StaysWithin (at + header_size) end depth n q (progress stop (n + 1)) (tables os A) (tables (set os n at) (set A (ancestors_width * n) 0))
-  leaf_within b e c d p s = record {
+  leaf_within b e c d p s sized = record {
     past = omega arith;
     inside = b;
     more = omega arith;
@@ -189,14 +190,15 @@ module _ (tags q : List ℕ) (at end depth n : ℕ) (os A : List ℕ) (start sto
     under = λ k i j. (let z : k ≡ n = omega arith in rw z (rw (fresh_height A n line low) (omega arith)));
     kept = fresh_kept A n line low;
     spans = fresh_spans A n line low s;
+    sized = record { offsets = length-set os n at ∙ sized.offsets; ancestors = length-set A (ancestors_width * n) 0 ∙ sized.ancestors };
   }
 
 -- bounds
 
 pub group_within : (q : List ℕ) (at end depth inner n start stop p m tag : ℕ) (T0 : Tables) (os A A' : List ℕ) → start ≡ at + header_size → stop ≤ end
-    → inner ≡ depth + 1 → StaysWithin start stop inner n q (progress p m) T0 (tables os A) → Closed n m m tag A A'
+    → inner ≡ depth + 1 → StaysWithin start stop inner n q (progress p m) T0 (tables os A) → Closed n m m tag A A' → length A' ≡ length A
     → StaysWithin (at + header_size) end depth n q (progress p m) T0 (tables os A')
-group_within q at end depth inner n start stop p m tag T0 os A A' a b deeper w C = record {
+group_within q at end depth inner n start stop p m tag T0 os A A' a b deeper w C same = record {
   past = omega (arith, w.past);
   inside = omega (arith, w.inside);
   more = w.more;
@@ -206,6 +208,7 @@ group_within q at end depth inner n start stop p m tag T0 os A A' a b deeper w C
   under = λ k i j. (let u = w.under k i j in let t = C.taller k i j in omega arith);
   kept = λ k i. C.same_before k i ∙ w.kept k i;
   spans = C.spans;
+  sized = record { offsets = w.sized.offsets; ancestors = same ∙ w.sized.ancestors };
 }
 
 under_more : (n m y d : ℕ) (A A' : List ℕ) → Under n m d A → Under m y d A' → SameHeights m A A' → Under n y d A'
@@ -249,6 +252,7 @@ module _ (tags q : List ℕ) (at end allowed n p m : ℕ) (T0 T : Tables) (G : I
           under = G.under;
           kept = G.kept;
           spans = G.room.spans;
+          sized = record { offsets = G.room.located.sized; ancestors = G.room.ancestors };
         };
         exact = G.rest (progress p m) T (members_end tags q p end (depth_of allowed) m T T z);
       }
@@ -260,9 +264,8 @@ module _ (tags q : List ℕ) (at end allowed n p m : ℕ) (T0 T : Tables) (G : I
       exact = G.rest (Err e) T1 (members_refused tags q p end (depth_of allowed) m T T1 e (λ z. omega arith) h.exact);
     }
 
-    pub in_group_more : (next k : ℕ) → MemberRead tags q p end (depth_of allowed) m (progress next k) T T1
-        → length T1.offsets ≡ predicate_limit → length T1.ancestors ≡ ancestors_size → InGroup tags q at end allowed n next k T0 T1
-    in_group_more next k h s l =
+    pub in_group_more : (next k : ℕ) → MemberRead tags q p end (depth_of allowed) m (progress next k) T T1 → InGroup tags q at end allowed n next k T0 T1
+    in_group_more next k h =
         let w = h.within in
         record {
           past = omega (arith, G.past, w.past);
@@ -271,8 +274,8 @@ module _ (tags q : List ℕ) (at end allowed n p m : ℕ) (T0 T : Tables) (G : I
             order = w.inside;
             inside = G.room.inside;
             deep = G.room.deep;
-            located = record { sized = s; few = w.few; each = w.each };
-            ancestors = l;
+            located = record { sized = w.sized.offsets; few = w.few; each = w.each };
+            ancestors = w.sized.ancestors;
             low = w.low;
             spans = w.spans;
           };

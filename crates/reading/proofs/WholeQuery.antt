@@ -20,7 +20,7 @@ use Rattle.query.specs.declared.refusal.Refusal.{Refusal}
 use Rattle.query.specs.declared.refusal.Refusal.TheVariants.{BytesAfterQuery}
 use Rattle.query.specs.Decode.{payload_of, Read, member, whole_query, decode_tagged}
 use Rattle.records.specs.Table.{record_at, predicate_in, predicates_at}
-use Rattle.reading.specs.Tables.{Tables, HasTables}
+use Rattle.reading.specs.declared.tables.Tables.{Tables}
 use Rattle.reading.specs.MemberRead.{progress, Reported, MemberRead}
 use Rattle.reading.specs.QueryRead.{Recorded, QueryRead}
 use Rattle.query.proofs.Readings.{Fits, Each, SoundTree, member_sound}
@@ -74,10 +74,9 @@ module _ (tags q : List ℕ) (T T1 : Tables) where
       go (refused x) t = absurd t
       go (accepted (t, ps, next)) d = let z : next ≡ p = sym d.answer.0 in rw (z, ne_eqb _ _ n) (refl, (omega arith, omega arith))
 
-  pub whole_accepted : (p m : ℕ) → MemberRead tags q 0 (length q) 0 0 (progress p m) T T1 → p ≡ length q → HasTables T1
-      → QueryRead tags q (decode_tagged tags q) (Ok m) T1
+  pub whole_accepted : (p m : ℕ) → MemberRead tags q 0 (length q) 0 0 (progress p m) T T1 → p ≡ length q → QueryRead tags q (decode_tagged tags q) (Ok m) T1
   unfolding decode_tagged predicates_at
-  whole_accepted p m h e s =
+  whole_accepted p m h e =
       go (member (2 * length q + 1) tags q 0 (length q) 0 []) (reported (progress p m) h) (member_sound (2 * length q + 1) tags q 0 (length q) 0 [])
     where
       go : (o : Read (Tree ℕ)) → Reported q enclosing 0 o (progress p m) T T1 → SoundTree tags q 0 (length q) 0 o → QueryRead tags q (whole_query q o) (Ok m) T1
@@ -96,12 +95,12 @@ module _ (tags q : List ℕ) (T T1 : Tables) where
               leaves = k.counted;
               numbered = k.numbered;
               full = k.full;
-              located = record { sized = s.offsets; few = omega arith; each = λ c i. h.within.each c (omega arith) };
+              located = record { sized = h.within.sized.offsets; few = omega arith; each = λ c i. h.within.each c (omega arith) };
               shown = l;
               each = λ c i. recorded tags q T1.offsets c (listed_at (Fits tags q) q T1.offsets (length ps) (rw l k.each) c i);
               ancestors = λ c i. d.ancestors.new c (omega arith, omega arith);
               low = λ c i. h.within.low c (omega arith);
               spans = rw y at h.within.spans;
-              sized = s;
+              sized = h.within.sized;
             },
           )

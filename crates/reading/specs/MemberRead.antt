@@ -12,7 +12,8 @@ use Rattle.query.specs.Format.{predicate_limit, depth_limit}
 use Rattle.query.specs.Decode.{Read, member, members}
 use Rattle.records.specs.Offsets.{HasPayload, HasFields}
 use Rattle.records.specs.Table.{predicates_at}
-use Rattle.reading.specs.Tables.{Tables}
+use Rattle.reading.specs.declared.tables.Tables.{Tables}
+use Rattle.reading.specs.Tables.{HasTables}
 use Rattle.ancestors.specs.Ancestors.{ancestors_size, ancestors_of, Low, Under, SameHeights, Spans}
 
 -- an accepted reading's answer: the place after what was read, and the number of predicates up to there
@@ -50,6 +51,7 @@ pub record Advanced (at end depth n : ℕ) (q : List ℕ) (next m : ℕ) (T T' :
   pub under : Under n m depth T'.ancestors
   pub kept : SameHeights n T.ancestors T'.ancestors
   pub spans : Spans m T'.ancestors
+  pub sized : HasTables T'
 
 abbrev pub StaysWithin : (at end depth n : ℕ) → (q : List ℕ) → Result Progress Refusal → Tables → Tables → Type 0
 StaysWithin at end depth n q r T T' = IfOk r (λ p. Advanced at end depth n q p.at p.n T T')

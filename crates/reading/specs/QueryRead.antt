@@ -10,7 +10,8 @@ use Rattle.query.specs.Query.{Query}
 use Rattle.query.specs.Decode.{payload_of}
 use Rattle.records.specs.Offsets.{HasFields}
 use Rattle.records.specs.Table.{record_at, predicate_in, predicates_at}
-use Rattle.reading.specs.Tables.{Tables, HasTables}
+use Rattle.reading.specs.declared.tables.Tables.{Tables}
+use Rattle.reading.specs.Tables.{HasTables}
 use Rattle.reading.specs.MemberRead.{RefusedBy}
 use Rattle.ancestors.specs.Ancestors.{ancestors_of, Low, Spans}
 use Rattle.query.specs.Sound.{IsRefusal}

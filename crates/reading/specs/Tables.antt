@@ -2,11 +2,7 @@
 use Rattle.std.specs.Prelude.{ℕ, ◌≡◌, List, length}
 use Rattle.query.specs.Format.{predicate_limit}
 use Rattle.ancestors.specs.Ancestors.{ancestors_size}
-
--- where each predicate's field begins in the query, and the groups around each predicate
-pub record Tables : Type 0 where
-  pub offsets : List ℕ
-  pub ancestors : List ℕ
+use Rattle.reading.specs.declared.tables.Tables.{Tables}
 
 abbrev pub tables : List ℕ → List ℕ → Tables
 tables os A = record { offsets = os; ancestors = A }

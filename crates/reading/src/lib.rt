@@ -2,4 +2,5 @@
 #![tactic(auto)]
 
 pub mod member;
+pub mod tables;
 pub mod whole;

@@ -1,11 +1,12 @@
 // The reading of a query: a group holds members, and a member may be a group again.
 ghost use Rattle.query.specs.Format.{depth_of};
-ghost use Rattle.reading.specs.Tables.{tables};
 ghost use Rattle.reading.specs.MemberRead.{Readable, MemberRead, MembersRead};
 
+use crate::tables::Tables;
 use ancestors::Ancestors;
 use query::member::MemberField;
 use query::refusal::Refusal;
+use records::Predicates;
 
 // How far a reading is: the place after what was read, and the number of predicates up to there.
 #[derive(Clone, Copy)]
@@ -14,9 +15,7 @@ pub struct Progress {
     pub n: usize,
 }
 
-// The member at a place inside an enclosing end, with n predicates before it and so many more groups allowed; offsets[c] is
-// where the field of predicate c begins, line c of ancestors tells the groups around it. No struct of these: `read_query` is lent
-// each table as a slice of its own.
+// The member at a place inside an enclosing end, with n predicates found before it and so many more groups allowed.
 #[cycle(read_group_read_member)]
 pub fn read_member(
     tags: &[u8],
@@ -25,21 +24,25 @@ pub fn read_member(
     end: usize,
     allowed: usize,
     n: usize,
-    offsets: &mut [usize],
-    ancestors: &mut [u8],
+    found: &mut Tables,
 ) -> Result<Progress, Refusal>
-    requires { Readable at end allowed n q.now (tables offsets.old ancestors.old) }
+    requires { Readable at end allowed n q.now found.old }
     ensures { MemberRead tags.now q.now at end (depth_of allowed) n result
-        (tables offsets.old ancestors.old) (tables offsets.new ancestors.new) }
+        found.old found.new }
 {
-    let field = members::field::read_field(tags, q, at, end, allowed, n, offsets)?;
+    let earlier = Predicates {
+        q,
+        offsets: &found.offsets,
+        n,
+    };
+    let field = members::field::read_field(tags, earlier, at, end, allowed)?;
     match field {
         MemberField::Leaf {
             start: _,
             end: stop,
         } => {
-            offsets[n] = at;
-            ancestors[Ancestors::LINE_SIZE * n] = 0;
+            found.offsets[n] = at;
+            found.ancestors[Ancestors::LINE_SIZE * n] = 0;
             Ok(Progress { at: stop, n: n + 1 })
         }
         MemberField::Group {
@@ -47,8 +50,8 @@ pub fn read_member(
             start,
             end: stop,
         } => {
-            let read = read_group(tags, q, start, stop, allowed - 1, n, offsets, ancestors)?;
-            ancestors::close_group(ancestors, n, read.n, tag);
+            let read = read_group(tags, q, start, stop, allowed - 1, n, found)?;
+            ancestors::close_group(&mut found.ancestors, n, read.n, tag);
             Ok(read)
         }
     }
@@ -63,16 +66,15 @@ fn read_group(
     end: usize,
     allowed: usize,
     n: usize,
-    offsets: &mut [usize],
-    ancestors: &mut [u8],
+    found: &mut Tables,
 ) -> Result<Progress, Refusal>
-    requires { Readable at end allowed n q.now (tables offsets.old ancestors.old) }
+    requires { Readable at end allowed n q.now found.old }
     ensures { MembersRead tags.now q.now at end (depth_of allowed) n result
-        (tables offsets.old ancestors.old) (tables offsets.new ancestors.new) }
+        found.old found.new }
 {
     let mut read = Progress { at, n };
     while read.at < end {
-        read = read_member(tags, q, read.at, end, allowed, read.n, offsets, ancestors)?;
+        read = read_member(tags, q, read.at, end, allowed, read.n, found)?;
     }
     Ok(read)
 }

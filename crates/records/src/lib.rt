@@ -18,6 +18,15 @@ pub struct PredicateRecord {
     pub len: usize,
 }
 
+// The predicates read so far, n of them: offsets[c] is where the field of predicate c begins in the query.
+#[derive(Clone, Copy)]
+pub struct Predicates<'a> {
+    pub q: &'a [u8],
+    pub offsets: &'a [usize],
+    pub n: usize,
+    ghost has_fields: { HasFields q.now offsets.now n },
+}
+
 // The record of the payload from start up to end.
 fn record_of(q: &[u8], start: usize, end: usize) -> PredicateRecord
     requires { (start + payload_head ≤ end) × (end ≤ length q.now) }
@@ -41,11 +50,13 @@ pub fn record_at(q: &[u8], offsets: &[usize], c: usize) -> PredicateRecord
     record_of(q, at + Header::SIZE, fields::header::field_end(q, at))
 }
 
-// Stores the records of the first n predicates; what stands after them stays.
-pub fn tabulate(q: &[u8], offsets: &[usize], n: usize, table: &mut [PredicateRecord])
-    requires { HasFields q.now offsets.now n × (n ≤ length table.old) }
-    ensures { table.new ≡ records_of q.now offsets.now n ++ drop n table.old }
+// Stores the records of the predicates; what stands after them stays.
+pub fn tabulate(predicates: Predicates, table: &mut [PredicateRecord])
+    requires { predicates.n ≤ length table.old }
+    ensures { table.new ≡ records_of predicates.entry.q.now predicates.entry.offsets.now predicates.entry.n
+        ++ drop predicates.entry.n table.old }
 {
+    let Predicates { q, offsets, n } = predicates;
     for c in 0..n {
         table[c] = record_at(q, offsets, c);
     }

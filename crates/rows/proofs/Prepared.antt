@@ -19,7 +19,7 @@ use Rattle.records.specs.declared.PredicateRecord.{PredicateRecord}
 use Rattle.query.specs.Query.{Query}
 use Rattle.query.specs.Decode.{payload_of}
 use Rattle.records.specs.Table.{record_at, predicate_in}
-use Rattle.reading.specs.Tables.{Tables}
+use Rattle.reading.specs.declared.tables.Tables.{Tables}
 use Rattle.reading.specs.QueryRead.{Tabled}
 use Rattle.records.proofs.Records.{predicates_at_lem}
 use Rattle.plan.specs.declared.table.Access.{Access}

@@ -8,7 +8,7 @@ use Rattle.fields.specs.Decoded.{refused}
 use Rattle.bitmaps.specs.Bitmap.{bytes_for}
 use Rattle.bitmaps.specs.Table.{line_size}
 use Rattle.counts.specs.Whole.{NoneBehind}
-use Rattle.reading.specs.Tables.{Tables}
+use Rattle.reading.specs.declared.tables.Tables.{Tables}
 use Rattle.rows.specs.Worked.{Worked}
 use Rattle.input.specs.declared.begin.Beginning.{Beginning}
 use Rattle.task.specs.Input.{decode_input}

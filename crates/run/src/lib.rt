@@ -6,12 +6,11 @@ ghost use Rattle.answers.specs.Word.{packed, FitsWord};
 ghost use Rattle.demands.specs.Run.{lent};
 ghost use Rattle.demands.specs.Calls.{RunGives};
 
-use ancestors::Ancestors;
 use answers::refusal::Refusal;
 use answers::word::Answer;
 use bitmaps::copy::Line;
 use marks::MarkTable;
-use query::format::Predicate;
+use reading::tables::Tables;
 
 // The checks, the work, the end.
 pub fn run_question(
@@ -28,9 +27,8 @@ pub fn run_question(
         (packed (answer_of result)) listed.new looks.new tally.new)
         × FitsWord (answer_of result) }
 {
-    let mut offsets = [0usize; Predicate::LIMIT];
-    let mut ancestors = [0u8; Ancestors::TABLE_SIZE];
-    let begun = input::begin::begin(catalogue, question, &mut offsets, &mut ancestors)?;
+    let mut found = Tables::EMPTY;
+    let begun = input::begin::begin(catalogue, question, &mut found)?;
     let n = begun.n;
     let size = bitmaps::size::bytes_for(begun.rows);
     request::check_request(order, n, size, reader, listed.len(), looks.len())?;
@@ -41,8 +39,7 @@ pub fn run_question(
         question,
         order,
         begun,
-        &offsets,
-        &ancestors,
+        &found,
         &mut selected,
         &mut probed,
     );

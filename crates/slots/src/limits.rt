@@ -1,4 +1,4 @@
-// The bits that may not stand in a byte of a text slot: entry k is limitOf k of specs/Limits.antt.
+// The bits that may not stand in a byte of a text slot: entry k is `limit_of k` of specs/Limits.antt.
 ghost use Rattle.slots.specs.Limits.{Limits};
 
 use crate::slot::Text;
@@ -23,9 +23,6 @@ pub fn limit_table() -> [u8; Limit::ENTRIES]
     ensures { Limits result }
 {
     let mut table = [255u8; Limit::ENTRIES];
-    // With `fill` on the part the proof did not close.
-    for k in Limit::FREE_FROM..Limit::FREE_TO {
-        table[k] = 0;
-    }
+    table[Limit::FREE_FROM..Limit::FREE_TO].fill(0);
     table
 }

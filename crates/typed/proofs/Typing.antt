@@ -21,7 +21,7 @@ use Rattle.query.specs.Query.{Query}
 use Rattle.query.specs.declared.refusal.Refusal.{Refusal as QuestionRefusal}
 use Rattle.query.specs.Refusal.{refusal_number as question_number}
 use Rattle.query.specs.Decode.{decode_tagged, decode_query}
-use Rattle.reading.specs.Tables.{Tables}
+use Rattle.reading.specs.declared.tables.Tables.{Tables}
 use Rattle.reading.specs.QueryRead.{QueryRead}
 use Rattle.syntax.specs.Machine.{typed_limit, Typed, misspelled, typed, question_of}
 use Rattle.parser.specs.Reading.{QuestionTo}

@@ -12,11 +12,10 @@ ghost use Rattle.demands.specs.Typed.{question_typed};
 ghost use Rattle.demands.specs.Calls.{TypedGives};
 ghost use Rattle.typed.specs.Typing.{TypedFor};
 
-use ancestors::Ancestors;
 use answers::refusal::Refusal;
 use answers::word::Answer;
 use parser::whole::TypedText;
-use query::format::Predicate;
+use reading::tables::Tables;
 
 // A text that is short, as most are: clearing a table for the longest would take longer than reading it.
 #[derive(Drop)]
@@ -36,9 +35,7 @@ fn give_question(tags: &[u8], question: &[u8], output: &mut [u8]) -> Result<Answ
         ≡ question_typed (decode_tagged tags.now question.now) question.now output.old)
         × FitsWord (answer_of result) }
 {
-    let mut offsets = [0usize; Predicate::LIMIT];
-    let mut ancestors = [0u8; Ancestors::TABLE_SIZE];
-    reading::whole::read_query(tags, question, &mut offsets, &mut ancestors)?;
+    reading::whole::read_query(tags, question, &mut Tables::EMPTY)?;
     if output.len() < question.len() {
         return Err(Refusal::TypedOutputTooShort);
     }
@@ -57,10 +54,8 @@ fn type_text(tags: &[u8], text: &[u8], own: &mut [u8], output: &mut [u8]) -> Res
         (written (packed (answer_of result)) output.new)
         × FitsWord (answer_of result) }
 {
-    match parser::whole::read_text(tags, text, own) {
-        None => Err(Refusal::TextMisspelled),
-        Some(size) => give_question(tags, &own[..size], output),
-    }
+    let size = parser::whole::read_text(tags, text, own).ok_or(Refusal::TextMisspelled)?;
+    give_question(tags, &own[..size], output)
 }
 
 // The catalogue's checks, the text's, and those of the question that it spells.

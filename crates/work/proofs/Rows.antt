@@ -6,7 +6,7 @@ use mathlib.Core.List.{List}
 use Rattle.strategy.specs.Order.{is_order}
 use Rattle.sets.specs.Set.{below_set}
 use Rattle.records.specs.Table.{record_at}
-use Rattle.reading.specs.Tables.{Tables}
+use Rattle.reading.specs.declared.tables.Tables.{Tables}
 use Rattle.plan.specs.declared.table.Access.{Access}
 use Rattle.plan.specs.Plan.{Planned}
 use Rattle.rows.specs.declared.all.Extent.{Extent}

@@ -1,5 +1,7 @@
 -- `type_text` meets its contract: misspelled, or what the question gives.
-use Rattle.std.proofs.Common.{arith, length-take-le, sym}
+use Rattle.std.proofs.Common.{arith, ◌≡◌}
+use Rattle.std.proofs.lemmas.Result.{err_from_is_err_and}
+use Rattle.answers.specs.declared.refusal.Refusal.TheVariants as refusal
 use Rattle.answers.specs.Answer.{answer_of}
 use Rattle.typed.proofs.Typing.{question_few, text_misspelled_lem, text_read}
 use Rattle.typed.proofs.type_text.Goals as goal
@@ -7,21 +9,25 @@ use Rattle.typed.proofs.type_text.Goals as goal
 pub read_text-requires : goal.read_text-requires
 read_text-requires c = c.requires.0
 
-pub slice_bounds-give_question-end : goal.slice_bounds-give_question-end
-slice_bounds-give_question-end c = c.in-Some.ensures.front.inside
+pub returns-in_err-size : goal.returns-in_err-size
+returns-in_err-size c =
+    let a = c.args in
+    let misspelled : c.in_err-size.field-0.0 ≡ refusal.TextMisspelled = grind arith in
+    let p = err_from_is_err_and c.from_residual.result c.from_residual.ensures.1 in
+    rw (p.1, p.2, misspelled) (text_misspelled_lem a.tags.now a.text.now a.output.now (rw c.in_err-size.ensures.ok_part at c.read_text.ensures))
 
-pub slice_bounds-give_question-end-in-Some : goal.slice_bounds-give_question-end-in-Some
-slice_bounds-give_question-end-in-Some c = sym (length-take-le _ _ c.in-Some.ensures.front.inside)
+pub slice_bounds-give_question-end : goal.slice_bounds-give_question-end
+slice_bounds-give_question-end c =
+    let read = rw c.in_ok-size.ensures.ok_part at c.read_text.ensures in
+    read.front.inside
 
 pub give_question-requires : goal.give_question-requires
-give_question-requires c = question_few c.in-Some.ensures (omega (arith, c.read_text.auto, c.requires))
+give_question-requires c =
+    let read = rw c.in_ok-size.ensures.ok_part at c.read_text.ensures in
+    question_few read (omega (arith, c.read_text.auto, c.requires))
 
-pub returns-in-None : goal.returns-in-None
-returns-in-None c =
+pub returns : goal.returns
+returns c =
     let a = c.args in
-    text_misspelled_lem a.tags.now a.text.now a.output.now c.in-None.ensures
-
-pub returns-in-Some : goal.returns-in-Some
-returns-in-Some c =
-    let a = c.args in
-    text_read a.tags.now a.text.now a.output.now (answer_of c.give_question.result) _ c.in-Some.ensures c.give_question.ensures
+    let read = rw c.in_ok-size.ensures.ok_part at c.read_text.ensures in
+    text_read a.tags.now a.text.now a.output.now (answer_of c.give_question.result) _ read c.give_question.ensures

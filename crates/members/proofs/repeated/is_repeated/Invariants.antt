@@ -4,7 +4,7 @@ use Rattle.std.specs.Prelude.{◌≤◌}
 use Rattle.members.proofs.repeated.is_repeated.Given as goal
 
 abbrev pub invariant-loop-c : goal.invariant-loop-c
-invariant-loop-c l = (l.left ≤ l.n) × Unlike l.payload l.q l.offsets l.left l.n
+invariant-loop-c l = (l.left ≤ l.earlier.n) × Unlike l.payload l.earlier.q.now l.earlier.offsets.now l.left l.earlier.n
 
 abbrev pub decreases-loop-c : goal.decreases-loop-c
 decreases-loop-c l = l.left

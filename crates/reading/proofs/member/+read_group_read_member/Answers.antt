@@ -12,8 +12,8 @@ read_group-returns-in_err-read t c =
     let l = c.loop-read in
     let m = c.read_member.new in
     let p = err_from_is_err_and c.from_residual.result c.from_residual.ensures.1 in
-    rw (p.1, p.2) (in_group_refused _ _ _ a.end a.allowed _ l.read.at l.read.n (tables a.offsets.now a.ancestors.now) (tables l.offsets l.ancestors) l.invariant
-    (tables m.offsets m.ancestors) (omega arith) _ c.in_err-read.ensures)
+    rw (p.1, p.2) (in_group_refused _ _ _ a.end a.allowed _ l.read.at l.read.n a.found.now l.found l.invariant
+    m.found (omega arith) _ c.in_err-read.ensures)
 
 pub read_group-loop-read-preserved : goal.read_group-loop-read-preserved
 read_group-loop-read-preserved t c =
@@ -21,19 +21,19 @@ read_group-loop-read-preserved t c =
     let l = c.loop-read in
     let m = c.read_member.new in
     let r = l.invariant.room in
-    in_group_more _ _ _ a.end a.allowed _ l.read.at l.read.n (tables a.offsets.now a.ancestors.now) (tables l.offsets l.ancestors) l.invariant
-    (tables m.offsets m.ancestors) (omega arith) _ _ c.in_ok-read.ensures (omega (arith, r.located.sized)) (omega (arith, r.ancestors))
+    in_group_more _ _ _ a.end a.allowed _ l.read.at l.read.n a.found.now l.found l.invariant
+    m.found (omega arith) _ _ c.in_ok-read.ensures
 
 pub read_group-returns : goal.read_group-returns
 read_group-returns t c =
     let a = c.args in
     let l = c.loop-read in
-    in_group_end _ _ _ a.end a.allowed _ l.read.at l.read.n (tables a.offsets.now a.ancestors.now) (tables l.offsets l.ancestors) l.invariant (omega arith)
+    in_group_end _ _ _ a.end a.allowed _ l.read.at l.read.n a.found.now l.found l.invariant (omega arith)
 
 pub read_member-returns-in_err-field : goal.read_member-returns-in_err-field
 read_member-returns-in_err-field t c =
     let a = c.args in
-    let T = tables a.offsets.now a.ancestors.now in
+    let T = a.found.now in
     let p = err_from_is_err_and c.from_residual.result c.from_residual.ensures.1 in
     rw (p.1, p.2) (record {
       within = tt;
@@ -47,10 +47,11 @@ read_member-returns-in-Leaf t c =
     let w = rw c.in-Leaf.is at c.in_ok-field.ensures.sound in
     record {
       within =
-          leaf_within a.tags.now a.q.now a.at a.end (depth_of a.allowed) a.n a.offsets.now a.ancestors.now _ _ w.0 w.5 w.1
-          (omega (arith, p.located.sized)) (omega (arith, p.ancestors)) p.low w.2 p.inside w.3 (omega arith) p.located.each p.spans;
+          leaf_within a.tags.now a.q.now a.at a.end (depth_of a.allowed) a.n a.found.now.offsets a.found.now.ancestors _ _ w.0 w.5 w.1
+          (omega (arith, p.located.sized)) (omega (arith, p.ancestors)) p.low w.2 p.inside w.3 (omega arith) p.located.each p.spans
+          (record { offsets = p.located.sized; ancestors = p.ancestors });
       exact =
-          member_leaf a.tags.now a.q.now a.at a.end (depth_of a.allowed) a.n a.offsets.now a.ancestors.now _ _ w.0 w.5 w.1
+          member_leaf a.tags.now a.q.now a.at a.end (depth_of a.allowed) a.n a.found.now.offsets a.found.now.ancestors _ _ w.0 w.5 w.1
           (omega (arith, p.located.sized)) (omega (arith, p.ancestors)) p.low _ c.read_field.ensures.exact (rw c.in-Leaf.is at c.in_ok-field.was);
     }
 
@@ -65,7 +66,7 @@ read_member-returns-in_err-read-in-Group t c =
     rw (p.1, p.2) (record {
       within = tt;
       exact =
-          member_group_refused _ _ a.at a.end (depth_of a.allowed) a.n (tables a.offsets.now a.ancestors.now) (tables g.offsets g.ancestors)
+          member_group_refused _ _ a.at a.end (depth_of a.allowed) a.n a.found.now g.found
           _ c.read_field.ensures.exact _ _ _ (rw c.in-Group.is at c.in_ok-field.was) w.0 w.1 w.2 _ deeper _ read.exact;
     })
 
@@ -79,9 +80,9 @@ read_member-returns-in_ok-read-in-Group t c =
     let read = c.in_ok-read-in-Group.ensures in
     record {
       within =
-          group_within a.q.now a.at a.end (depth_of a.allowed) _ a.n _ _ _ _ c.in-Group.tag (tables a.offsets.now a.ancestors.now)
-          g.offsets g.ancestors k.new.ancestors w.0 w.2 deeper read.within k.ensures;
+          group_within a.q.now a.at a.end (depth_of a.allowed) _ a.n _ _ _ _ c.in-Group.tag a.found.now
+          g.found.offsets g.found.ancestors k.new.ancestors w.0 w.2 deeper read.within k.ensures k.auto.ancestors;
       exact =
-          member_group _ _ a.at a.end (depth_of a.allowed) a.n (tables a.offsets.now a.ancestors.now) (tables g.offsets g.ancestors)
-          _ c.read_field.ensures.exact _ _ _ (rw c.in-Group.is at c.in_ok-field.was) w.0 w.1 w.2 _ deeper _ _ (tables g.offsets k.new.ancestors) read.exact refl k.ensures;
+          member_group _ _ a.at a.end (depth_of a.allowed) a.n a.found.now g.found
+          _ c.read_field.ensures.exact _ _ _ (rw c.in-Group.is at c.in_ok-field.was) w.0 w.1 w.2 _ deeper _ _ (tables g.found.offsets k.new.ancestors) read.exact refl k.ensures;
     }
