@@ -14,8 +14,8 @@ pub fn begins_with(fold: Fold, text: &[u8], operand: &[u8]) -> bool
     if operand.is_empty() {
         return true;
     }
-    // The first byte apart: tried from many places, the operand's own is then folded once. By index: `zip` and `all` are
-    // slower there (the benchmark's runs of "contains", up to a tenth).
+    // The first byte apart: tried from many places, the operand's own is then folded once. By index: `zip` and `all`
+    // are slower there (the benchmark's runs of "contains", up to a tenth).
     if fold.of(operand[0]) != fold.of(text[0]) {
         return false;
     }
