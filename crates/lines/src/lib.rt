@@ -9,6 +9,8 @@ ghost use Rattle.lines.specs.Line.{number_room, line, line_room};
 
 use itoa::Buffer;
 
+// By the kit's `itoa`: std's own printing, `write!` to a writer of ours or `InlineText`, promises its bytes only where it
+// gives Ok or cuts nothing, and no clause of it says that it does.
 pub fn put_number(out: &mut [u8], at: usize, x: u64) -> usize
     requires { at + number_room ≤ length out.old }
     ensures { Wrote at (decimal x) out.old result out.new × (result ≤ at + number_room) }

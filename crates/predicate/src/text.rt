@@ -36,6 +36,7 @@ pub fn equals(fold: Fold, text: &[u8], operand: &[u8]) -> bool
 pub fn contains(fold: Fold, text: &[u8], operand: &[u8]) -> bool
     ensures { result ≡ contains operand.now text.now }
 {
+    // By place: `windows` takes no length of 0, and an operand may have any.
     for a in 0..text.len() {
         // The operand is longer than every tail from here on.
         if text.len() - a < operand.len() {
