@@ -1,4 +1,5 @@
-// What a call answers: its results or a refusal, and the packed word in which they travel; the number of readers and the size of the tally.
+// What a call answers: its results or a refusal, and the packed word in which they travel; the number of readers and
+// the size of the tally.
 #![tactic(auto)]
 
 pub mod refusal;

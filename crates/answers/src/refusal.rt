@@ -1,4 +1,5 @@
-// Every refusal of a call: the catalogue's and the question's own, then document 01's 15 to 18, order 1's 20, order 4's 21 and 22, order 7's 24.
+// Every refusal of a call: the catalogue's and the question's own, then document 01's 15 to 18, order 1's 20, order 4's
+// 21 and 22, order 7's 24.
 ghost use Rattle.std.specs.Prelude.{◌≡◌};
 ghost use Rattle.answers.specs.declared.refusal.Refusal.TheVariants.{Catalogue, Question};
 ghost use Rattle.answers.specs.Refusal.{refusal_number};

@@ -1,4 +1,5 @@
-// The tally, a counter for each reader; the contracts tie these constants to `reader_limit` and `tally_size` of demands/specs/Run.antt.
+// The tally, a counter for each reader; the contracts tie these constants to `reader_limit` and `tally_size` of
+// demands/specs/Run.antt.
 use fields::counter::Counter;
 
 #[derive(Drop)]

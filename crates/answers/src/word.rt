@@ -13,7 +13,8 @@ pub struct Answer {
     pub third: u64,
 }
 
-// Bits 0 to 7 the number, 8 to 23 the first result, 24 to 39 the second, 40 to 63 the third: the lowest bit of each result.
+// Bits 0 to 7 the number, 8 to 23 the first result, 24 to 39 the second, 40 to 63 the third: the lowest bit of each
+// result.
 #[derive(Drop)]
 pub struct PackedWord;
 

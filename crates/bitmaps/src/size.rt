@@ -1,11 +1,10 @@
 // How many bytes a bitmap takes.
-ghost use Rattle.std.specs.Prelude.{◌≡◌, ◌+◌, ◌^◌, ◌<◌};
+ghost use Rattle.std.specs.Prelude.{◌≡◌};
 ghost use Rattle.bitmaps.specs.Bitmap.{bytes_for};
 
 // Document 01's ceiling(E / 8).
 pub fn bytes_for(rows: usize) -> usize
-    requires { rows + 7 < 2 ^ 64 }
     ensures { result ≡ bytes_for rows }
 {
-    (rows + 7) / 8
+    rows.div_ceil(8)
 }

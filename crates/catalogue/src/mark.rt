@@ -18,8 +18,8 @@ fn has_stray_bit(mark: &[u8], rows: usize) -> bool
     used != 0 && 1u8 << used <= mark[rows / 8]
 }
 
-// Checks what follows the last column, which ends at this place: a mark, whose bytes are those from the place given to the end of the
-// catalogue, or nothing.
+// Checks what follows the last column, which ends at this place: a mark, whose bytes are those from the place given to
+// the end of the catalogue, or nothing.
 pub fn read_mark(b: &[u8], rows: usize, at: usize) -> Result<Option<usize>, Refusal>
     requires { (at ≤ length b.now) × (rows ≤ row_limit) }
     ensures { (result ≡ mark_field_at b.now rows at) × SoundMark b.now rows result }

@@ -59,6 +59,7 @@ fn read_plain(
     let operand = end + FieldHead::SIZE;
     let test = read_test(tags, column.number as usize, text, behind, out, operand)?;
     let size = test.end - operand;
+    // A byte: NumberLimit::COLUMN is 255.
     put_head(out, end, size, column.number as u8, test.kind + raised);
     Some(Condition {
         next: test.next,

@@ -39,6 +39,8 @@ fn read_all(file: &mut impl Read, space: &mut [u8]) -> Option<usize>
     ensures { Held space.new result }
 {
     let mut at = 0;
+    // By hand: of a file shorter than the space `read_exact` does not tell how much it read, and `read_to_end` reads
+    // into a Vec, on the heap.
     while at < space.len() {
         let n = read_some(file, &mut space[at..])?;
         if n == 0 {
@@ -53,7 +55,8 @@ fn read_all(file: &mut impl Read, space: &mut [u8]) -> Option<usize>
     }
 }
 
-// How many bytes of a file stand in the space; none told where it cannot be read. A path that is no text names no file here.
+// How many bytes of a file stand in the space; none told where it cannot be read. The path is bytes and no `&str`,
+// which would ask more of a caller: one that is no text names no file here.
 pub fn read_file(rt: &impl Files, path: &[u8], space: &mut [u8]) -> Option<usize>
     ensures { Held space.new result }
 {

@@ -1,7 +1,7 @@
 // One consultation: a run of reader 0 with the tally at zero, and its register.
 #![tactic(auto)]
 
-ghost use Rattle.std.specs.Prelude.{◌≤◌, length};
+ghost use Rattle.std.specs.Prelude.{◌≡◌, ◌≤◌, length};
 ghost use Rattle.fields.specs.Numbers.{Bytes};
 ghost use Rattle.query.specs.Format.{predicate_limit};
 ghost use Rattle.register.specs.Register.{refused, Printed};
@@ -10,16 +10,27 @@ ghost use Rattle.consultation.specs.Consultation.{unreadable, consultation_of, l
 use answers::tally::Tally;
 use bitmaps::copy::Line;
 use query::format::Predicate;
+use register::text::Run;
 
-// Document 01's refusal 19; the contracts tie it to that of specs/Consultation.antt. It is printed and never answered: an enum of one is no plainer.
-#[derive(Drop)]
-pub struct Refusal;
-
-impl Refusal {
-    pub const UNREADABLE: u64 = 19;
+// The refusals of the program alone: no call of the library gives them.
+#[derive(Clone, Copy)]
+pub enum Refusal {
+    Unreadable,
 }
 
-// The register of three files, to the front of the output; its length. What is lent is bytes: the caller's own contract says so of its files.
+impl Refusal {
+    // Document 01's number.
+    pub fn number(self) -> u64
+        ensures { result ≡ unreadable }
+    {
+        match self {
+            Refusal::Unreadable => 19,
+        }
+    }
+}
+
+// The register of three files, to the front of the output; its length. What is lent is bytes: the caller's own contract
+// says so of its files.
 pub fn write_consultation(catalogue: &[u8], question: &[u8], order: &[u8], out: &mut [u8]) -> usize
     requires { (length order.now ≤ predicate_limit) × (longest ≤ length out.old) }
     ensures { Printed (consultation_of catalogue.now question.now order.now)
@@ -39,16 +50,15 @@ pub fn write_consultation(catalogue: &[u8], question: &[u8], order: &[u8], out: 
     );
     // The word of a run has no number of entries; a refused catalogue has none.
     let rows = layout::lay_out(catalogue).map_or(0, |layout| layout.rows);
-    register::text::write_register(
-        answers::word::number_in(word),
-        answers::word::first_in(word),
-        answers::word::third_in(word),
+    let run = Run {
+        found: answers::word::first_in(word),
+        looked: answers::word::third_in(word),
         rows,
-        order.len(),
-        &listed,
-        &looks,
-        out,
-    )
+        n: order.len(),
+        listed: &listed,
+        looks: &looks,
+    };
+    register::text::write_register(answers::word::number_in(word), run, out)
 }
 
 // The register where a file cannot be read.
@@ -56,5 +66,5 @@ pub fn write_unreadable(out: &mut [u8]) -> usize
     requires { longest ≤ length out.old }
     ensures { Printed (refused unreadable) out.old result out.new }
 {
-    register::text::write_refused(Refusal::UNREADABLE, out)
+    register::text::write_refused(Refusal::Unreadable.number(), out)
 }

@@ -1,4 +1,5 @@
-// The archive of the counts alone: the calls of `count_calls` under the names that C links, each with its contract there.
+// The archive of the counts alone: the calls of `count_calls` under the names that C links, each with its contract
+// there.
 #![tactic(auto)]
 
 ghost use Rattle.std.specs.Prelude.{◌≡◌};

@@ -16,7 +16,9 @@ use answers::word::Answer;
 use bitmaps::copy::Lines;
 use fields::counter::Counter;
 
-// Ends a run whose own tables are these, with lines of this size: refusal 17, or the results, the lent tables and its reader's counter.
+// Ends a run whose own tables are these, with lines of this size: refusal 17, or the results, the lent tables and its
+// reader's counter. `listed`, `looks` and `tally` are C's. n and size stand beside the run's own tables, which have
+// room for the most predicates and rows.
 pub fn finish(
     selected: &[u8],
     probed: &[u8],

@@ -1,4 +1,5 @@
-// The kinds of a predicate. They stay bytes: `text_test`, `outcome_at` and `plain_kind` answer for every byte of the format.
+// The kinds of a predicate. They stay bytes: `text_test`, `outcome_at` and `plain_kind` answer for every byte of the
+// format.
 ghost use Rattle.std.specs.Prelude.{◌≡◌};
 ghost use Rattle.predicate.specs.Kinds.{plain_kind, asks_content};
 

@@ -14,8 +14,8 @@ pub fn begins_with(fold: Fold, text: &[u8], operand: &[u8]) -> bool
     if operand.is_empty() {
         return true;
     }
-    // The first byte apart: tried from many places, the operand's own is then folded once. By index: `zip` and `all` are
-    // slower there (the benchmark's runs of "contains", up to a tenth).
+    // The first byte apart: tried from many places, the operand's own is then folded once. By index: `zip` and `all`
+    // are slower there (the benchmark's runs of "contains", up to a tenth).
     if fold.of(operand[0]) != fold.of(text[0]) {
         return false;
     }
@@ -36,6 +36,7 @@ pub fn equals(fold: Fold, text: &[u8], operand: &[u8]) -> bool
 pub fn contains(fold: Fold, text: &[u8], operand: &[u8]) -> bool
     ensures { result ≡ contains operand.now text.now }
 {
+    // By place: `windows` takes no length of 0, and an operand may have any.
     for a in 0..text.len() {
         // The operand is longer than every tail from here on.
         if text.len() - a < operand.len() {

@@ -27,6 +27,7 @@ pub fn log_question(
     let begun = input::begin::begin(catalogue, question, &mut found)?;
     let n = begun.n;
     let rows = begun.rows;
+    // A byte: no question has more than 64 predicates.
     if !orders::is_order(order, n as u8) {
         return Err(Refusal::NotOrder);
     }

@@ -56,18 +56,31 @@ fn put_header(out: &mut [u8]) -> usize
     fields::output::put(out, 0, b"consultation register\n")
 }
 
-fn write_accepted(
-    found: u64,
-    looked: u64,
-    rows: usize,
-    n: usize,
-    listed: &[u8],
-    looks: &[u8],
-    out: &mut [u8],
-) -> usize
-    requires { (bytes_for rows ≤ length listed.now) × (n * bytes_for rows ≤ length looks.now) × (room_for rows n ≤ length out.old) }
-    ensures { Printed (accepted found looked rows n listed.now looks.now) out.old result out.new }
+// A run as its register tells it: its two counts, and the tables that it wrote, of so many rows and predicates.
+#[derive(Clone, Copy)]
+pub struct Run<'a> {
+    pub found: u64,
+    pub looked: u64,
+    pub rows: usize,
+    pub n: usize,
+    pub listed: &'a [u8],
+    pub looks: &'a [u8],
+}
+
+fn write_accepted(run: Run, out: &mut [u8]) -> usize
+    requires { (bytes_for run.rows ≤ length run.listed.now) × (run.n * bytes_for run.rows ≤ length run.looks.now)
+        × (room_for run.rows run.n ≤ length out.old) }
+    ensures { let r = run.entry in
+        Printed (accepted r.found r.looked r.rows r.n r.listed.now r.looks.now) out.old result out.new }
 {
+    let Run {
+        found,
+        looked,
+        rows,
+        n,
+        listed,
+        looks,
+    } = run;
     let found_line = put_header(out);
     let entry_lines = lines::put_line(out, found_line, b"found ", found);
     let looks_line = put_entries(out, entry_lines, listed, rows);
@@ -90,23 +103,17 @@ pub fn write_refused(number: u64, out: &mut [u8]) -> usize
     lines::put_line(out, next, b"refused ", number)
 }
 
-// The register of a run that gave this number and these counts and wrote the two tables, to the front of the output; its length. The number is
-// that of the packed word, 0 where nothing is refused: C's interface has it so.
-pub fn write_register(
-    number: u64,
-    found: u64,
-    looked: u64,
-    rows: usize,
-    n: usize,
-    listed: &[u8],
-    looks: &[u8],
-    out: &mut [u8],
-) -> usize
-    requires { (bytes_for rows ≤ length listed.now) × (n * bytes_for rows ≤ length looks.now) × (room_for rows n ≤ length out.old) }
-    ensures { Printed (register_of number found looked rows n listed.now looks.now) out.old result out.new }
+// The register of a run that gave this number, to the front of the output; its length. The number is bits 0 to 7 of the
+// word that the exported `searchroom_run` gives, 0 where nothing is refused: `register_of` is defined at every number,
+// and a Result would be made of it here only to be taken apart again.
+pub fn write_register(number: u64, run: Run, out: &mut [u8]) -> usize
+    requires { (bytes_for run.rows ≤ length run.listed.now) × (run.n * bytes_for run.rows ≤ length run.looks.now)
+        × (room_for run.rows run.n ≤ length out.old) }
+    ensures { let r = run.entry in
+        Printed (register_of number r.found r.looked r.rows r.n r.listed.now r.looks.now) out.old result out.new }
 {
     if number != 0 {
         return write_refused(number, out);
     }
-    write_accepted(found, looked, rows, n, listed, looks, out)
+    write_accepted(run, out)
 }

@@ -9,7 +9,8 @@ use bitmaps::word::Word;
 use plan::table::Plan;
 use predicate::fold::Fold;
 
-// How many rows there are, where in the catalogue the bytes of the mark start, and the predicates that are live at first.
+// How many rows there are, where in the catalogue the bytes of the mark start, and the predicates that are live at
+// first.
 #[derive(Clone, Copy)]
 pub struct Extent {
     pub rows: usize,
@@ -17,7 +18,10 @@ pub struct Extent {
     pub start: u64,
 }
 
-// Marks the rows that are selected, and of each predicate the rows at which it is probed and, in a longer table, those of a yes.
+// Marks the rows that are selected, and of each predicate the rows at which it is probed and, in a longer table, those
+// of a yes. Both tables are lent, empty at the call and no longer after the first block, so that no type can say it;
+// made here and handed back by value, their 16 or 32 KB are copied at each return, of this function, of `work` and of
+// `work_run` (tried on three functions like them: the code built has a memcpy in each).
 pub fn work_rows(
     catalogue: &[u8],
     question: &[u8],

@@ -1,5 +1,5 @@
 -- The cases of a run: the input refused, a check of the request failing, or the rows worked and the end of the run.
-use Prim.Native.Nat.{ℕ, ◌+◌, ◌^◌, ◌≤◌, ◌<◌}
+use Prim.Native.Nat.{ℕ, ◌≤◌}
 use native.Mathlib.Omega.{arith}
 use mathlib.Core.Path.{◌≡◌, sym, ap, ◌∙◌, subst}
 use mathlib.Core.List.{List}
@@ -33,9 +33,6 @@ run_refused l e h = (rw h, refused_fits e)
 
 -- the sizes that the input gives
 module _ {b q : List ℕ} {r : Beginning} {T : Tables} (G : HasInput b q r T) where
-  pub rows_room : r.rows + 7 < 2 ^ 64
-  rows_room = omega (arith, input_short G)
-
   pub size_short : {size : ℕ} → size ≡ bytes_for r.rows → size ≤ line_size
   size_short e = omega (arith, input_short G)
 

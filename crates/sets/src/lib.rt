@@ -12,7 +12,6 @@ pub mod numbers;
 // `d < 64` stands in `has`, `single` and `with`: with a type for such numbers each of their callers, which have a byte at
 // hand, would have to build a value of it first.
 
-
 // Is d in the set.
 pub fn has(x: u64, d: u8) -> bool
     requires { d < 64 }

@@ -1,5 +1,5 @@
-// The slots of a text column: each length within its limit, and zeros after the text. A slot is three words of eight bytes; none has a bit
-// that the text's length forbids it.
+// The slots of a text column: each length within its limit, and zeros after the text. A slot is three words of eight
+// bytes; none has a bit that the text's length forbids it.
 ghost use Rattle.std.specs.Prelude.{◌≡◌, ◌+◌, ◌*◌, ◌≤◌, length};
 ghost use Rattle.slots.specs.Slots.{slot_size, valid_slots};
 ghost use Rattle.slots.specs.Limits.{Limits};
@@ -15,8 +15,9 @@ impl Text {
     pub const SLOT_SIZE: usize = 24;
 }
 
-// The slots of so many rows from a place on, by the table of limits that is lent. The stray bits of all slots are gathered, those of the
-// first, the second and the third words apart, and asked for once: with no branch in it, the loop works on two words at a time.
+// The slots of so many rows from a place on, by the table of limits that is lent. The stray bits of all slots are
+// gathered, those of the first, the second and the third words apart, and asked for once: with no branch in it, the
+// loop works on two words at a time.
 pub fn slots_are_valid(limits: &[u8], b: &[u8], at: usize, n: usize) -> bool
     requires { Limits limits.now × (at + slot_size * n ≤ length b.now) }
     ensures { result ≡ valid_slots b.now at n }
@@ -24,8 +25,8 @@ pub fn slots_are_valid(limits: &[u8], b: &[u8], at: usize, n: usize) -> bool
     let mut x: u64 = 0;
     let mut y: u64 = 0;
     let mut z: u64 = 0;
-    // Counted by hand: check_catalogue of 16 text columns takes 0.89 to 0.95 of the time of code without a proof, and 1.22 to 1.25 with
-    // `for _ in 0..n` (the benchmark).
+    // Counted by hand: check_catalogue of 16 text columns takes 0.89 to 0.95 of the time of code without a proof, and
+    // 1.22 to 1.25 with `for _ in 0..n` (the benchmark).
     let mut p = at;
     let mut left = n;
     while 0 < left {

@@ -50,7 +50,7 @@ const SAME: [(&str, &str); 31] = [
 ];
 
 /// Refusal 19 is the program's, and no call of the library gives it.
-const PROGRAM_ALONE: &str = "Refusal::UNREADABLE";
+const PROGRAM_ALONE: &str = "Refusal::Unreadable";
 
 type Constants = BTreeMap<String, u64>;
 

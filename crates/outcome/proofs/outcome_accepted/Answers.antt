@@ -13,23 +13,20 @@ returns-then-begun-condition c = no_such_predicate c.requires.1 _ _ (omega arith
 
 pub plan_predicate-planned-requires : goal.plan_predicate-planned-requires
 plan_predicate-planned-requires c =
-    let a = c in
-    let G = a.requires.1 in
-    (has_record _ _ _ a.args.condition G.tabled.located (omega arith), input_columns G a.args.condition (omega arith))
+    let G = c.requires.1 in
+    (has_record _ _ _ c.args.condition G.tabled.located (omega arith), input_columns G c.args.condition (omega arith))
 
 pub outcome_of-outcome-requires : goal.outcome_of-outcome-requires
 outcome_of-outcome-requires c =
-    let a = c in
-    let G = a.requires.1 in
-    let shown = input_accessed G a.args.condition (omega arith) c.plan_predicate-planned.ensures in
-    (G.input.catalogue, _, shown, has_such_row G a.args.entry a.args.condition (omega arith))
+    let G = c.requires.1 in
+    let shown = input_accessed G c.args.condition (omega arith) c.plan_predicate-planned.ensures in
+    (G.input.catalogue, _, shown, has_such_row G c.args.entry c.args.condition (omega arith))
 
 pub returns : goal.returns
 returns c =
-    let a = c in
-    let G = a.requires.1 in
-    let shown = input_accessed G a.args.condition (omega arith) c.plan_predicate-planned.ensures in
+    let G = c.requires.1 in
+    let shown = input_accessed G c.args.condition (omega arith) c.plan_predicate-planned.ensures in
     let row = c.if-begun-entry.false in
     let predicate = c.if-begun-condition.false in
-    let inside = has_such_row G a.args.entry a.args.condition (omega (arith, row)) in
+    let inside = has_such_row G c.args.entry c.args.condition (omega (arith, row)) in
     outcome_told G _ _ (omega (arith, row)) (omega (arith, predicate)) _ _ (c.outcome_of-outcome.ensures _ _ shown inside) c.number_of.ensures

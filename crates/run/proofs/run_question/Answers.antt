@@ -2,7 +2,7 @@
 use Rattle.bitmaps.proofs.TableLaws.{holds_none}
 use Rattle.marks.proofs.Marking.{empty_marks}
 use Rattle.request.proofs.Request.{request_fits, request_order}
-use Rattle.run.proofs.Running.{rows_room, run_declined, run_finished, run_refused, size_short, size_whole}
+use Rattle.run.proofs.Running.{run_declined, run_finished, run_refused, size_short, size_whole}
 use Rattle.std.proofs.Common.{arith}
 use Rattle.std.proofs.lemmas.Result.{err_from_is_err_and}
 use Rattle.std.specs.Prelude.{length}
@@ -12,9 +12,6 @@ pub returns-in_err-begun : goal.returns-in_err-begun
 returns-in_err-begun c =
     let p = err_from_is_err_and c.from_residual.result c.from_residual.ensures.1 in
     rw (p.1, p.2) (run_refused _ _ c.in_err-begun.ensures)
-
-pub bytes_for-size-requires : goal.bytes_for-size-requires
-bytes_for-size-requires c = rows_room c.in_ok-begun.ensures
 
 pub check_request-requires : goal.check_request-requires
 check_request-requires c =

@@ -8,8 +8,5 @@ put_conditions-requires c = (omega arith, rw c.bytes_for.ensures c.requires.1, o
 
 pub returns : goal.returns
 returns c =
-    let at-second-line = c in
-    let at-entries = at-second-line in
-    let at-first-line = at-entries in
-    let at-header = at-first-line in
-    accepted_end _ _ _ _ _ _ c.bytes_for.ensures (omega arith) at-header.put_header-found_line.ensures at-first-line.put_line-entry_lines.ensures.0 at-entries.put_entries-looks_line.ensures.0 at-second-line.put_line-condition_lines.ensures.0 c.put_conditions.ensures.0
+    accepted_end _ _ _ _ _ _ c.bytes_for.ensures (omega arith) c.put_header-found_line.ensures c.put_line-entry_lines.ensures.0
+    c.put_entries-looks_line.ensures.0 c.put_line-condition_lines.ensures.0 c.put_conditions.ensures.0
