@@ -2,18 +2,12 @@
 use Prim.Native.Nat.{ℕ, zero, suc, ◌+◌, ◌<◌}
 use native.Mathlib.Omega.{arith}
 use mathlib.Core.Path.{◌≡◌, refl, sym, ap, ◌∙◌}
-use mathlib.Core.Bool.{Bool, true, false, cond}
-use mir.Val.{bool_byte}
+use mathlib.Core.Bool.{Bool, true, cond}
 use mathlib.Core.Logic.{◌⊎◌, inl, inr}
 use lib.Bits.{bit_or}
 use Rattle.bools.specs.Bools.{or_left, or_right, same?}
 use Rattle.filters.specs.Some.{some_below}
 use Rattle.heads.proofs.ByteTests.{either_flag}
-
--- a test's answer as a byte
-pub byte_flag : (s : Bool) → bool_byte s ≡ cond s 1 0
-byte_flag true = refl
-byte_flag false = refl
 
 -- i numbers are tried: `any` tells whether one of them passes
 pub record Tried (test : ℕ → Bool) (i any : ℕ) : Type 0 where

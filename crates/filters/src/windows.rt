@@ -37,11 +37,13 @@ pub fn windows_rows(rows: DueRows, k: Pair) -> u64
     ensures { let r = rows.entry in KeptBy (λ d. windows_pass r.b.now (slot_of r.start (r.base + d)) k) r.due result }
 {
     let (b, start, base) = (rows.b, rows.start, rows.base);
-    sets::met_where(
-        rows.due,
-        |d| -> bool
-            requires { HasRow b.now text_tag start (base + d) × (k.gap ≤ 8) }
-            ensures { result ≡ windows_pass b.entry.now (slot_of start (base + d)) k }
-        { slot_passes(b, start + Text::SLOT_SIZE * (base + usize::from(d)), k) },
-    )
+    let passes = |d| -> bool
+        requires { HasRow b.now text_tag start (base + d) × (k.gap ≤ 8) }
+        ensures { result ≡ windows_pass b.entry.now (slot_of start (base + d)) k }
+    { slot_passes(b, start + Text::SLOT_SIZE * (base + usize::from(d)), k) };
+    if rows.due == sets::below(64) {
+        sets::all_in_turn(passes)
+    } else {
+        sets::kept_where(rows.due, passes)
+    }
 }

@@ -1,7 +1,8 @@
 -- Loops through the numbers below 64 counted by hand, and what their steps gather: from the last number down, from the first up, and the number at hand
 -- of a set. The loops of src/ state what they gather by an equation; these laws say of any such loop that it gathers the same.
-use Rattle.std.proofs.Common.{ℕ, suc, ◌+◌, ◌-◌, ◌*◌, ◌^◌, ◌≤◌, ◌<◌, ◌≡◌, Bool, refl, sym, ap, ap₂, ◌∙◌, zero-add, mul-add, mul_comm, pow_mono, arith}
+use Rattle.std.proofs.Common.{ℕ, suc, ◌+◌, ◌-◌, ◌*◌, ◌^◌, ◌≤◌, ◌<◌, ◌≡◌, Bool, true, false, refl, sym, ap, ap₂, ◌∙◌, zero-add, mul-add, mul_comm, pow_mono, pow-suc, arith}
 use Rattle.std.specs.Int.Bits.{bit_or, or_shifted_r}
+use mir.Val.{bool_byte}
 use Rattle.sets.specs.Set.{below_set}
 use Rattle.sets.specs.Kept.{KeptBy}
 use Rattle.sets.specs.Gathered.{bit_of, gathered, gathered_same, gathered_lt, gathered_cat, gathered_kept}
@@ -45,6 +46,23 @@ module _ {P : ℕ → Bool} {k met : ℕ} (G : Gathering P k met) where
       where
         sum : (x y u v : ℕ) → x ≡ u → y ≡ v → x + x + y ≡ v + 2 * u
         sum x y u v e f = omega arith
+
+-- an answer made a number by std
+pub byte_bit : (p : Bool) → bool_byte p ≡ bit_of p
+byte_bit true = refl
+byte_bit false = refl
+
+-- what is gathered from k on has 64 - k bits, whatever a test answers: one bit more at each number
+pub doubled_small : (p : Bool) (k : ℕ) {met bit : ℕ} → met < 2 ^ (64 - k) → bit ≡ bit_of p → 0 < k → k ≤ 64 → met + met + bit < 2 ^ (64 - (k - 1))
+doubled_small p k {met} {bit} s e l m =
+    let b = few p in
+    let n : 64 - (k - 1) ≡ suc (64 - k) = omega arith in
+    let q : 2 ^ suc (64 - k) ≡ 2 ^ (64 - k) * 2 = pow-suc 2 (64 - k) in
+    rw (ap (λ (j : ℕ). 2 ^ j) n ∙ q) (omega arith)
+  where
+    few : (p : Bool) → bit_of p < 2
+    few true = omega arith
+    few false = omega arith
 
 -- a loop up through 32 numbers: those below k are gathered
 pub record Rising (P : ℕ → Bool) (k met : ℕ) : Type 0 where

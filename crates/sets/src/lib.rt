@@ -122,6 +122,19 @@ pub fn all_where<F: Fn(u8) -> bool>(test: F) -> u64
     u64::from(half_where(0, &test)) + 0x1_0000_0000 * u64::from(half_where(32, &test))
 }
 
+// The same, one after the other and the last first, so that no answer is shifted to its place: for a test that is a loop
+// itself. By halves a run of "contains" takes 7 % more instructions, and up to a fifth longer.
+pub fn all_in_turn<F: Fn(u8) -> bool>(test: F) -> u64
+    requires { MayAsk (F.pre test) (below_set 64) }
+    ensures { KeptWhere (F.post test) (below_set 64) result }
+{
+    let mut met: u64 = 0;
+    for d in (0..64u8).rev() {
+        met = met + met + u64::from(test(d));
+    }
+    met
+}
+
 // The numbers of a set at which a test passes, by the shorter way.
 pub fn met_where<F: Fn(u8) -> bool>(x: u64, test: F) -> u64
     requires { MayAsk (F.pre test) x }

@@ -1,5 +1,6 @@
 -- `slot_has_non_ascii` meets its contract: the flag tells whether one of the bytes tried so far is from 128 on.
-use Rattle.filters.proofs.SomeLaws.{byte_flag, tried_next, tried_none}
+use Rattle.sets.proofs.Loops.{byte_bit}
+use Rattle.filters.proofs.SomeLaws.{tried_next, tried_none}
 use Rattle.heads.proofs.ByteTests.{flag_set}
 use Rattle.slots.specs.Slots.{slot_size}
 use Rattle.std.proofs.Common.{◌∙◌, arith}
@@ -10,7 +11,7 @@ pub loop-i-init : goal.loop-i-init
 loop-i-init c = tried_none _
 
 pub loop-i-preserved : goal.loop-i-preserved
-loop-i-preserved c = tried_next _ c.loop-i.invariant (c.from-any.ensures ∙ byte_flag _)
+loop-i-preserved c = tried_next _ c.loop-i.invariant (c.from-any.ensures ∙ byte_bit _)
 
 pub returns : goal.returns
 returns c =
