@@ -1,6 +1,8 @@
 // A number condition at the due rows of a block of 64 rows, as a word: bit d is row base + d.
 #![tactic(auto)]
 
+pub mod range;
+
 ghost use Rattle.std.specs.Prelude.{◌≡◌, ◌+◌, ◌%◌, ◌^◌, ◌<◌, ◌≤◌, length};
 ghost use Rattle.fields.specs.Numbers.{number_at};
 ghost use Rattle.catalogue.specs.Format.{number_tag, number_size};
@@ -9,6 +11,7 @@ ghost use Rattle.predicate.specs.Meaning.{number_blank};
 ghost use Rattle.sets.specs.Kept.{KeptBy};
 ghost use Rattle.numbers.specs.Within.{number_in_row, within};
 
+use crate::range::Range;
 use catalogue::cell::Cell;
 use catalogue::format::{Column, Number};
 use heads::rows::DueRows;
@@ -54,10 +57,12 @@ fn is_blank_at(b: &[u8], at: usize) -> bool
 }
 
 // The due rows whose numbers are among those.
-fn due_within(rows: DueRows, low: u32, width: u32) -> u64
-    requires { (rows.tag ≡ number_tag) × (low + width < 2 ^ 32) }
-    ensures { let r = rows.entry in KeptBy (λ d. within low width (number_in_row r.b.now r.start (r.base + d))) r.due result }
+fn due_within(rows: DueRows, range: Range) -> u64
+    requires { rows.tag ≡ number_tag }
+    ensures { let r = rows.entry in
+        KeptBy (λ d. within range.low range.width (number_in_row r.b.now r.start (r.base + d))) r.due result }
 {
+    let (low, width) = (range.low, range.width);
     let (b, start, base) = (rows.b, rows.start, rows.base);
     sets::kept_where(
         rows.due,
@@ -81,10 +86,12 @@ fn due_within(rows: DueRows, low: u32, width: u32) -> u64
 
 // The same, by the shorter way. Not by `met_where`, which asks one test on both ways: a whole block's reads the four
 // bytes in the order that becomes vector code, and the loop over due rows has no use for that.
-pub fn numbers_within(rows: DueRows, low: u32, width: u32) -> u64
-    requires { (rows.tag ≡ number_tag) × (low + width < 2 ^ 32) }
-    ensures { let r = rows.entry in KeptBy (λ d. within low width (number_in_row r.b.now r.start (r.base + d))) r.due result }
+pub fn numbers_within(rows: DueRows, range: Range) -> u64
+    requires { rows.tag ≡ number_tag }
+    ensures { let r = rows.entry in
+        KeptBy (λ d. within range.low range.width (number_in_row r.b.now r.start (r.base + d))) r.due result }
 {
+    let (low, width) = (range.low, range.width);
     let (b, start, base) = (rows.b, rows.start, rows.base);
     if rows.due == sets::below(64) {
         return sets::all_where(
@@ -101,7 +108,7 @@ pub fn numbers_within(rows: DueRows, low: u32, width: u32) -> u64
             },
         );
     }
-    due_within(rows, low, width)
+    due_within(rows, range)
 }
 
 // The due rows whose numbers are blank. Not by `met_where`: in the loop over due rows an equality would become a
@@ -120,5 +127,9 @@ pub fn numbers_blank(rows: DueRows) -> u64
             { is_blank_at(b, start + Number::SIZE * (base + usize::from(d))) },
         );
     }
-    due_within(rows, Number::BLANK, 0)
+    let blank = Range {
+        low: Number::BLANK,
+        width: 0,
+    };
+    due_within(rows, blank)
 }

@@ -1,5 +1,5 @@
 -- A range as a lowest number and how many follow it.
-use Prim.Native.Nat.{ℕ, ◌+◌, ◌-◌, ◌^◌, ◌≤◌, ◌<◌}
+use Prim.Native.Nat.{ℕ, ◌+◌, ◌-◌, ◌≤◌, ◌<◌}
 use native.Mathlib.Omega.{arith}
 use mathlib.Core.Path.{◌≡◌, refl}
 use mathlib.Core.Bool.{true, ◌&&◌}
@@ -13,7 +13,7 @@ use Rattle.slots.specs.Slots.{text_limit}
 use Rattle.predicate.specs.Kinds.{range_kind, number_blank_kind, equals_kind, contains_kind, text_blank_kind}
 use Rattle.predicate.specs.Meaning.{between, low_of, high_of}
 use Rattle.predicate.specs.Payload.{range_fits, operand_fits}
-use Rattle.scan.specs.declared.range.Range.{Range}
+use Rattle.numbers.specs.declared.range.Range.{Range}
 use Rattle.numbers.specs.Within.{within}
 use Rattle.scan.specs.Met.{RangeFor}
 
@@ -36,9 +36,6 @@ text_fits kind o h l m =
 
 -- what a range asks, and its test
 module _ {o : List ℕ} {r : Range} (P : RangeFor o r) (fits : operand_fits range_kind o ≡ true) where
-  pub width_fits : r.low + r.width < 2 ^ 32
-  width_fits = let f = range_fits_lem range_kind o fits refl in omega (arith, P.low_is, P.width_is)
-
   pub range_means : (n : ℕ) → within r.low r.width n ≡ between (low_of o) (high_of o) n
   range_means n =
       let f = range_fits_lem range_kind o fits refl in

@@ -26,7 +26,7 @@ use Rattle.sets.specs.Kept.{KeptBy, Sifted}
 use Rattle.sets.specs.KeptLaws.{sift_kept, kept_same, kept_others, kept_either}
 use Rattle.heads.specs.Block.{text_of}
 use Rattle.fronts.proofs.Texts.{text_shown}
-use Rattle.scan.specs.declared.range.Range.{Range}
+use Rattle.numbers.specs.declared.range.Range.{Range}
 use Rattle.numbers.specs.Within.{number_in_row, within}
 use Rattle.scan.specs.Met.{RangeFor, FitsColumn, MetFor, PlainMetFor, BlankFor}
 use Rattle.scan.proofs.Ranges.{text_fits, range_means}

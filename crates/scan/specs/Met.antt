@@ -9,7 +9,7 @@ use Rattle.predicate.specs.Outcome.{is_blank}
 use Rattle.predicate.specs.Payload.{kind_fits, operand_fits}
 use Rattle.sets.specs.Set.{has}
 use Rattle.sets.specs.Kept.{KeptBy}
-use Rattle.scan.specs.declared.range.Range.{Range}
+use Rattle.numbers.specs.declared.range.Range.{Range}
 
 -- what a range asks: its lowest number and how many follow it
 pub record RangeFor (o : List ℕ) (r : Range) : Type 0 where

@@ -19,7 +19,7 @@ fn plain_met_at(fold: Fold, rows: DueRows, kind: u8, operand: &[u8]) -> u64
     match plain {
         Kind::RANGE => {
             let range = crate::range::range_of(operand);
-            numbers::numbers_within(rows, range.low, range.width)
+            numbers::numbers_within(rows, range)
         }
         Kind::NUMBER_BLANK => numbers::numbers_blank(rows),
         Kind::TEXT_BLANK => crate::text::texts_blank(rows),

@@ -5,12 +5,7 @@ ghost use Rattle.predicate.specs.Payload.{operand_fits};
 ghost use Rattle.scan.specs.Met.{RangeFor};
 
 use catalogue::format::Number;
-
-#[derive(Clone, Copy)]
-pub struct Range {
-    pub low: u32,
-    pub width: u32,
-}
+use numbers::range::Range;
 
 pub fn range_of(operand: &[u8]) -> Range
     requires { operand_fits range_kind operand.now ≡ true }

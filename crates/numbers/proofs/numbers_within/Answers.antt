@@ -5,7 +5,7 @@ use Rattle.std.proofs.Common.{arith, ◌≡◌}
 use Rattle.numbers.proofs.numbers_within.Goals as goal
 
 pub all_where-requires : goal.all_where-requires
-all_where-requires c = let e : c.args.rows.due ≡ below_set 64 = omega arith in let due = rw e at (due_rows c.args.rows c.requires.0) in λ d m. (due d m, c.requires.1)
+all_where-requires c = let e : c.args.rows.due ≡ below_set 64 = omega arith in let due = rw e at (due_rows c.args.rows c.requires) in λ d m. (due d m, c.args.range.fits)
 
 pub returns-then-rows-below : goal.returns-then-rows-below
 returns-then-rows-below c = let e : c.args.rows.due ≡ below_set 64 = omega arith in rw e (c.all_where.ensures _ (λ d p m r. r))

@@ -1,6 +1,5 @@
 -- `plain_met_at` meets its contract: each leaf answers as the column has it.
 use Rattle.predicate.specs.Kinds.{number_blank_kind}
-use Rattle.scan.proofs.Ranges.{width_fits}
 use Rattle.scan.proofs.Shown.{blanks_met, is_number, is_text, number_blanks_met, operand_asked, range_asked, range_met, sifted_met}
 use Rattle.std.proofs.Common.{arith, ◌∙◌}
 use Rattle.std.specs.Prelude.{◌<◌}
@@ -10,11 +9,7 @@ pub range_of-range-requires : goal.range_of-range-requires
 range_of-range-requires c = range_asked _ _ _ c.plain_kind-plain.ensures c.requires c.in-0.is
 
 pub numbers_within-requires : goal.numbers_within-requires
-numbers_within-requires c =
-    let k = c.plain_kind-plain.ensures in
-    let h = c.requires in
-    let e = c.in-0.is in
-    (is_number _ _ k h.0 (omega arith), width_fits c.range_of-range.ensures (range_asked _ _ _ k h e))
+numbers_within-requires c = let e = c.in-0.is in is_number _ _ c.plain_kind-plain.ensures c.requires.0 (omega arith)
 
 pub returns-in-0 : goal.returns-in-0
 returns-in-0 c =

@@ -15,3 +15,6 @@ overflow_sub-width c = let f = range_fits_lem _ _ c.requires refl in omega arith
 
 pub returns : goal.returns
 returns c = record { low_is = c.four_bytes-low.ensures; width_is = omega arith }
+
+pub invariant_of-result : goal.invariant_of-result
+invariant_of-result c = let f = range_fits_lem _ _ c.requires refl in record { fits = omega (arith, c.four_bytes-low.ensures, c.four_bytes-high.ensures) }
