@@ -15,8 +15,8 @@ use predicate::fold::Fold;
 use predicate::outcome::Outcome;
 use reading::tables::Tables;
 
-// A `From` would be an impl of std's trait for `predicate`'s type, which only `predicate` may write, and the numbers are
-// the answers'.
+// A `From` would be an impl of std's trait for `predicate`'s type, which only `predicate` may write, and the numbers
+// are the answers'.
 fn number_of(outcome: Outcome) -> u64
     ensures { result ≡ outcome_number outcome }
 {
