@@ -8,7 +8,8 @@ use crate::format::{Column, FirstField, Row};
 use crate::refusal::Refusal;
 use fields::header::{Field, read_header};
 
-// What the first field tells; the columns begin at next.
+// What the first field tells; the columns begin at next. Its limits are no ghost field, but said by `SoundFirst`: the
+// definition `counts_at` makes such a value too, and would have to carry their proof.
 #[derive(Clone, Copy)]
 pub struct Counts {
     pub rows: usize,

@@ -6,8 +6,8 @@ ghost use Rattle.parser.specs.Reading.{GroupAt, GroupsOpenable, Opened, GroupsCl
 use lexer::word::read_word;
 use query::format::Group;
 
-// How far the text is read and the output written, and where the length of the innermost open group stands, 0 where none
-// is open. An Option would be no plainer: the number is written to the output as it is, and read back from there.
+// How far the text is read and the output written, and where the length of the innermost open group stands, 0 where
+// none is open. An Option would be no plainer: the number is written to the output as it is, and read back from there.
 #[derive(Clone, Copy, PartialEq, Eq, Debug)]
 pub struct Place {
     pub at: usize,

@@ -3,7 +3,7 @@ use ancestors::Ancestors;
 use query::format::Predicate;
 
 // Of the predicates read so far: offsets[c] is where the field of predicate c begins, line c of ancestors tells the
-// groups around it.
+// groups around it. How many there are is no field: `read_query` answers it, on the way `Progress` with the place.
 #[derive(Drop)]
 pub struct Tables {
     pub offsets: [usize; Predicate::LIMIT],
