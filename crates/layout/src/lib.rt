@@ -10,9 +10,9 @@ use catalogue::column::ColumnField;
 use catalogue::format::Column;
 use catalogue::refusal::Refusal;
 
-// Of each column its tag and where its payload starts, and where the bytes of the mark start, which go on to the end.
-// Where there is no mark that is the end. Two arrays: `payload_is_valid` and `read_query` are lent the tags alone, as
-// bytes, which an array of columns would have to be copied out for.
+// Of each column its tag and where its payload starts, and where the bytes of the mark start, which go on to the end. Where there is no mark
+// that is the end.
+// Two arrays: `payload::payload_is_valid`, `reading::whole::read_query` and the plan's tables take the tags as a slice, and may not change.
 #[derive(Drop)]
 pub struct Layout {
     pub rows: usize,

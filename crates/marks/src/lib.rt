@@ -14,8 +14,7 @@ impl MarkTable {
     pub const PROBES: usize = Predicate::LIMIT * Line::SIZE;
 }
 
-// Puts the due rows of predicate c into its line, in the block at base, and those of a yes into theirs, if the table
-// has it: a run's has lines for the probes alone, and so a table is a slice, whose length tells.
+// Puts the due rows of predicate c into its line, in the block at base, and those of a yes into theirs, if the table has it.
 pub fn mark(marks: &mut [u8], c: usize, base: usize, due: u64, met: u64)
     requires { MarkReady c base marks.old }
     ensures { Marked c base due met marks.old marks.new }

@@ -45,8 +45,7 @@ fn read_range(text: &[u8], at: usize, out: &mut [u8], end: usize) -> Option<Test
     })
 }
 
-// Behind "is ", "starts " or "has ": a quoted text. Inlined: where this and read_member were calls, typed questions
-// took 5 to 10 % longer.
+// Behind "is ", "starts " or "has ": a quoted text. Inlined: where this and read_member were calls, typed questions took 5 to 10 % longer.
 #[inline(always)]
 fn read_operand(kind: u8, text: &[u8], at: usize, out: &mut [u8], end: usize) -> Option<Test>
     requires has_room { HasRoom text.now at out.old end }

@@ -13,8 +13,7 @@ impl Predicate {
 pub struct Group;
 
 impl Group {
-    // A group's kind stays its byte: `close_group` puts it into the lent table of ancestors, from which
-    // `propagate_rows` reads it.
+    // A group's kind stays its byte: `close_group` puts it into the lent table of ancestors, from which `propagate_rows` reads it.
     pub const CONJUNCTION_TAG: u8 = 65;
 
     pub const DISJUNCTION_TAG: u8 = 79;

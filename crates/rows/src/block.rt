@@ -15,8 +15,7 @@ pub struct Block {
     pub start: u64,
 }
 
-// Makes the predicates of start live at the rows. The walk over a set by `first` and `rest` is that of
-// `sets::kept_where`, which makes a set and so does not serve here.
+// Makes the predicates of start live at the rows.
 fn fill(live: &mut [u64], start: u64, rows: u64)
     requires { length live.old ≡ predicate_limit }
     ensures { Filled start rows live.old live.new }

@@ -13,23 +13,26 @@ returns-then-begun-condition c = no_such_predicate c.requires.1 _ _ (omega arith
 
 pub plan_predicate-requires : goal.plan_predicate-requires
 plan_predicate-requires c =
-    let G = c.requires.1 in
-    (has_record _ _ _ c.args.condition G.tabled.located (omega arith), refl, input_columns G c.args.condition (omega arith))
+    let a = c in
+    let G = a.requires.1 in
+    (has_record _ _ _ a.args.condition G.tabled.located (omega arith), refl, input_columns G a.args.condition (omega arith))
 
 pub outcome_of-outcome-requires : goal.outcome_of-outcome-requires
 outcome_of-outcome-requires c =
-    let G = c.requires.1 in
-    let shown = input_accessed G _ c.args.condition (omega arith) c.plan_predicate.ensures in (
+    let a = c in
+    let G = a.requires.1 in
+    let shown = input_accessed G _ a.args.condition (omega arith) c.plan_predicate.ensures in (
       omega (arith, G.tabled.few),
       c.plan-2-1.given,
-      (G.input.catalogue, _, shown, has_such_row G c.args.entry c.args.condition (omega arith)),
+      (G.input.catalogue, _, shown, has_such_row G a.args.entry a.args.condition (omega arith)),
     )
 
 pub returns : goal.returns
 returns c =
-    let G = c.requires.1 in
-    let shown = input_accessed G _ c.args.condition (omega arith) c.plan_predicate.ensures in
+    let a = c in
+    let G = a.requires.1 in
+    let shown = input_accessed G _ a.args.condition (omega arith) c.plan_predicate.ensures in
     let row = c.if-begun-entry.false in
     let predicate = c.if-begun-condition.false in
-    let inside = has_such_row G c.args.entry c.args.condition (omega (arith, row)) in
+    let inside = has_such_row G a.args.entry a.args.condition (omega (arith, row)) in
     outcome_told G _ _ (omega (arith, row)) (omega (arith, predicate)) _ _ (c.outcome_of-outcome.ensures _ _ shown inside) c.number_of.ensures
