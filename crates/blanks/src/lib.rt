@@ -22,14 +22,7 @@ fn rows_of_no(due: u64, met: u64) -> u64
 
 // The rows of the block at which predicate c was probed with outcome blank. The two tables are lent one by one: of a slice
 // in a struct the check does not know that what stands there are bytes, and the bits of a word rest on that.
-fn blank_rows(
-    catalogue: &[u8],
-    plan: &Plan,
-    probed: &[u8],
-    met: &[u8],
-    c: usize,
-    base: Base,
-) -> u64
+fn blank_rows(catalogue: &[u8], plan: &Plan, probed: &[u8], met: &[u8], c: usize, base: Base) -> u64
     requires { HasProbesAt catalogue.now plan.now probed.now met.now c }
     ensures { BlankRows catalogue.now plan.now probed.now met.now c base.row result }
 {
@@ -40,12 +33,7 @@ fn blank_rows(
 
 // A run takes a blank for a no and keeps no table of them; so those among the probed rows are worked out again, turn by
 // turn.
-pub fn gather_blanks(
-    catalogue: &[u8],
-    plan: &Plan,
-    probes: Probes,
-    base: Base,
-) -> [u64; Word::ROWS]
+pub fn gather_blanks(catalogue: &[u8], plan: &Plan, probes: Probes, base: Base) -> [u64; Word::ROWS]
     requires { HasProbes catalogue.now plan.now probes.turns.now probes.probed.now probes.met.now }
     ensures { BlankTurns catalogue.now plan.now probes.entry.turns.now probes.entry.probed.now probes.entry.met.now
         base.row result }

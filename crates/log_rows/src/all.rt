@@ -7,13 +7,7 @@ use gather::probes::Probes;
 use plan::table::Plan;
 
 // Writes the log of so many rows to the front of an output and gives its length.
-pub fn put_rows(
-    catalogue: &[u8],
-    plan: &Plan,
-    probes: Probes,
-    rows: usize,
-    out: &mut [u8],
-) -> usize
+pub fn put_rows(catalogue: &[u8], plan: &Plan, probes: Probes, rows: usize, out: &mut [u8]) -> usize
     requires { HasLogRoom catalogue.now plan.now probes.turns.now probes.probed.now probes.met.now rows out.old }
     ensures { LogWritten catalogue.now plan.now probes.entry.turns.now probes.entry.probed.now probes.entry.met.now
         rows out.old result out.new }
