@@ -20,7 +20,7 @@ pub fn put_word(table: &mut [u8], at: usize, x: u64)
     table[at..at + Word::SIZE].copy_from_slice(&x.to_le_bytes());
 }
 
-// The rows of a block at which so many rows are left.
+// The rows of a block at which so many rows are left. At most 64: `as u8` loses nothing.
 pub fn rows_of(left: usize) -> u64
     ensures { result ≡ rows_set left }
 {
