@@ -9,8 +9,8 @@ use bitmaps::word::Word;
 use gather::probes::Probes;
 use plan::table::Plan;
 
-// Where the blanks of a turn are sought: among its noes, or among all due rows where these are the whole block, which is
-// gone through faster.
+// Where the blanks of a turn are sought: among its noes, or among all due rows where these are the whole block, which
+// is gone through faster.
 fn rows_of_no(due: u64, met: u64) -> u64
     ensures { NoesIn due met result }
 {
@@ -20,8 +20,8 @@ fn rows_of_no(due: u64, met: u64) -> u64
     sets::minus(due, met)
 }
 
-// The rows of the block at which predicate c was probed with outcome blank. The two tables are lent one by one: of a slice
-// in a struct the check does not know that what stands there are bytes, and the bits of a word rest on that.
+// The rows of the block at which predicate c was probed with outcome blank. The two tables are lent one by one: of a
+// slice in a struct the check does not know that what stands there are bytes, and the bits of a word rest on that.
 fn blank_rows(catalogue: &[u8], plan: &Plan, probed: &[u8], met: &[u8], c: usize, base: Base) -> u64
     requires { HasProbesAt catalogue.now plan.now probed.now met.now c }
     ensures { BlankRows catalogue.now plan.now probed.now met.now c base.row result }

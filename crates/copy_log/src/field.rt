@@ -17,8 +17,8 @@ impl ProbeField {
     pub const PAYLOAD_SIZE: u8 = 4;
 }
 
-// Writes the field of a probe from `at` on and gives the place behind it. The outcome is the format's byte: of a row two
-// sets of turns tell it, and no `Outcome` is made.
+// Writes the field of a probe from `at` on and gives the place behind it. The outcome is the format's byte: of a row
+// two sets of turns tell it, and no `Outcome` is made.
 fn put_probe(out: &mut [u8], at: usize, row: usize, c: u8, outcome: u8) -> usize
     requires { at + probe_field_size ≤ length out.old }
     ensures { Wrote at (probe_field row c outcome) out.old result out.new }
@@ -36,8 +36,8 @@ fn put_probe(out: &mut [u8], at: usize, row: usize, c: u8, outcome: u8) -> usize
     fields::output::put(out, at, &field)
 }
 
-// Writes the fields of a row in the turns' sequence: of the turns of `due`, each with a yes where it is in `met`, a blank
-// where it is in `blank`.
+// Writes the fields of a row in the turns' sequence: of the turns of `due`, each with a yes where it is in `met`, a
+// blank where it is in `blank`.
 pub fn put_row(
     out: &mut [u8],
     at: usize,
@@ -54,8 +54,8 @@ pub fn put_row(
     let mut end = at;
     for i in Numbers(due) {
         let c = turns[usize::from(i)];
-        // The cast is `as`: by `u8::from` a copy takes up to a sixth longer. Of 12 conditions over four columns it takes
-        // 1.20 times as long as the copy of the engine written by hand, by `as` 1.04 times.
+        // The cast is `as`: by `u8::from` a copy takes up to a sixth longer. Of 12 conditions over four columns it
+        // takes 1.20 times as long as a copy by the engine written by hand, by `as` 1.04 times.
         let outcome = sets::has(met, i) as u8 + 2 * (sets::has(blank, i) as u8);
         end = put_probe(out, end, row, c, outcome);
     }

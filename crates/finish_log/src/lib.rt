@@ -12,8 +12,8 @@ use gather::probes::Probes;
 use marks::MarkTable;
 use plan::table::Plan;
 
-// Ends a copy whose own table and plan are these: refusal 20, or the length and the fields. MarksOf has the table's size
-// for the theorems on the log, so the table is lent as a slice.
+// Ends a copy whose own table and plan are these: refusal 20, or the length and the fields. The table is a slice:
+// MarksOf says its size, and the theorems on its two halves take it from there.
 pub fn finish_log(
     catalogue: &[u8],
     plan: &Plan,

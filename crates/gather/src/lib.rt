@@ -1,5 +1,5 @@
-// The marks of a block by row: words with a bit for each of 64 rows, one for each turn, made into sets of turns, one for
-// each row.
+// The marks of a block by row: words with a bit for each of 64 rows, one for each turn, made into sets of turns, one
+// for each row.
 #![tactic(auto)]
 
 ghost use Rattle.std.specs.Prelude.{◌<◌, ◌≤◌, length};
@@ -41,7 +41,8 @@ pub fn add_turn(gathered: &mut [u64; Word::ROWS], word: u64, i: u8)
     }
 }
 
-// Turn after turn, adds turn i to the rows of the word that a rule gives for its predicate.
+// Turn after turn, adds turn i to the rows of the word that a rule gives for its predicate. At most 64 turns: `as u8`
+// loses nothing.
 pub fn gather_words<F: Fn(usize) -> u64>(turns: &[u8], word_of: F) -> [u64; Word::ROWS]
     requires { (length turns.now ≤ turn_limit) × AtTurns turns.now (F.pre word_of) }
     ensures { GatheredBy (F.post word_of) turns.now result }
@@ -53,7 +54,8 @@ pub fn gather_words<F: Fn(usize) -> u64>(turns: &[u8], word_of: F) -> [u64; Word
     gathered
 }
 
-// The turns whose predicates are marked in the table, for each row of the block. The table is either of those of Probes.
+// The turns whose predicates are marked in the table, for each row of the block. The table is either of those of
+// Probes: its lines are asked for here, so that one function serves both.
 pub fn gather(turns: &[u8], table: &[u8], base: Base) -> [u64; Word::ROWS]
     requires { HasLines turns.now table.now }
     ensures { TurnsFor turns.now table.now base.row result }
