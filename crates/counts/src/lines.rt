@@ -30,10 +30,8 @@ fn ones_across(table: &[u8], at: usize) -> u64
 // The number of ones in the bytes from i on of each of n lines, line by line.
 fn count_each_line(lines: Lines, first: usize, n: usize, i: usize) -> u64
     requires { (n ≤ 7) × (first + n ≤ lines.n) × (i ≤ lines.size) }
-    ensures {
-        (result ≡ ones_in (lines_of (lines.entry.size - i) (drop (first * line_size + i) lines.entry.table.now) n))
-        × (result ≤ 8 * (n * (lines.entry.size - i)))
-    }
+    ensures { (result ≡ ones_in (lines_of (lines.entry.size - i) (drop (first * line_size + i) lines.entry.table.now) n))
+        × (result ≤ 8 * (n * (lines.entry.size - i))) }
 {
     let mut sum = 0;
     for c in 0..n {
@@ -46,10 +44,8 @@ fn count_each_line(lines: Lines, first: usize, n: usize, i: usize) -> u64
 // The number of ones in seven lines, side by side where eight bytes remain.
 fn count_seven_lines(lines: Lines, first: usize) -> u64
     requires { first + 7 ≤ lines.n }
-    ensures {
-        (result ≡ ones_in (lines_of lines.entry.size (drop (first * line_size) lines.entry.table.now) 7))
-        × (result ≤ 8 * (7 * lines.entry.size))
-    }
+    ensures { (result ≡ ones_in (lines_of lines.entry.size (drop (first * line_size) lines.entry.table.now) 7))
+        × (result ≤ 8 * (7 * lines.entry.size)) }
 {
     let line = first * Line::SIZE;
     let mut sum = 0;
@@ -64,10 +60,8 @@ fn count_seven_lines(lines: Lines, first: usize) -> u64
 // `Lines`: `copy_lines` does not ask it.
 pub fn count_lines(lines: Lines) -> u64
     requires { length lines.table.now < 2 ^ 61 }
-    ensures {
-        (result ≡ ones_in (lines_of lines.entry.size lines.entry.table.now lines.entry.n))
-        × (result ≤ 8 * (lines.entry.n * lines.entry.size))
-    }
+    ensures { (result ≡ ones_in (lines_of lines.entry.size lines.entry.table.now lines.entry.n))
+        × (result ≤ 8 * (lines.entry.n * lines.entry.size)) }
 {
     let mut sum = 0;
     let sevens = lines.n / 7;
@@ -87,10 +81,8 @@ fn whole_words(lines: Lines) -> usize
 // The same where all bits behind those bytes are zeros: counted to the end of a word, so that no byte is counted by itself.
 pub fn count_whole_lines(lines: Lines) -> u64
     requires { (length lines.table.now < 2 ^ 61) × NoneBehind lines.size lines.n lines.table.now }
-    ensures {
-        (result ≡ ones_in (lines_of lines.entry.size lines.entry.table.now lines.entry.n))
-        × (result ≤ 8 * (lines.entry.n * line_size))
-    }
+    ensures { (result ≡ ones_in (lines_of lines.entry.size lines.entry.table.now lines.entry.n))
+        × (result ≤ 8 * (lines.entry.n * line_size)) }
 {
     let whole = Lines {
         table: lines.table,
