@@ -1,44 +1,11 @@
--- A number as std prints it, a line written piece by piece, and the digits of a number one behind the other.
-use Rattle.std.specs.Prelude.{ℕ, zero, suc, ◌+◌, ◌/◌, ◌%◌, ◌^◌, ◌≤◌, ◌<◌, ◌≡◌, List, [], ◌∷◌, ◌++◌, length, set}
+-- The digits of a number, a number and a line, written piece by piece.
+use Rattle.std.specs.Prelude.{ℕ, suc, ◌+◌, ◌/◌, ◌%◌, ◌^◌, ◌≤◌, ◌<◌, ◌≡◌, List, [], ◌∷◌, length, set}
 use Rattle.std.proofs.Common.{arith, sym, ap, ◌∙◌, length-append}
-use Rattle.std.specs.Fmt as fmt
-use Rattle.std.proofs.lemmas.Fmt.{decimal_by_steps, length-decimal-le}
 use Rattle.fields.specs.Decimal.{digits_of, decimal}
 use Rattle.fields.specs.Output.{Wrote}
 use Rattle.fields.proofs.DecimalLaws.{digits_more, digits_none, digits_few, decimal_zero, decimal_more}
 use Rattle.fields.proofs.OutputLaws.{wrote_then, wrote_none, wrote_same, wrote_byte}
 use Rattle.lines.specs.Line.{number_room, line}
-
--- a number's digits are those that std prints
-decimal_one : (x : ℕ) → x < 10 → decimal x ≡ (48 + x) ∷ []
-decimal_one zero l = decimal_zero
-decimal_one (suc x) l =
-    let tenth : suc x / 10 ≡ 0 = omega arith in
-    let same : suc x % 10 ≡ suc x = omega arith in
-    decimal_more (suc x) (omega arith) ∙ rw (digits_more (suc x) (omega arith), tenth, same, digits_none)
-
-decimal_next : (x : ℕ) (text : List ℕ) → 10 ≤ x → decimal (x / 10) ≡ text → decimal x ≡ text ++ ((48 + x % 10) ∷ [])
-decimal_next x text l e =
-    decimal_more x (omega arith) ∙ digits_more x (omega arith)
-    ∙ ap (λ (ds : List ℕ). ds ++ ((48 + x % 10) ∷ [])) (sym (decimal_more (x / 10) (omega arith)) ∙ e)
-
-pub decimal_printed : (x : ℕ) → x < 2 ^ 64 → decimal x ≡ fmt.decimal x
-decimal_printed = decimal_by_steps (λ x text. decimal x ≡ text) decimal_one decimal_next
-
-module _ {x : ℕ} {text : List ℕ} (small : x < 2 ^ 64) (printed : text ≡ fmt.decimal x) where
-  -- there is room for what is printed of an eight-byte number
-  pub printed_length : length text ≤ number_room
-  printed_length = rw printed (length-decimal-le number_room x (omega arith) (omega arith) small)
-
-  pub number_printed : {at r : ℕ} {old new : List ℕ} → Wrote at text old r new → Wrote at (decimal x) old r new
-  number_printed = wrote_same (printed ∙ sym (decimal_printed x small))
-
-pub line_end : {at number end r : ℕ} {label old a b new : List ℕ} (x : ℕ) → end ≤ length old
-    → Wrote at label old number a → Wrote number (decimal x) a end b → Wrote end (10 ∷ []) b r new → Wrote at (line label x) old r new
-unfolding line
-line_end x l u v w = wrote_then l (wrote_then (omega (arith, v.place)) u v) w
-
--- DIGIT BY DIGIT
 
 -- an eight-byte number has no more digits than there is room for
 pub digits_length : (x : ℕ) → x < 2 ^ 64 → length (digits_of x) ≤ number_room
@@ -64,3 +31,8 @@ number_zero e w = wrote_same (sym (ap decimal e ∙ decimal_zero)) w
 
 pub number_more : {at x r : ℕ} {old new : List ℕ} → 0 < x → Wrote at (digits_of x) old r new → Wrote at (decimal x) old r new
 number_more {x = x} l w = wrote_same (sym (decimal_more x l)) w
+
+pub line_end : {at number end r : ℕ} {label old a b new : List ℕ} (x : ℕ) → end ≤ length old
+    → Wrote at label old number a → Wrote number (decimal x) a end b → Wrote end (10 ∷ []) b r new → Wrote at (line label x) old r new
+unfolding line
+line_end x l u v w = wrote_then l (wrote_then (omega (arith, v.place)) u v) w

@@ -3,19 +3,33 @@
 #![tactic(auto)]
 
 ghost use Rattle.std.specs.Prelude.{◌+◌, ◌≤◌, length};
-ghost use Rattle.fields.specs.Decimal.{decimal};
+ghost use Rattle.fields.specs.Decimal.{digits_of, decimal};
 ghost use Rattle.fields.specs.Output.{Wrote};
 ghost use Rattle.lines.specs.Line.{number_room, line, line_room};
 
-use itoa::Buffer;
+// The digits of a number, none for 0. By hand: std's printing (`write!`, Display) promises its bytes where it answers Ok,
+// and this cannot fail; a library of the kit for it would be one more to trust.
+fn put_digits(out: &mut [u8], at: usize, x: u64) -> usize
+    requires { at + length (digits_of x) ≤ length out.old }
+    ensures { Wrote at (digits_of x) out.old result out.new }
+{
+    if x == 0 {
+        return at;
+    }
+    let last = put_digits(out, at, x / 10);
+    // Below 58, so that `as u8` loses nothing.
+    out[last] = (48 + x % 10) as u8;
+    last + 1
+}
 
-// By the kit's `itoa`: std's own printing, `write!` to a writer of ours or `InlineText`, promises its bytes only where it
-// gives Ok or cuts nothing, and no clause of it says that it does.
 pub fn put_number(out: &mut [u8], at: usize, x: u64) -> usize
     requires { at + number_room ≤ length out.old }
     ensures { Wrote at (decimal x) out.old result out.new × (result ≤ at + number_room) }
 {
-    fields::output::put(out, at, Buffer::new().format(x).as_bytes())
+    if x == 0 {
+        return fields::output::put(out, at, b"0");
+    }
+    put_digits(out, at, x)
 }
 
 pub fn put_line(out: &mut [u8], at: usize, label: &[u8], x: u64) -> usize
