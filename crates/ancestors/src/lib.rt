@@ -1,5 +1,5 @@
-// The groups around each predicate, the innermost first: a line of the table for each predicate, with how many there are and
-// of each the first predicate, the end of its predicates and its tag.
+// The groups around each predicate, the innermost first: a line of the table for each predicate, with how many there
+// are and of each the first predicate, the end of its predicates and its tag.
 #![tactic(auto)]
 
 ghost use Rattle.std.specs.Prelude.{◌+◌, ◌*◌, ◌≤◌, ◌<◌, ◌≡◌, length, get_or};
@@ -7,8 +7,8 @@ ghost use Rattle.ancestors.specs.Ancestors.{ancestor_size, ancestors_size, ances
 
 use query::format::{Group, Predicate};
 
-// The table is bytes, three for an ancestor: as values of `Ancestor`, of 24 bytes, it would take 12 KB of a call's stack,
-// not 1.6, and `propagate_rows`, whose contract has it as bytes (`HasAncestors`), would ask for another.
+// The table is bytes, three for an ancestor: what `close_group` and `propagate_rows` promise (`Closed`, `HasAncestors`,
+// `ancestors_of`) is told of these bytes.
 #[derive(Drop)]
 pub struct Ancestors;
 

@@ -12,8 +12,8 @@ impl Word {
 }
 
 // Puts the bits of x into a table from a byte on: document 01's row rule for 64 rows, the least significant byte first.
-// The whole table is lent, with the place: `WordPut` says of its other bits that they stay, which each caller would else
-// prove. The tables differ in size: one line for the rows selected, 64 or 128 for the marks.
+// The whole table is lent, with the place: `WordPut` says of its other bits that they stay, which each caller would
+// else prove. The tables differ in size: one line for the rows selected, 64 or 128 for the marks.
 pub fn put_word(table: &mut [u8], at: usize, x: u64)
     requires { at + word_size ≤ length table.old }
     ensures { WordPut table.old at x table.new }

@@ -20,8 +20,8 @@ fn rows_of_no(due: u64, met: u64) -> u64
     sets::minus(due, met)
 }
 
-// The rows of the block at which predicate c was probed with outcome blank. The two tables are lent one by one: of a
-// slice in a struct the check does not know that what stands there are bytes, and the bits of a word rest on that.
+// The rows of the block at which predicate c was probed with outcome blank. The two tables are lent one by one: that
+// they hold bytes, on which the bits of a word rest, `Probes` does not say of its slices.
 fn blank_rows(catalogue: &[u8], plan: &Plan, probed: &[u8], met: &[u8], c: usize, base: Base) -> u64
     requires { HasProbesAt catalogue.now plan.now probed.now met.now c }
     ensures { BlankRows catalogue.now plan.now probed.now met.now c base.row result }

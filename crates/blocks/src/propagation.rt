@@ -14,8 +14,8 @@ fn pass_ancestor(ancestors: &[u8], i: usize, live: &mut [u64], active: u64, met:
     crate::group::pass_group(live, group, active, met)
 }
 
-// Through the groups around predicate c, after its probe at the due rows with the outcome yes at those of met; the rows at
-// which the propagation passed the outermost group, so that the outcome is the query's value.
+// Through the groups around predicate c, after its probe at the due rows with the outcome yes at those of met; the rows
+// at which the propagation passed the outermost group, so that the outcome is the query's value.
 pub fn propagate_rows(ancestors: &[u8], c: usize, live: &mut [u64], due: u64, met: u64) -> u64
     requires { HasAncestors ancestors.now c (length live.old) }
     ensures { Propagated (ancestors_of ancestors.now c) met due result live.old live.new }

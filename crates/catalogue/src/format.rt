@@ -14,8 +14,8 @@ pub struct Column;
 impl Column {
     pub const LIMIT: usize = 16;
 
-    // A column's kind stays its byte: `payload_is_valid`, `read_query` and `outcome_at` take the tags as lent bytes,
-    // whatever they are.
+    // A column's kind stays its byte: `payload_is_valid` and `read_query` are lent the tags of all columns and answer
+    // for any byte.
     pub const NUMBER_TAG: u8 = 78;
 
     pub const TEXT_TAG: u8 = 84;

@@ -1,5 +1,5 @@
-// The counts alone, as calls of an archive of their own, for the benchmark and the tests: no part of the engine. Tables,
-// lines and sizes come as C lends them.
+// The counts alone, as calls of an archive of their own, for the benchmark and the tests: no part of the engine.
+// Tables, lines and sizes come as C lends them.
 #![tactic(auto)]
 
 ghost use Rattle.std.specs.Prelude.{◌≡◌};

@@ -22,7 +22,8 @@ fn full_adder(x: u64, y: u64, z: u64) -> Added
     }
 }
 
-// The ones of seven words. At each bit they add up to a number of three binary digits: three words to count, of ones, twos and fours.
+// The ones of seven words. At each bit they add up to a number of three binary digits: three words to count, of ones,
+// twos and fours.
 pub fn ones_of_seven(a: u64, b: u64, c: u64, d: u64, e: u64, f: u64, g: u64) -> u64
     ensures { (result ≡ ones a + ones b + ones c + ones d + ones e + ones f + ones g) × (result ≤ 7 * 64) }
 {

@@ -1,4 +1,5 @@
-// Counts: the ones of a table, and of the lines of a run's own tables, with eight bytes as one number where eight remain.
+// Counts: the ones of a table, and of the lines of a run's own tables, with eight bytes as one number where eight
+// remain.
 #![tactic(auto)]
 
 pub mod adder;

@@ -56,8 +56,8 @@ fn count_seven_lines(lines: Lines, first: usize) -> u64
     sum + count_each_line(lines, first, 7, words * Word::SIZE)
 }
 
-// The number of ones in lines: in what copy_lines copies of them. That the table is shorter than 2^61 bytes is no part of
-// `Lines`: `copy_lines` does not ask it.
+// The number of ones in lines: in what copy_lines copies of them. That the table is shorter than 2^61 bytes is no part
+// of `Lines`: `copy_lines` does not ask it.
 pub fn count_lines(lines: Lines) -> u64
     requires { length lines.table.now < 2 ^ 61 }
     ensures { (result ≡ ones_in (lines_of lines.entry.size lines.entry.table.now lines.entry.n))
@@ -78,7 +78,8 @@ fn whole_words(lines: Lines) -> usize
     (lines.size + 7) / Word::SIZE * Word::SIZE
 }
 
-// The same where all bits behind those bytes are zeros: counted to the end of a word, so that no byte is counted by itself.
+// The same where all bits behind those bytes are zeros: counted to the end of a word, so that no byte is counted by
+// itself.
 pub fn count_whole_lines(lines: Lines) -> u64
     requires { (length lines.table.now < 2 ^ 61) × NoneBehind lines.size lines.n lines.table.now }
     ensures { (result ≡ ones_in (lines_of lines.entry.size lines.entry.table.now lines.entry.n))

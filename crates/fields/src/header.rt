@@ -3,8 +3,8 @@ ghost use Rattle.std.specs.Prelude.{◌≡◌, ◌+◌, ◌≤◌, length};
 ghost use Rattle.fields.specs.Header.{header_size, field_end, header_at, Inside, header_of};
 ghost use Rattle.fields.specs.Output.{Wrote};
 
-// A field, told by its header: the payload is the bytes from start up to end. The tag is any byte: catalogue, question and
-// output have tags of their own, and each reader refuses the others by a number of its own.
+// A field, told by its header: the payload is the bytes from start up to end. The tag is any byte: catalogue, question
+// and output have tags of their own, and each reader refuses the others by a number of its own.
 #[derive(Clone, Copy)]
 pub struct Field {
     pub tag: u8,

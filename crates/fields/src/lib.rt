@@ -1,4 +1,5 @@
-// Document 01's fields: numbers with the most significant byte first, the header of a field, and the counter; and the writing of an output.
+// Document 01's fields: numbers with the most significant byte first, the header of a field, and the counter; and the
+// writing of an output.
 #![tactic(auto)]
 
 pub mod counter;

@@ -17,8 +17,8 @@ pub struct Pair {
 }
 
 // The first byte that is no loose letter; the operand's first where all are.
-// That the operand is not empty is a clause, here, of `pair_of` and of `contains_rows`: a type for that alone would be
-// built in `sift`, for one call of each, and opened at every byte.
+// That the operand is not empty is a clause here, of `pair_of`, `contains_rows` and `sift`: a type for it would be made
+// once, for `sift`, and its slice taken out again in each.
 fn first_place(fold: Fold, operand: &[u8]) -> usize
     requires { (0 < length operand.now) }
     ensures { result < length operand.now }

@@ -17,8 +17,8 @@ use bitmaps::copy::Lines;
 use fields::counter::Counter;
 
 // Ends a run whose own tables are these, with lines of this size: refusal 17, or the results, the lent tables and its
-// reader's counter. `listed`, `looks` and `tally` are C's. n and size stand beside the run's own tables, which have
-// room for the most predicates and rows.
+// reader's counter. `listed`, `looks` and `tally` are C's. The run's own tables have room for the most predicates and
+// rows; `Lines` is made of them where they are counted.
 pub fn finish(
     selected: &[u8],
     probed: &[u8],

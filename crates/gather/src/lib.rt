@@ -14,8 +14,8 @@ use bitmaps::copy::Line;
 use bitmaps::word::Word;
 use sets::numbers::Numbers;
 
-// Adds turn i to all rows, with no branch on them. By number, not by `iter_mut`: a constant number of rows, so vector
-// code with no rest.
+// Adds turn i to all rows, with no branch on them: a loop of constant length, which becomes vector code. By number, as
+// `Added` tells the rows.
 fn add_to_all(gathered: &mut [u64; Word::ROWS], i: u8)
     requires { i < turn_limit }
     ensures { Added (below_set block_rows) i gathered.old gathered.new }

@@ -4,9 +4,9 @@ ghost use Rattle.fields.specs.Numbers.{Bytes};
 ghost use Rattle.heads.specs.Block.{HasDueRows, IsWithin};
 
 // Bit d of `due` is row base + d of the column of this tag whose payload starts there in b, the catalogue's bytes.
-// Every due row is a row of that column; that b holds bytes is said for those who hand it on and read none. The tag
-// that a leaf wants is one equation in its contract: a type for each tag, over this one, would be made at the seven
-// calls of the leaves in `scan::met` and opened in each leaf.
+// Every due row is a row of that column. `bytes` says that b holds bytes, which is not known of a slice in a struct.
+// The tag that a leaf wants is one equation in its contract: a type for each tag, over this one, would be made at the
+// seven calls of the leaves in `scan::met` and opened in each leaf.
 #[derive(Clone, Copy)]
 pub struct DueRows<'a> {
     pub b: &'a [u8],

@@ -7,8 +7,9 @@ ghost use Rattle.fields.specs.Decimal.{digits_of, decimal};
 ghost use Rattle.fields.specs.Output.{Wrote};
 ghost use Rattle.lines.specs.Line.{number_room, line, line_room};
 
-// The digits of a number, none for 0. By hand: std's printing (`write!`, Display) promises its bytes where it answers Ok,
-// and this cannot fail; a library of the kit for it would be one more to trust.
+// The digits of a number, none for 0. By hand: of std's printing `write!` promises its bytes on Ok alone,
+// `InlineText::of` them or a cut text, and this can give neither. The kit's `itoa` would be one library more that is
+// taken as built.
 fn put_digits(out: &mut [u8], at: usize, x: u64) -> usize
     requires { at + length (digits_of x) ≤ length out.old }
     ensures { Wrote at (digits_of x) out.old result out.new }

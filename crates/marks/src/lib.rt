@@ -16,7 +16,7 @@ impl MarkTable {
 
 // Puts the due rows of predicate c into its line, in the block at base, and those of a yes into theirs, if the table
 // has it. The table is a slice: its length tells whether it has lines for a yes. The base is a number, as in the block
-// that rows works: MarkReady says where a block may begin, with what else is asked of it.
+// that rows works: `BlockReady` says there where it may be.
 pub fn mark(marks: &mut [u8], c: usize, base: usize, due: u64, met: u64)
     requires { MarkReady c base marks.old }
     ensures { Marked c base due met marks.old marks.new }

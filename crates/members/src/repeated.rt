@@ -11,7 +11,7 @@ use fields::header::Header;
 use records::Predicates;
 
 // Eight bytes at a time, then one by one: `a == b` takes up to twice as long where texts of one column and kind are
-// told apart, `chunks_exact` with `zip` and `all` some hundredths more.
+// told apart; `chunks_exact` with `zip` and `all` took a little longer too.
 fn same_bytes(a: &[u8], b: &[u8]) -> bool
     ensures { result ≡ same a.now b.now }
 {

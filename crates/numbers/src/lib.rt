@@ -85,7 +85,7 @@ fn due_within(rows: DueRows, range: Range) -> u64
 }
 
 // The same, by the shorter way. Not by `met_where`, which asks one test on both ways: a whole block's reads the four
-// bytes in the order that becomes vector code, and the loop over due rows has no use for that.
+// bytes in the order that becomes vector code, the other way by `number_at`.
 pub fn numbers_within(rows: DueRows, range: Range) -> u64
     requires { rows.tag ≡ number_tag }
     ensures { let r = rows.entry in

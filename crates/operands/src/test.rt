@@ -29,8 +29,8 @@ impl NumberLimit {
 }
 
 // Behind "in ": two numbers with two dots between them. Here and in conditions `text`, `at`, `out` and `end` are no
-// struct: one that holds the `&mut` would add to every contract that it holds the same output at the end
-// (`ghost_name`), and `HasRoom` is another fact at each place that is read or written.
+// struct: one that holds the `&mut` would add to every contract that it holds the same output at the end, and `HasRoom`
+// is another fact at each place that is read or written. Text and place would be put together anew at each step.
 fn read_range(text: &[u8], at: usize, out: &mut [u8], end: usize) -> Option<Test>
     requires { HasRoom text.now at out.old end }
     ensures { TestRead text.now at (range_ahead (drop at text.now)) end out.old result out.new }

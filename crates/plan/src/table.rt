@@ -8,8 +8,8 @@ ghost use Rattle.plan.specs.Plan.{access_of, HasColumn, HasColumns, Planned};
 use query::format::Predicate;
 use records::{PredicateRecord, Predicates};
 
-// Where a predicate's outcome comes from: its column's tag and start in the catalogue, its kind, its operand's place and
-// length in the query. Tag and kind are the formats' bytes, which `outcome_at` and `met_at` are handed.
+// Where a predicate's outcome comes from: its column's tag and start in the catalogue, its kind, its operand's place
+// and length in the query. Tag and kind stay the formats' bytes, as in the tags and the record that they come from.
 #[derive(Clone, Copy, PartialEq, Eq, Debug)]
 pub struct Access {
     pub tag: u8,

@@ -3,7 +3,7 @@ use ancestors::Ancestors;
 use query::format::Predicate;
 
 // Of the predicates read so far: offsets[c] is where the field of predicate c begins, line c of ancestors tells the
-// groups around it. How many there are is no field: `read_query` answers it, on the way `Progress` with the place.
+// groups around it. How many there are is no field: while a group is read it goes on with the place (`Progress`).
 #[derive(Drop)]
 pub struct Tables {
     pub offsets: [usize; Predicate::LIMIT],

@@ -104,7 +104,7 @@ pub fn write_refused(number: u64, out: &mut [u8]) -> usize
 }
 
 // The register of a run that gave this number, to the front of the output; its length. The number is bits 0 to 7 of the
-// word that the exported `searchroom_run` gives, 0 where nothing is refused: `register_of` is defined at every number,
+// word that `searchroom_run` gives, 0 where nothing is refused: `register_of` is defined at every number,
 // and a Result would be made of it here only to be taken apart again.
 pub fn write_register(number: u64, run: Run, out: &mut [u8]) -> usize
     requires { (bytes_for run.rows ≤ length run.listed.now) × (run.n * bytes_for run.rows ≤ length run.looks.now)

@@ -19,9 +19,9 @@ pub struct Extent {
 }
 
 // Marks the rows that are selected, and of each predicate the rows at which it is probed and, in a longer table, those
-// of a yes. Both tables are lent, empty at the call and no longer after the first block, so that no type can say it;
-// made here and handed back by value, their 16 or 32 KB are copied at each return, of this function, of `work` and of
-// `work_run` (tried on three functions like them: the code built has a memcpy in each).
+// of a yes. Both tables are lent, empty at the call: an edit of `run` lends a table of ones
+// (worked_in_a_table_of_ones), which a type of empty tables would exclude. Made here and handed back by value, their 16
+// or 32 KB would be copied at the returns of three functions.
 pub fn work_rows(
     catalogue: &[u8],
     question: &[u8],

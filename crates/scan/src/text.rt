@@ -20,7 +20,7 @@ pub fn texts_blank(rows: DueRows) -> u64
 }
 
 // The due rows whose texts pass the test of a kind below the opposites, each text handed on as a part. The way of
-// contains.
+// contains, and of one row alone.
 fn texts_one_by_one(fold: Fold, rows: DueRows, kind: u8, operand: &[u8]) -> u64
     requires { rows.tag ≡ text_tag }
     ensures { let r = rows.entry in KeptBy (λ d. text_test kind operand.now (text_of r.b.now r.start (r.base + d))) r.due result }

@@ -1,4 +1,4 @@
-// The engine's exported calls: numbers and byte slices in, one packed word out.
+// The engine's calls, which `searchroom_c` exports: numbers and byte slices in, one packed word out.
 #![tactic(auto)]
 
 pub mod catalogue_call;

@@ -9,8 +9,8 @@ ghost use Rattle.sets.specs.Gathered.{bit_of, HalfWhere};
 
 pub mod numbers;
 
-// `d < 64` stands in `has`, `single` and `with`: with a type for such numbers each of their callers, which have a byte at
-// hand, would have to build a value of it first.
+// No type says `d < 64`, which `has`, `single` and `with` ask: what their callers have is a byte of an order or a
+// counter, and they ask once of each.
 
 // Is d in the set.
 pub fn has(x: u64, d: u8) -> bool
@@ -83,8 +83,8 @@ pub fn kept(test: bool, x: u64) -> u64
     if test { x } else { 0 }
 }
 
-// `MayAsk` stands in `kept_where`, `all_where` and `met_where`: it is of the closure and of x together, and the type of a
-// closure is its caller's, so that no field could hold it.
+// `MayAsk` stands in the four below: a struct of x and the test that holds it would be made at each call, for that call
+// alone.
 
 // The numbers of a set at which a test passes, lowest first: no branch on what the test answers.
 pub fn kept_where<F: Fn(u8) -> bool>(x: u64, test: F) -> u64
@@ -122,8 +122,8 @@ pub fn all_where<F: Fn(u8) -> bool>(test: F) -> u64
     u64::from(half_where(0, &test)) + 0x1_0000_0000 * u64::from(half_where(32, &test))
 }
 
-// The same, one after the other and the last first, so that no answer is shifted to its place: for a test that is a loop
-// itself. By halves a run of "contains" takes 7 % more instructions, and up to a fifth longer.
+// The same, one after the other and the last first, so that no answer is shifted to its place: for a test that is a
+// loop itself. By halves a run of "contains" takes 7 % more instructions, and up to a fifth longer.
 pub fn all_in_turn<F: Fn(u8) -> bool>(test: F) -> u64
     requires { MayAsk (F.pre test) (below_set 64) }
     ensures { KeptWhere (F.post test) (below_set 64) result }
