@@ -1,5 +1,5 @@
 -- What the calls that only read give, from what was decoded.
-use Rattle.std.specs.Prelude.{ℕ, ◌≡◌, ◌&&◌, cond, length, ltb}
+use Rattle.std.specs.Prelude.{ℕ, ◌&&◌, cond, length, ltb}
 use Rattle.fields.specs.Decoded.{Decoded, refused, accepted}
 use Rattle.catalogue.specs.Catalogue.{Catalogue}
 use Rattle.predicate.specs.declared.outcome.Outcome.{Outcome}
@@ -8,7 +8,6 @@ use Rattle.predicate.specs.Meaning.{outcome}
 use Rattle.task.specs.Task.{predicate_at}
 use Rattle.task.specs.Input.{Input}
 use Rattle.answers.specs.Answer.{Answer, Refused, Accepted}
-use Rattle.answers.specs.Word.{FitsWord}
 use Rattle.answers.specs.Refusals.{no_such_row_or_predicate}
 
 -- "a catalogue check gives E and C"
@@ -34,7 +33,3 @@ outcome_answer (accepted i) row c =
     cond (ltb row i.catalogue.rows && ltb c (length i.query.predicates))
     (Accepted (outcome_number (outcome i.catalogue (predicate_at i.query c) row)) 0 0)
     (Refused no_such_row_or_predicate)
-
--- an answer that is the definition's and has room in the word
-abbrev pub Answered : (expected : Answer) → Answer → Type 0
-Answered e a = (a ≡ e) × FitsWord a

@@ -2,6 +2,7 @@
 // the size of the tally.
 #![tactic(auto)]
 
+pub mod answer;
 pub mod refusal;
 pub mod tally;
 pub mod word;

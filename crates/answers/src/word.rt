@@ -1,17 +1,10 @@
 // The packed word in which a call's results travel to C.
 ghost use Rattle.std.specs.Prelude.{◌≡◌};
-ghost use Rattle.answers.specs.Answer.{answer_of};
-ghost use Rattle.answers.specs.Word.{packed, FitsWord, number_in, first_in, third_in};
+ghost use Rattle.answers.specs.Answer.{answer_of, numbered};
+ghost use Rattle.answers.specs.Word.{packed, number_in, first_in, third_in};
 
+use crate::answer::Answer;
 use crate::refusal::Refusal;
-
-// What a call that is not refused gives: its results in the order of the call's description.
-#[derive(Clone, Copy)]
-pub struct Answer {
-    pub first: u64,
-    pub second: u64,
-    pub third: u64,
-}
 
 // Bits 0 to 7 the number, 8 to 23 the first result, 24 to 39 the second, 40 to 63 the third: the lowest bit of each
 // result.
@@ -26,9 +19,17 @@ impl PackedWord {
     pub const THIRD: u64 = 1 << 40;
 }
 
-pub fn pack(answer: Result<Answer, Refusal>) -> u64
-    requires { FitsWord (answer_of answer) }
-    ensures { result ≡ packed (answer_of answer) }
+// What a call gives, with a refusal by its number.
+pub fn numbered(answer: Result<Answer, Refusal>) -> Result<Answer, u8>
+    ensures { numbered result ≡ answer_of answer }
+{
+    answer.map_err(Refusal::number)
+}
+
+// A refusal is any byte here, also one that is no refusal's number: the word has room for each, and `packed` says what
+// it becomes.
+pub fn pack(answer: Result<Answer, u8>) -> u64
+    ensures { result ≡ packed (numbered answer) }
 {
     match answer {
         Ok(answer) => {
@@ -36,7 +37,7 @@ pub fn pack(answer: Result<Answer, Refusal>) -> u64
                 + PackedWord::SECOND * answer.second
                 + PackedWord::THIRD * answer.third
         }
-        Err(refusal) => u64::from(refusal.number()),
+        Err(number) => u64::from(number),
     }
 }
 

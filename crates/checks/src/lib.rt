@@ -1,18 +1,19 @@
 // The calls that only check: a catalogue, and a question against one.
 #![tactic(auto)]
 
+ghost use Rattle.std.specs.Prelude.{◌≡◌};
 ghost use Rattle.catalogue.specs.Decode.{decode_catalogue};
 ghost use Rattle.task.specs.Input.{decode_input};
 ghost use Rattle.answers.specs.Answer.{answer_of};
-ghost use Rattle.answers.specs.Answers.{catalogue_answer, question_answer, Answered};
+ghost use Rattle.answers.specs.Answers.{catalogue_answer, question_answer};
 
+use answers::answer::Answer;
 use answers::refusal::Refusal;
-use answers::word::Answer;
 use reading::tables::Tables;
 
 // The numbers of entries and of columns.
 pub fn check_catalogue(catalogue: &[u8]) -> Result<Answer, Refusal>
-    ensures { Answered (catalogue_answer (decode_catalogue catalogue.now)) (answer_of result) }
+    ensures { answer_of result ≡ catalogue_answer (decode_catalogue catalogue.now) }
 {
     let layout = layout::lay_out(catalogue)?;
     Ok(Answer {
@@ -24,7 +25,7 @@ pub fn check_catalogue(catalogue: &[u8]) -> Result<Answer, Refusal>
 
 // The number of conditions.
 pub fn check_question(catalogue: &[u8], question: &[u8]) -> Result<Answer, Refusal>
-    ensures { Answered (question_answer (decode_input catalogue.now question.now)) (answer_of result) }
+    ensures { answer_of result ≡ question_answer (decode_input catalogue.now question.now) }
 {
     let mut found = Tables::EMPTY;
     let begun = input::begin::begin(catalogue, question, &mut found)?;

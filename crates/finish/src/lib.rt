@@ -6,13 +6,13 @@ ghost use Rattle.query.specs.Format.{predicate_limit};
 ghost use Rattle.bitmaps.specs.Table.{line_size};
 ghost use Rattle.counts.specs.Whole.{NoneBehind};
 ghost use Rattle.answers.specs.Answer.{answer_of};
-ghost use Rattle.answers.specs.Word.{packed, FitsWord};
+ghost use Rattle.answers.specs.Word.{packed};
 ghost use Rattle.demands.specs.Run.{ran, reader_limit};
 ghost use Rattle.finish.specs.Finish.{finished, HasRoom};
 
+use answers::answer::Answer;
 use answers::refusal::Refusal;
 use answers::tally::Tally;
-use answers::word::Answer;
 use bitmaps::copy::Lines;
 use fields::counter::Counter;
 
@@ -32,9 +32,9 @@ pub fn finish(
     requires selected_len { (length selected.now ≡ line_size) × (length probed.now ≡ predicate_limit * line_size) × (n ≤ predicate_limit) × (size ≤ line_size) }
     requires has_room { HasRoom n size listed.old looks.old × (reader < reader_limit) }
     requires none_behind { NoneBehind size 1 selected.now × NoneBehind size n probed.now }
-    ensures { (ran (packed (answer_of result)) listed.new looks.new tally.new
+    ensures { ran (packed (answer_of result)) listed.new looks.new tally.new
         ≡ finished selected.now probed.now n size reader
-        listed.old looks.old tally.old) × FitsWord (answer_of result) }
+        listed.old looks.old tally.old }
 {
     if tally.len() != Tally::SIZE {
         return Err(Refusal::TallyRefused);

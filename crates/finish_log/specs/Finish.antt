@@ -11,7 +11,7 @@ use Rattle.task.specs.Task.{predicate_at, made_at}
 use Rattle.rows.specs.Worked.{Worked}
 use Rattle.task.specs.Input.{Input}
 use Rattle.answers.specs.Answer.{Answer}
-use Rattle.answers.specs.Word.{packed, FitsWord}
+use Rattle.answers.specs.Word.{packed}
 use Rattle.answers.specs.Checks.{checked}
 use Rattle.demands.specs.Run.{row_count, predicate_count, task_of}
 use Rattle.answers.specs.Written.{Written, written, refuse_writing}
@@ -37,6 +37,5 @@ unfoldable pub finished_log : Input → (order output : List ℕ) → Written
 finished_log i order output =
     checked (output_checks (task_of i order) output) (λ e. refuse_writing e output) (accept_log (made_at (task_of i order)) (task_of i order) output)
 
-pub record LogFinished (b : List ℕ) (plan : List Access) (order marks : List ℕ) (n rows : ℕ) (old : List ℕ) (a : Answer) (new : List ℕ) : Type 0 where
-  pub fits : FitsWord a
-  pub leaves : (i : Input) (q : List ℕ) → MarksOf i b q plan order marks n rows → written (packed a) new ≡ finished_log i order old
+abbrev pub LogFinished : (b : List ℕ) → (plan : List Access) → (order marks : List ℕ) → (n rows : ℕ) → (old : List ℕ) → Answer → (new : List ℕ) → Type 0
+LogFinished b plan order marks n rows old a new = (i : Input) (q : List ℕ) → MarksOf i b q plan order marks n rows → written (packed a) new ≡ finished_log i order old

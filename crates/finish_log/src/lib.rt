@@ -4,8 +4,8 @@
 ghost use Rattle.answers.specs.Answer.{answer_of};
 ghost use Rattle.finish_log.specs.Finish.{HasMarks, LogFinished};
 
+use answers::answer::Answer;
 use answers::refusal::Refusal;
-use answers::word::Answer;
 use bitmaps::copy::Lines;
 use copy_log::field::ProbeField;
 use gather::probes::Probes;

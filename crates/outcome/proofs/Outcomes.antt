@@ -19,12 +19,10 @@ use Rattle.answers.specs.declared.refusal.Refusal.{Refusal}
 use Rattle.answers.specs.Refusal.{refusal_number}
 use Rattle.answers.specs.Answer.{Refused, Accepted}
 use Rattle.answers.specs.Refusals.{no_such_row_or_predicate}
-use Rattle.answers.specs.Answers.{outcome_number, outcome_answer, Answered}
-use Rattle.answers.proofs.Outcomes.{outcome_small}
-use Rattle.answers.proofs.Refusals.{refused_fits}
+use Rattle.answers.specs.Answers.{outcome_number, outcome_answer}
 
-pub outcome_answer_refused : (d : Decoded Input) (row c : ℕ) (e : Refusal) → d ≡ refused (refusal_number e) → Answered (outcome_answer d row c) (Refused (refusal_number e))
-outcome_answer_refused d row c e h = (rw h, refused_fits e)
+pub outcome_answer_refused : (d : Decoded Input) (row c : ℕ) (e : Refusal) → d ≡ refused (refusal_number e) → Refused (refusal_number e) ≡ outcome_answer d row c
+outcome_answer_refused d row c e h = rw h
 
 -- the three ends of working out one condition, once the input is accepted
 module _ {b q : List ℕ} {r : Beginning} {T : Tables} (G : HasInput b q r T) (row c : ℕ) where
@@ -37,16 +35,13 @@ module _ {b q : List ℕ} {r : Beginning} {T : Tables} (G : HasInput b q r T) (r
   pub has_such_row : row < r.rows → row < G.input.catalogue.rows
   has_such_row h = omega (arith, same_rows)
 
-  pub no_such_row : r.rows ≤ row → Answered (outcome_answer (decode_input b q) row c) (Refused no_such_row_or_predicate)
-  no_such_row h = (rw (G.decoded, le-ltb row G.input.catalogue.rows (omega (arith, same_rows))), omega arith)
+  pub no_such_row : r.rows ≤ row → Refused no_such_row_or_predicate ≡ outcome_answer (decode_input b q) row c
+  no_such_row h = rw (G.decoded, le-ltb row G.input.catalogue.rows (omega (arith, same_rows)))
 
-  pub no_such_predicate : row < r.rows → r.n ≤ c → Answered (outcome_answer (decode_input b q) row c) (Refused no_such_row_or_predicate)
+  pub no_such_predicate : row < r.rows → r.n ≤ c → Refused no_such_row_or_predicate ≡ outcome_answer (decode_input b q) row c
   no_such_predicate g h =
-      (rw (G.decoded, has_row g, le-ltb c (length G.input.query.predicates) (omega (arith, G.tabled.count))), omega arith)
+      rw (G.decoded, has_row g, le-ltb c (length G.input.query.predicates) (omega (arith, G.tabled.count)))
 
   pub outcome_told : row < r.rows → c < r.n → (a : Outcome) (x : ℕ) → a ≡ outcome G.input.catalogue (predicate_at G.input.query c) row
-      → x ≡ outcome_number a → Answered (outcome_answer (decode_input b q) row c) (Accepted x 0 0)
-  outcome_told g h a x e f = (
-    rw (G.decoded, has_row g, lt-ltb c (length G.input.query.predicates) (omega (arith, G.tabled.count)), f, e),
-    omega (arith, outcome_small a),
-  )
+      → x ≡ outcome_number a → Accepted x 0 0 ≡ outcome_answer (decode_input b q) row c
+  outcome_told g h a x e f = rw (G.decoded, has_row g, lt-ltb c (length G.input.query.predicates) (omega (arith, G.tabled.count)), f, e)

@@ -5,10 +5,10 @@ ghost use Rattle.std.specs.Prelude.{◌≡◌};
 ghost use Rattle.task.specs.Input.{decode_input};
 ghost use Rattle.input.specs.Beginning.{HasInputOffsets};
 ghost use Rattle.answers.specs.Answer.{answer_of};
-ghost use Rattle.answers.specs.Answers.{outcome_number, outcome_answer, Answered};
+ghost use Rattle.answers.specs.Answers.{outcome_number, outcome_answer};
 
+use answers::answer::Answer;
 use answers::refusal::Refusal;
-use answers::word::Answer;
 use input::begin::Beginning;
 use plan::table::Columns;
 use predicate::fold::Fold;
@@ -36,7 +36,7 @@ fn outcome_accepted(
     condition: u64,
 ) -> Result<Answer, Refusal>
     requires { HasInputOffsets catalogue.now question.now begun offsets.now }
-    ensures { Answered (outcome_answer (decode_input catalogue.now question.now) entry condition) (answer_of result) }
+    ensures { answer_of result ≡ outcome_answer (decode_input catalogue.now question.now) entry condition }
 {
     if begun.rows as u64 <= entry {
         return Err(Refusal::NoSuchRowOrPredicate);
@@ -71,7 +71,7 @@ pub fn outcome_at(
     entry: u64,
     condition: u64,
 ) -> Result<Answer, Refusal>
-    ensures { Answered (outcome_answer (decode_input catalogue.now question.now) entry condition) (answer_of result) }
+    ensures { answer_of result ≡ outcome_answer (decode_input catalogue.now question.now) entry condition }
 {
     let mut found = Tables::EMPTY;
     let begun = input::begin::begin(catalogue, question, &mut found)?;

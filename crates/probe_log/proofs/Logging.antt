@@ -17,8 +17,7 @@ use Rattle.input.proofs.InHand.{input_short, input_accessed}
 use Rattle.answers.specs.declared.refusal.Refusal.{Refusal}
 use Rattle.answers.specs.Refusal.{refusal_number}
 use Rattle.answers.specs.Answer.{Answer, Refused}
-use Rattle.answers.proofs.Refusals.{refused_fits}
-use Rattle.answers.specs.Word.{packed, FitsWord}
+use Rattle.answers.specs.Word.{packed}
 use Rattle.answers.specs.Refusals.{not_order}
 use Rattle.answers.specs.Checks.{checked}
 use Rattle.answers.specs.Written.{written}
@@ -29,9 +28,9 @@ use Rattle.probe_log.specs.Sequence.{log_in_turn}
 use Rattle.finish_log.specs.Finish.{MarksOf, HasMarks, finished_log, LogFinished}
 
 pub log_refused : (b q order output : List ℕ) (e : Refusal) → decode_input b q ≡ refused (refusal_number e)
-    → (written (packed (Refused (refusal_number e))) output ≡ log_in_turn b q order output) × FitsWord (Refused (refusal_number e))
+    → written (packed (Refused (refusal_number e))) output ≡ log_in_turn b q order output
 unfolding log_of
-log_refused b q order output e h = (rw h, refused_fits e)
+log_refused b q order output e h = rw h
 
 module _ {b q : List ℕ} {r : Beginning} {T : Tables} (G : HasInput b q r T) (order : List ℕ) where
   pub log_not_order : (output : List ℕ) → is_order r.n order ≡ false → written (packed (Refused not_order)) output ≡ log_in_turn b q order output
@@ -59,6 +58,6 @@ module _ {b q : List ℕ} {r : Beginning} {plan : List Access} {ancestors : List
   pub has_marks : HasMarks b plan order marks r.n r.rows
   has_marks = (G.input, q, marks_of)
 
-  pub log_finished : {old new : List ℕ} {a : Answer} → LogFinished b plan order marks r.n r.rows old a new → (written (packed a) new ≡ log_in_turn b q order old) × FitsWord a
+  pub log_finished : (old new : List ℕ) (a : Answer) → LogFinished b plan order marks r.n r.rows old a new → written (packed a) new ≡ log_in_turn b q order old
   unfolding log_of log_on checked finished_log
-  log_finished F = (F.leaves G.input q marks_of ∙ rw (G.decoded, G.tabled.count, o), F.fits)
+  log_finished old new a F = F G.input q marks_of ∙ rw (G.decoded, G.tabled.count, o)

@@ -3,12 +3,12 @@
 
 ghost use Rattle.std.specs.Prelude.{◌≡◌};
 ghost use Rattle.answers.specs.Answer.{answer_of};
-ghost use Rattle.answers.specs.Word.{packed, FitsWord};
+ghost use Rattle.answers.specs.Word.{packed};
 ghost use Rattle.answers.specs.Written.{written};
 ghost use Rattle.probe_log.specs.Sequence.{log_in_turn};
 
+use answers::answer::Answer;
 use answers::refusal::Refusal;
-use answers::word::Answer;
 use bitmaps::copy::Line;
 use marks::MarkTable;
 use reading::tables::Tables;
@@ -20,8 +20,8 @@ pub fn log_question(
     order: &[u8],
     output: &mut [u8],
 ) -> Result<Answer, Refusal>
-    ensures { (written (packed (answer_of result)) output.new
-        ≡ log_in_turn catalogue.now question.now order.now output.old) × FitsWord (answer_of result) }
+    ensures { written (packed (answer_of result)) output.new
+        ≡ log_in_turn catalogue.now question.now order.now output.old }
 {
     let mut found = Tables::EMPTY;
     let begun = input::begin::begin(catalogue, question, &mut found)?;

@@ -16,10 +16,7 @@ use Rattle.input.specs.Beginning.{HasInput}
 use Rattle.input.proofs.InHand.{input_short}
 use Rattle.answers.specs.declared.refusal.Refusal.{Refusal}
 use Rattle.answers.specs.Refusal.{refusal_number, refusal_numbered}
-use Rattle.answers.specs.Answer.{Refused}
-use Rattle.answers.specs.Word.{FitsWord}
 use Rattle.answers.specs.Checks.{checked, refusal_by}
-use Rattle.answers.proofs.Refusals.{refused_fits}
 use Rattle.answers.proofs.Checks.{checked_holds, checked_fails, checked_further}
 use Rattle.demands.specs.Run.{Lent, lent, Ran, refuse, task_of, selection, probe_bitmaps, request_checks, tally_checks, look_count, accept, run_on, run_of}
 use Rattle.request.proofs.Request.{request_kept}
@@ -27,9 +24,9 @@ use Rattle.work.specs.Worked.{RunWorked}
 use Rattle.finish.specs.Finish.{finished}
 
 pub run_refused : (l : Lent) (e : Refusal) → decode_input l.request.catalogue l.request.question ≡ refused (refusal_number e)
-    → (refuse (refusal_number e) l.listed l.looks l.tally ≡ run_of l) × FitsWord (Refused (refusal_number e))
+    → refuse (refusal_number e) l.listed l.looks l.tally ≡ run_of l
 unfolding run_of
-run_refused l e h = (rw h, refused_fits e)
+run_refused l e h = rw h
 
 -- the sizes that the input gives
 module _ {b q : List ℕ} {r : Beginning} {T : Tables} (G : HasInput b q r T) where
@@ -63,11 +60,10 @@ module _ {b q : List ℕ} {r : Beginning} {T : Tables} (G : HasInput b q r T) (o
   abbrev first : ℕ
   first = refusal_by (request_checks r.n size order reader (length listed) (length looks))
 
-  pub run_declined : (e : Refusal) → refusal_number e ≡ first
-      → (refuse (refusal_number e) listed looks tally ≡ run_of asked) × FitsWord (Refused (refusal_number e))
+  pub run_declined : (e : Refusal) → refusal_number e ≡ first → refuse (refusal_number e) listed looks tally ≡ run_of asked
   run_declined e f =
       let ne : first ≡ 0 → ⊥ = λ z. absurd (omega (arith, (refusal_numbered e).0, f, z)) in
-      (rw f (sym (checked_fails (λ x. refuse x listed looks tally) (request_checks r.n size order reader (length listed) (length looks)) further ne) ∙ on_input), refused_fits e)
+      rw f (sym (checked_fails (λ x. refuse x listed looks tally) (request_checks r.n size order reader (length listed) (length looks)) further ne) ∙ on_input)
 
   -- the rows are worked, and the end of the run is the definition's
   pub run_finished : 0 ≡ first → {S P : List ℕ} → RunWorked b q order r.n S P → {x : Ran} → x ≡ finished S P r.n size reader listed looks tally → x ≡ run_of asked

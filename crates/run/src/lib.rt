@@ -2,12 +2,12 @@
 #![tactic(auto)]
 
 ghost use Rattle.answers.specs.Answer.{answer_of};
-ghost use Rattle.answers.specs.Word.{packed, FitsWord};
+ghost use Rattle.answers.specs.Word.{packed};
 ghost use Rattle.demands.specs.Run.{lent};
 ghost use Rattle.demands.specs.Calls.{RunGives};
 
+use answers::answer::Answer;
 use answers::refusal::Refusal;
-use answers::word::Answer;
 use bitmaps::copy::Line;
 use marks::MarkTable;
 use reading::tables::Tables;
@@ -22,10 +22,9 @@ pub fn run_question(
     looks: &mut [u8],
     tally: &mut [u8],
 ) -> Result<Answer, Refusal>
-    ensures { (RunGives (lent catalogue.now question.now order.now reader
+    ensures { RunGives (lent catalogue.now question.now order.now reader
         listed.old looks.old tally.old)
-        (packed (answer_of result)) listed.new looks.new tally.new)
-        × FitsWord (answer_of result) }
+        (packed (answer_of result)) listed.new looks.new tally.new }
 {
     let mut found = Tables::EMPTY;
     let begun = input::begin::begin(catalogue, question, &mut found)?;

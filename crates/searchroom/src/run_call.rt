@@ -2,6 +2,8 @@
 ghost use Rattle.demands.specs.Run.{lent};
 ghost use Rattle.demands.specs.Calls.{RunGives};
 
+use answers::word::{numbered, pack};
+
 pub fn searchroom_run(
     catalogue: &[u8],
     question: &[u8],
@@ -15,5 +17,5 @@ pub fn searchroom_run(
         listed.old looks.old tally.old)
         result listed.new looks.new tally.new }
 {
-    answers::word::pack(run::run_question(catalogue, question, order, reader, listed, looks, tally))
+    pack(numbered(run::run_question(catalogue, question, order, reader, listed, looks, tally)))
 }

@@ -4,7 +4,7 @@
 ghost use Rattle.std.specs.Prelude.{◌^◌, ◌<◌, length, ◌≡◌};
 ghost use Rattle.query.specs.Decode.{decode_tagged};
 ghost use Rattle.answers.specs.Answer.{answer_of};
-ghost use Rattle.answers.specs.Word.{packed, FitsWord};
+ghost use Rattle.answers.specs.Word.{packed};
 ghost use Rattle.answers.specs.Written.{written};
 ghost use Rattle.syntax.specs.Machine.{question_of};
 ghost use Rattle.parser.specs.Reading.{Fits};
@@ -12,8 +12,8 @@ ghost use Rattle.demands.specs.Typed.{question_typed};
 ghost use Rattle.demands.specs.Calls.{TypedGives};
 ghost use Rattle.typed.specs.Typing.{TypedFor};
 
+use answers::answer::Answer;
 use answers::refusal::Refusal;
-use answers::word::Answer;
 use parser::whole::TypedText;
 use reading::tables::Tables;
 
@@ -31,9 +31,8 @@ impl ShortText {
 // The checks of the question's own bytes, then the output's; the bytes written.
 fn give_question(tags: &[u8], question: &[u8], output: &mut [u8]) -> Result<Answer, Refusal>
     requires { length question.now < 2 ^ 24 }
-    ensures { (written (packed (answer_of result)) output.new
-        ≡ question_typed (decode_tagged tags.now question.now) question.now output.old)
-        × FitsWord (answer_of result) }
+    ensures { written (packed (answer_of result)) output.new
+        ≡ question_typed (decode_tagged tags.now question.now) question.now output.old }
 {
     reading::whole::read_query(tags, question, &mut Tables::EMPTY)?;
     if output.len() < question.len() {
@@ -51,8 +50,7 @@ fn give_question(tags: &[u8], question: &[u8], output: &mut [u8]) -> Result<Answ
 fn type_text(tags: &[u8], text: &[u8], own: &mut [u8], output: &mut [u8]) -> Result<Answer, Refusal>
     requires { Fits text.now own.old × (length own.old < 2 ^ 24) }
     ensures { TypedFor tags.now (question_of tags.now text.now) output.old
-        (written (packed (answer_of result)) output.new)
-        × FitsWord (answer_of result) }
+        (written (packed (answer_of result)) output.new) }
 {
     let size = parser::whole::read_text(tags, text, own).ok_or(Refusal::TextMisspelled)?;
     give_question(tags, &own[..size], output)
@@ -60,7 +58,7 @@ fn type_text(tags: &[u8], text: &[u8], own: &mut [u8], output: &mut [u8]) -> Res
 
 // The catalogue's checks, the text's, and those of the question that it spells.
 pub fn type_question(catalogue: &[u8], text: &[u8], output: &mut [u8]) -> Result<Answer, Refusal>
-    ensures { TypedGives catalogue.now text.now output.old (packed (answer_of result)) output.new × FitsWord (answer_of result) }
+    ensures { TypedGives catalogue.now text.now output.old (packed (answer_of result)) output.new }
 {
     let layout = layout::lay_out(catalogue)?;
     let tags = &layout.tags[..layout.columns];

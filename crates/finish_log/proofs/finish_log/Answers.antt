@@ -19,8 +19,7 @@ pub overflow_mul-size : goal.overflow_mul-size
 overflow_mul-size c = omega (arith, looks_few c.args.n c.count_whole_lines-looked.result c.requires.2.few c.count_whole_lines-looked.ensures.1)
 
 pub returns-then-output-size : goal.returns-then-output-size
-returns-then-output-size c =
-    record { fits = omega arith; leaves = log_short c.bytes_for.ensures c.count_whole_lines-looked.ensures.0 c.args.output.now c.if-output-size.true }
+returns-then-output-size c = log_short c.bytes_for.ensures c.count_whole_lines-looked.ensures.0 c.args.output.now c.if-output-size.true
 
 pub slice_bounds-probes-end : goal.slice_bounds-probes-end
 slice_bounds-probes-end c =
@@ -39,10 +38,5 @@ put_rows-requires c =
 
 pub returns : goal.returns
 returns c =
-    let looked = c.count_whole_lines-looked in
-    let few = looks_few c.args.n looked.result c.requires.2.few looked.ensures.1 in
-    record {
-      fits = omega arith;
-      leaves = log_written c.bytes_for.ensures looked.ensures.0 c.args.output.now c.if-output-size.false
-          (rw (part_rest c.args.marks.now half) at c.put_rows.ensures);
-    }
+    log_written c.bytes_for.ensures c.count_whole_lines-looked.ensures.0 c.args.output.now c.if-output-size.false
+    (rw (part_rest c.args.marks.now half) at c.put_rows.ensures)

@@ -1,4 +1,5 @@
 -- `log_question` meets its contract: the first check that fails, or the log of what was read.
+use Rattle.answers.specs.Answer.{answer_of}
 use Rattle.bitmaps.proofs.TableLaws.{holds_none}
 use Rattle.marks.proofs.Marking.{empty_marks}
 use Rattle.probe_log.proofs.Logging.{has_marks, log_finished, log_not_order, log_refused}
@@ -18,7 +19,7 @@ pub is_order-requires : goal.is_order-requires
 is_order-requires c = c.in_ok-begun.ensures.tabled.few
 
 pub returns-then-not-is_order : goal.returns-then-not-is_order
-returns-then-not-is_order c = (log_not_order c.in_ok-begun.ensures _ _ (sym c.if-not-is_order.ensures), omega arith)
+returns-then-not-is_order c = log_not_order c.in_ok-begun.ensures _ _ (sym c.if-not-is_order.ensures)
 
 pub make_plan-requires : goal.make_plan-requires
 make_plan-requires c = (_, (_, c.in_ok-begun.ensures))
@@ -34,4 +35,5 @@ finish_log-requires c =
 
 pub returns : goal.returns
 returns c =
-    log_finished (c.make_plan.ensures _ _ c.in_ok-begun.ensures) _ (sym c.if-not-is_order.ensures) c.work.auto.marks c.work.ensures c.finish_log.ensures
+    log_finished (c.make_plan.ensures _ _ c.in_ok-begun.ensures) _ (sym c.if-not-is_order.ensures) c.work.auto.marks c.work.ensures _ _ (answer_of c.finish_log.result)
+    c.finish_log.ensures

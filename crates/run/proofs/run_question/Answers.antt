@@ -42,5 +42,4 @@ finish-requires c =
 
 pub returns : goal.returns
 returns c =
-    let end = c.finish.ensures in
-    (run_finished c.in_ok-begun.ensures _ _ _ _ _ _ c.bytes_for-size.ensures c.in_ok-check_request.ensures c.work_run.ensures end.0, end.1)
+    run_finished c.in_ok-begun.ensures _ _ _ _ _ _ c.bytes_for-size.ensures c.in_ok-check_request.ensures c.work_run.ensures c.finish.ensures

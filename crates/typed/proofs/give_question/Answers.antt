@@ -19,5 +19,5 @@ returns-then-output-question c =
 pub returns : goal.returns
 returns c =
     let a = c.args in
-    question_written a.tags.now a.question.now _ _ (decode_tagged a.tags.now a.question.now) _ a.output.now _ c.in_ok-read_query.ensures (omega arith) c.requires
+    question_written a.tags.now a.question.now _ _ (decode_tagged a.tags.now a.question.now) _ a.output.now _ c.in_ok-read_query.ensures (omega arith)
     c.put-size.ensures

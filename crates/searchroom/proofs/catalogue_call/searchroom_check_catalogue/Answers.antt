@@ -3,8 +3,5 @@ use Rattle.answers.specs.Word.{packed}
 use Rattle.std.proofs.Common.{ap, ◌∙◌}
 use Rattle.searchroom.proofs.catalogue_call.searchroom_check_catalogue.Goals as goal
 
-pub pack-requires : goal.pack-requires
-pack-requires c = c.check_catalogue.ensures.1
-
 pub returns : goal.returns
-returns c = c.pack.ensures ∙ ap packed c.check_catalogue.ensures.0
+returns c = c.pack.ensures ∙ ap packed (c.numbered.ensures ∙ c.check_catalogue.ensures)

@@ -11,5 +11,5 @@ returns c =
     record {
       sequence = in_turn D a.order.now;
       sequenced = in_turn_sequenced D a.order.now;
-      leaves = rw c.pack.ensures c.log_question.ensures.0;
+      leaves = rw (c.pack.ensures, c.numbered.ensures) c.log_question.ensures;
     }

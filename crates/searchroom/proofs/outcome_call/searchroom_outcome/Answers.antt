@@ -3,8 +3,5 @@ use Rattle.answers.specs.Word.{packed}
 use Rattle.std.proofs.Common.{ap, ◌∙◌}
 use Rattle.searchroom.proofs.outcome_call.searchroom_outcome.Goals as goal
 
-pub pack-requires : goal.pack-requires
-pack-requires c = c.outcome_at.ensures.1
-
 pub returns : goal.returns
-returns c = c.pack.ensures ∙ ap packed c.outcome_at.ensures.0
+returns c = c.pack.ensures ∙ ap packed (c.numbered.ensures ∙ c.outcome_at.ensures)

@@ -3,8 +3,5 @@ use Rattle.answers.specs.Word.{packed}
 use Rattle.std.proofs.Common.{ap, ◌∙◌}
 use Rattle.searchroom.proofs.question_call.searchroom_check_question.Goals as goal
 
-pub pack-requires : goal.pack-requires
-pack-requires c = c.check_question.ensures.1
-
 pub returns : goal.returns
-returns c = c.pack.ensures ∙ ap packed c.check_question.ensures.0
+returns c = c.pack.ensures ∙ ap packed (c.numbered.ensures ∙ c.check_question.ensures)

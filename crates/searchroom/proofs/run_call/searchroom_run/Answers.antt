@@ -1,8 +1,5 @@
 -- `searchroom_run` meets its contract: the answer of the run, packed.
 use Rattle.searchroom.proofs.run_call.searchroom_run.Goals as goal
 
-pub pack-requires : goal.pack-requires
-pack-requires c = c.run_question.ensures.1
-
 pub returns : goal.returns
-returns c = rw c.pack.ensures c.run_question.ensures.0
+returns c = rw (c.pack.ensures, c.numbered.ensures) c.run_question.ensures

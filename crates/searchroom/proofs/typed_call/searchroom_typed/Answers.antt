@@ -2,4 +2,4 @@
 use Rattle.searchroom.proofs.typed_call.searchroom_typed.Goals as goal
 
 pub returns : goal.returns
-returns c = rw c.pack.ensures c.type_question.ensures.0
+returns c = rw (c.pack.ensures, c.numbered.ensures) c.type_question.ensures
