@@ -1,4 +1,5 @@
--- What a call gives: a refusal by its number, or its results in the order of the call's description; and that of the code's.
+-- What a call gives: a refusal by its number, or its results in the order of the call's description; and that of the
+-- code's.
 use Rattle.std.specs.Prelude.{ℕ, Ok, Err}
 use Rattle.std.specs.declared.result.Result.{Result}
 use Rattle.answers.specs.declared.answer.Answer.{Answer as CodeAnswer}

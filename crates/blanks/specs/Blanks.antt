@@ -26,7 +26,8 @@ outcome_on T row c = outcome T.catalogue (predicate_at T.query c) row
 abbrev pub blank_probe : Task → (probed : List ℕ) → (row c : ℕ) → Bool
 blank_probe T P row c = line_bit P c row && is_blank (outcome_on T row c)
 
--- the probes of predicate c as its line of one table marks them, and those of a yes that of another; and a plan that shows the predicate
+-- the probes of predicate c as its line of one table marks them, and those of a yes that of another; and a plan that
+-- shows the predicate
 pub record ProbesAt (T : Task) (b q : List ℕ) (plan : List Access) (probed met : List ℕ) (c : ℕ) : Type 0 where
   pub line : c * line_size + line_size ≤ length probed
   pub met_line : c * line_size + line_size ≤ length met

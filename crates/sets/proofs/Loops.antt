@@ -1,5 +1,6 @@
--- Loops through the numbers below 64 counted by hand, and what their steps gather: from the last number down, from the first up, and the number at hand
--- of a set. The loops of src/ state what they gather by an equation; these laws say of any such loop that it gathers the same.
+-- Loops through the numbers below 64 counted by hand, and what their steps gather: from the last number down, from the
+-- first up, and the number at hand of a set. `all_in_turn` goes down by these laws; the other loops of src/ state what
+-- they gather by an equation, and these laws say of any such loop that it gathers the same.
 use Rattle.std.proofs.Common.{ℕ, suc, ◌+◌, ◌-◌, ◌*◌, ◌^◌, ◌≤◌, ◌<◌, ◌≡◌, Bool, true, false, refl, sym, ap, ap₂, ◌∙◌, zero-add, mul-add, mul_comm, pow_mono, pow-suc, arith}
 use Rattle.std.specs.Int.Bits.{bit_or, or_shifted_r}
 use mir.Val.{bool_byte}

@@ -80,7 +80,8 @@ gathered_cat P (suc m) n =
     step : (b a x y : ℕ) → y ≡ 2 * x → b + 2 * (a + x) ≡ b + 2 * a + y
     step b a x y e = omega arith
 
--- a loop up through the numbers: none is gathered yet, and one more, where `bit` is what a test answers at k, moved to its place
+-- a loop up through the numbers: none is gathered yet, and one more, where `bit` is what a test answers at k, moved to
+-- its place
 pub gathered_none : (P : ℕ → Bool) → 0 ≡ gathered P 0
 unfolding gathered
 gathered_none P = refl

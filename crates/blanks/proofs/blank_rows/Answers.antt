@@ -1,4 +1,5 @@
--- `blank_rows` meets its contract: the words are those of the predicate's lines, and its blanks are among the rows sought.
+-- `blank_rows` meets its contract: the words are those of the predicate's lines, and its blanks are among the rows
+-- sought.
 use Rattle.blanks.proofs.Blanks.{blanks_found, has_blanks}
 use Rattle.std.proofs.Common.{arith}
 use Rattle.blanks.proofs.blank_rows.Goals as goal

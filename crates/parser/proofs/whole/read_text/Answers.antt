@@ -1,4 +1,5 @@
--- `read_text` meets its contract. Invariant: a member stands, and what the machine gives from here on it gives for the whole text.
+-- `read_text` meets its contract. Invariant: a member stands, and what the machine gives from here on it gives for the
+-- whole text.
 use Rattle.parser.proofs.ReadingLaws.{comma_read, expecting_first, no_comma, text_goes_on, whole_read}
 use Rattle.std.proofs.Common.{arith}
 use Rattle.syntax.specs.Machine.{question_of}

@@ -1,4 +1,5 @@
--- `read_text` meets its contract. Invariant: a member stands, and what the machine gives from here on it gives for the whole text.
+-- `read_text` meets its contract. Invariant: a member stands, and what the machine gives from here on it gives for the
+-- whole text.
 use Rattle.parser.specs.Reading.{Behind}
 use Rattle.std.specs.Prelude.{get_or, length, ◌-◌, ◌<◌, ◌≡◌}
 use Rattle.syntax.specs.Machine.{question_of}
