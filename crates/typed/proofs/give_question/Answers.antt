@@ -20,4 +20,4 @@ pub returns : goal.returns
 returns c =
     let a = c.args in
     question_written a.tags.now a.question.now _ _ (decode_tagged a.tags.now a.question.now) _ a.output.now _ c.in_ok-read_query.ensures (omega arith)
-    c.put-size.ensures
+    c.put_question-size.ensures
