@@ -23,9 +23,14 @@ pub struct GroupWord {
 }
 
 impl GroupWord {
+    // The bytes of its word, which `read_word` passes.
+    pub const SIZE: usize = 4;
+
     // The byte that closes a group.
     pub const CLOSING: u8 = b')';
 }
+
+const _: () = prove!(b"all(".len() == GroupWord::SIZE && b"any(".len() == GroupWord::SIZE);
 
 // The group that begins at a place of the text.
 fn read_group(text: &[u8], at: usize) -> Option<GroupWord>
